@@ -1,11 +1,8 @@
 -- The words of the headline.
 use Rattle.std.specs.Prelude.{◌≡◌, ◌↔◌, ◌<◌, ℕ, List, length, drop, Option, MatchOption, Result, MatchResult, IfOk}
-use Rattle.wtf8_core.specs.Boundary.{IsBoundary}
-use Rattle.wtf8_core.specs.Pieces.{Splits}
-use Rattle.wtf8_core.specs.declared.fault.EncodingError.{EncodingError}
+use Rattle.wtf8_core.specs.{Boundary.IsBoundary, Pieces.Splits, declared.fault.EncodingError.EncodingError}
 use Rattle.platform_str.specs.declared.platform.Platform.{Ghosts}
-use Rattle.os_str_bytes.specs.declared.raw_str.RawOsStr.{RawOsStr}
-use Rattle.os_str_bytes.specs.declared.cuts.Cuts.{Cuts}
+use Rattle.os_str_bytes.specs.declared.{raw_str.RawOsStr.RawOsStr, cuts.Cuts.Cuts}
 use Rattle.os_str_bytes.specs.Raw.{raw_bytes, raw_vec_of}
 use Rattle.os_str_bytes.specs.Cuts.{AreBothParts, IsPart}
 

@@ -1,12 +1,9 @@
 -- What contracts say of raw strings: their bytes, their units, and for owned ones the vector.
 use Rattle.std.specs.Prelude.{ℕ, ◌≤◌, List, length}
-use Rattle.std.specs.declared.vec.Vec.{Vec}
-use Rattle.std.specs.Box.{boxed_slice_items}
+use Rattle.std.specs.{declared.vec.Vec.Vec, Box.boxed_slice_items}
 use Rattle.wtf8_core.specs.Boundary.{IsBoundary}
-use Rattle.platform_str.specs.declared.platform.Platform.{Ghosts}
-use Rattle.platform_str.specs.Strings.{bytes}
-use Rattle.os_str_bytes.specs.declared.raw_str.RawOsStr.{RawOsStr}
-use Rattle.os_str_bytes.specs.declared.raw_string.RawOsString.{RawOsString}
+use Rattle.platform_str.specs.{declared.platform.Platform.Ghosts, Strings.bytes}
+use Rattle.os_str_bytes.specs.declared.{raw_str.RawOsStr.RawOsStr, raw_string.RawOsString.RawOsString}
 use Rattle.os_str_bytes.specs.declared.raw_box.RawOsStrBox.{RawOsStrBox}
 
 module _ {E : Type 0} {P : Ghosts E} where

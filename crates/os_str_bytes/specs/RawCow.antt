@@ -1,7 +1,6 @@
 -- The bytes of a raw string that is borrowed or owned, and what a conversion between the two types keeps of it.
 use Rattle.std.specs.Prelude.{◌≡◌, ℕ, List}
-use Rattle.platform_str.specs.declared.platform.Platform.{Ghosts}
-use Rattle.platform_str.specs.declared.cow.OsStrCow.{OsStrCow}
+use Rattle.platform_str.specs.declared.{platform.Platform.Ghosts, cow.OsStrCow.OsStrCow}
 use Rattle.platform_str.specs.declared.cow.OsStrCow.TheVariants as string
 use Rattle.platform_str.specs.Strings.{bytes, string_vec_of}
 use Rattle.os_str_bytes.specs.declared.raw_cow.CowRawOsStr.{CowRawOsStr}

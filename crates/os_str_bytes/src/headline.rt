@@ -1,18 +1,12 @@
 //! The headline: the purpose of this library, as the contract of one call.
 ghost use Rattle.std.specs.Prelude.{◌≡◌, ◌↔◌, ◌++◌, ℕ, List, IsTrue, IsOk, IfOk, length, map};
-ghost use Rattle.std.specs.List.{repeat};
-ghost use Rattle.std.specs.Cmp.Lexicographic.{slice_cmp};
-ghost use Rattle.std.specs.Ordering.{nat_cmp};
-ghost use Rattle.std.specs.Str.{IsUtf8};
+ghost use Rattle.std.specs.{List.repeat, Cmp.Lexicographic.slice_cmp, Ordering.nat_cmp, Str.IsUtf8};
 ghost use Rattle.wtf8_core.specs.Wtf8.{Encodes, HasUnits};
 ghost use Rattle.wtf8_core.specs.Occurrence.{IsFirstIndex, IsLastIndex, IsPrefix, IsSuffix};
-ghost use Rattle.wtf8_core.specs.UnitIndex.{FindsInUnits};
-ghost use Rattle.wtf8_core.specs.Boundary.{IsBoundary};
+ghost use Rattle.wtf8_core.specs.{UnitIndex.FindsInUnits, Boundary.IsBoundary};
 ghost use Rattle.wtf8_core.specs.Chunks.{Chunk, AreChunks};
 ghost use Rattle.wtf8_core.specs.Runs.{AreRuns, form_chunk};
-ghost use Rattle.wtf8_core.specs.Pieces.{OccursSomewhere, MayBeCutAround, StripsPrefix, StripsSuffix};
-ghost use Rattle.wtf8_core.specs.Pieces.{IsStartTrim, IsEndTrim, IsTrim, IsSplit, IsRSplit};
-ghost use Rattle.wtf8_core.specs.Pieces.{SplitsOnce, Trims};
+ghost use Rattle.wtf8_core.specs.Pieces.{OccursSomewhere, MayBeCutAround, StripsPrefix, StripsSuffix, IsStartTrim, IsEndTrim, IsTrim, IsSplit, IsRSplit, SplitsOnce, Trims};
 ghost use Rattle.platform_str.specs.Strings.{string_vec_of};
 ghost use Rattle.os_str_bytes.specs.Raw.{raw_bytes, raw_units, raw_vec_of};
 ghost use Rattle.os_str_bytes.specs.RawCow.{raw_cow_bytes};

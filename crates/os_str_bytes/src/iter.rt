@@ -56,10 +56,7 @@ impl<'a, E: Platform, P: Pattern, D: Direction> RawPieces<'a, E, P, D> {
     pub fn rest(&self) -> Option<RawOsStr<'a, E>>
         ensures { AreOfRest D.cuts raw_bytes result self.now }
     {
-        match self.pieces.rest() {
-            Some(rest) => Some(RawOsStr::new(rest)),
-            None => None,
-        }
+        Some(RawOsStr::new(self.pieces.rest()?))
     }
 }
 
@@ -88,9 +85,6 @@ impl<'a, E: Platform, P: Pattern, D: Direction> Iterator for RawPieces<'a, E, P,
     ghost remaining = { item_count (λ left. left) };
 
     fn next(&mut self) -> Option<RawOsStr<'a, E>> {
-        match self.pieces.next() {
-            Some(piece) => Some(RawOsStr::new(piece)),
-            None => None,
-        }
+        Some(RawOsStr::new(self.pieces.next()?))
     }
 }

@@ -2,18 +2,13 @@
 //! nothing. The laws of bytes, code points and units are in [`crate::wtf8_laws`]; [`order`], which
 //! says what the order of Windows strings is, is here too.
 ghost use Rattle.std.specs.Prelude.{◌≡◌, ◌↔◌, ℕ, List, IsTrue, Some};
-ghost use Rattle.std.specs.Cmp.Lexicographic.{slice_cmp};
-ghost use Rattle.std.specs.Ordering.{nat_cmp};
+ghost use Rattle.std.specs.{Cmp.Lexicographic.slice_cmp, Ordering.nat_cmp};
 ghost use Rattle.std.specs.Hash as fed;
-ghost use Rattle.std.specs.List.{All};
-ghost use Rattle.std.specs.Str.{IsUtf8};
-ghost use Rattle.wtf8_core.specs.Byte.{IsByte};
-ghost use Rattle.wtf8_core.specs.Checker.{HasFirstFault};
+ghost use Rattle.std.specs.{List.All, Str.IsUtf8};
+ghost use Rattle.wtf8_core.specs.{Byte.IsByte, Checker.HasFirstFault, PartUnits.AreLoneSurrogates};
 ghost use Rattle.wtf8_core.specs.Wtf8.{IsWtf8, HasUnits};
 ghost use Rattle.wtf8_core.specs.Lossy.{IsLossyText, IsWtf8LossyText};
-ghost use Rattle.wtf8_core.specs.PartUnits.{AreLoneSurrogates};
-ghost use Rattle.wtf8_core.specs.Utf8.{IsIllFormedPart};
-ghost use Rattle.wtf8_core.specs.LossyReading.{IsLossyReading};
+ghost use Rattle.wtf8_core.specs.{Utf8.IsIllFormedPart, LossyReading.IsLossyReading};
 ghost use Rattle.platform_str.specs.PlatformWords.{AreWideUnits, IsThree};
 ghost use Rattle.platform_str.specs.platforms.Unix.{AreAboveAscii, IsNoFault, IsSame};
 ghost use Rattle.platform_str.specs.platforms.Wasm.{AreNone, IsTextFault};

@@ -78,8 +78,7 @@ impl<'a, E: Platform + 'a, A: Allocator> RawOsStrCow<'a, E> for CowRawOsStr<'a, 
 }
 
 impl<'a, E: Platform, A: Allocator> CowRawOsStr<'a, E, A> {
-    ghost use Rattle.os_str_bytes.specs.Raw.{raw_bytes};
-    ghost use Rattle.os_str_bytes.specs.RawCow.{raw_cow_bytes};
+    ghost use Rattle.os_str_bytes.specs.{Raw.raw_bytes, RawCow.raw_cow_bytes};
 
     /// A view of the string (own call, instead of `Deref`).
     ///

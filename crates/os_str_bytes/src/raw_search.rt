@@ -1,15 +1,10 @@
 //! Searches, cuts and pieces of raw strings: the calls of [`crate::OsStrBytesExt`], with the same
 //! contracts.
 ghost use Rattle.std.specs.Prelude.{◌≡◌, ◌<◌, ◌↔◌, ◌++◌, ◌+◌, ◌*◌, ◌^◌, IsTrue, IsOk, IsErr, IfOk, IfSome, length, take, drop};
-ghost use Rattle.std.specs.Char.{encode_utf8};
-ghost use Rattle.std.specs.List.{repeat};
+ghost use Rattle.std.specs.{Char.encode_utf8, List.repeat};
 ghost use Rattle.wtf8_core.specs.Occurrence.{Finds, IsFirstIndex, IsLastIndex, IsPrefix, IsSuffix};
-ghost use Rattle.wtf8_core.specs.UnitIndex.{FindsInUnits};
-ghost use Rattle.wtf8_core.specs.Boundary.{IsBoundary};
-ghost use Rattle.wtf8_core.specs.Chunks.{AreChunks};
-ghost use Rattle.wtf8_core.specs.Pieces.{OccursSomewhere, MayBeCutAround, StripsPrefix, StripsSuffix};
-ghost use Rattle.wtf8_core.specs.Pieces.{IsStartTrim, IsEndTrim, IsTrim, IsSplit, IsRSplit};
-ghost use Rattle.wtf8_core.specs.Pieces.{SplitsOnce, Splits, Trims};
+ghost use Rattle.wtf8_core.specs.{UnitIndex.FindsInUnits, Boundary.IsBoundary, Chunks.AreChunks};
+ghost use Rattle.wtf8_core.specs.Pieces.{OccursSomewhere, MayBeCutAround, StripsPrefix, StripsSuffix, IsStartTrim, IsEndTrim, IsTrim, IsSplit, IsRSplit, SplitsOnce, Splits, Trims};
 ghost use Rattle.os_str_ext.specs.Characters.{SplitsFirstChar, SplitsLastChar};
 ghost use Rattle.os_str_ext.specs.Chunks.{chunks_of};
 ghost use Rattle.os_str_ext.specs.Range.{FitsIn, IsPartInUnits};
@@ -254,10 +249,7 @@ impl<'a, E: Platform> RawOsStr<'a, E> {
         ensures units { StripsPrefix raw_units (E.units (P.text pattern)) (raw_units self.entry)
             result }
     {
-        match self.string.strip_prefix(pattern) {
-            Some(rest) => Some(RawOsStr::new(rest)),
-            None => None,
-        }
+        Some(RawOsStr::new(self.string.strip_prefix(pattern)?))
     }
 
     /// The string without the pattern at its end, or `None` if it doesn't end with the pattern.
@@ -273,10 +265,7 @@ impl<'a, E: Platform> RawOsStr<'a, E> {
         ensures units { StripsSuffix raw_units (E.units (P.text pattern)) (raw_units self.entry)
             result }
     {
-        match self.string.strip_suffix(pattern) {
-            Some(rest) => Some(RawOsStr::new(rest)),
-            None => None,
-        }
+        Some(RawOsStr::new(self.string.strip_suffix(pattern)?))
     }
 
     /// The string with all prefixes that match the pattern repeatedly removed; the whole string if
@@ -429,10 +418,8 @@ impl<'a, E: Platform> RawOsStr<'a, E> {
         ensures units { IfSome result (λ parts. raw_units self.entry
             ≡ E.units (encode_utf8 parts.0) ++ raw_units parts.1) }
     {
-        match self.string.split_first_char() {
-            Some((first, rest)) => Some((first, RawOsStr::new(rest))),
-            None => None,
-        }
+        let (first, rest) = self.string.split_first_char()?;
+        Some((first, RawOsStr::new(rest)))
     }
 
     /// The last character and the rest of the string, or `None` if the string doesn't end with a
@@ -452,10 +439,8 @@ impl<'a, E: Platform> RawOsStr<'a, E> {
         ensures units { IfSome result (λ parts. raw_units self.entry
             ≡ raw_units parts.1 ++ E.units (encode_utf8 parts.0)) }
     {
-        match self.string.split_last_char() {
-            Some((last, rest)) => Some((last, RawOsStr::new(rest))),
-            None => None,
-        }
+        let (last, rest) = self.string.split_last_char()?;
+        Some((last, RawOsStr::new(rest)))
     }
 
     // Chunks.

@@ -1,7 +1,6 @@
 //! Owned raw strings.
 ghost use Rattle.std.specs.Prelude.{◌≡◌, ◌≤◌, ◌<◌, ◌↔◌, ◌++◌, [], IsTrue, IsOk, IfOk, IfErr, OnOk, OnErr, MatchResult, length, take, drop, vec_capacity, vec_len};
-ghost use Rattle.std.specs.Str.{IsUtf8};
-ghost use Rattle.std.specs.String.{string_vec};
+ghost use Rattle.std.specs.{Str.IsUtf8, String.string_vec};
 ghost use Rattle.wtf8_core.specs.Boundary.{IsBoundary};
 ghost use Rattle.os_str_ext.specs.Range.{FitsIn, IsPartInUnits};
 ghost use Rattle.platform_str.specs.Strings.{bytes, string_vec_of};

@@ -1,6 +1,5 @@
 use Rattle.std.proofs.Common.{sym, subst}
-use Rattle.wtf8_core.specs.Pieces.{SplitsAt}
-use Rattle.wtf8_core.specs.Occurrence.{IsFirstIndex}
+use Rattle.wtf8_core.specs.{Pieces.SplitsAt, Occurrence.IsFirstIndex}
 use Rattle.platform_str.specs.Strings.{bytes}
 use Rattle.os_str_bytes.specs.Raw.{raw_bytes}
 use Rattle.os_str_bytes.proofs.raw_str.RawOsStr.split_once.Goals as goal

@@ -1,7 +1,5 @@
 use Rattle.std.proofs.Common.{◌≡◌, ⊎_elim, inl, inr, refl, length, take, drop, ◌++◌, sym, ap, ◌∙◌, subst, arith}
-use Rattle.std.proofs.lemmas.Bool.{cases_lt}
-use Rattle.std.proofs.lemmas.List.{take_all, drop_all}
-use Rattle.std.proofs.Math.Seq.{take-length}
+use Rattle.std.proofs.{lemmas.Bool.cases_lt, lemmas.List.take_all, lemmas.List.drop_all, Math.Seq.take-length}
 use Rattle.os_str_bytes.specs.Raw.{raw_vec_of}
 use Rattle.os_str_bytes.proofs.raw_string.RawOsString.truncate.Goals as goal
 
