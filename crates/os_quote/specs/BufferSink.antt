@@ -2,9 +2,7 @@
 use Rattle.std.specs.Prelude.{◌≡◌, ℕ, ◌+◌, ◌<◌, ◌^◌, List, [], ◌++◌, length}
 use Rattle.std.proofs.Common.{refl, sym, ◌∙◌, subst, arith, append_assoc, append-nil, length-append}
 use Rattle.wtf8_core.specs.Truncated.{IsTruncated}
-use Rattle.os_quote.specs.Buffers.{Pushes}
-use Rattle.os_quote.specs.Sinks.{SinkRules}
-use Rattle.os_quote.specs.declared.write_buffer.Buffer.{Buffer}
+use Rattle.os_quote.specs.{Buffers.Pushes, Sinks.SinkRules, declared.write_buffer.Buffer.Buffer}
 
 -- what it took was appended in the same buffer
 abbrev pub BufferTook : Buffer → List ℕ → Buffer → Type 0

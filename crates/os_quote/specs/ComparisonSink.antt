@@ -2,9 +2,7 @@
 use Rattle.std.specs.Prelude.{◌≡◌, ◌++◌}
 use Rattle.std.proofs.Common.{refl, sym, ◌∙◌, ap, append_assoc}
 use Rattle.std.proofs.lemmas.List.{append_cancel_left}
-use Rattle.os_quote.specs.Sinks.{SinkRules}
-use Rattle.os_quote.specs.Stripping.{StartsNot}
-use Rattle.os_quote.specs.declared.read_string.Comparison.{Comparison}
+use Rattle.os_quote.specs.{Sinks.SinkRules, Stripping.StartsNot, declared.read_string.Comparison.Comparison}
 
 -- what it took was at the start of the rest of the text; it refuses what isn't
 abbrev pub comparison_rules : SinkRules Comparison

@@ -1,12 +1,8 @@
 -- The escape as a function, and what `Escaped` writes. `IsEscape` says what an escape is.
 use Rattle.std.specs.Prelude.{ℕ, Bool, List}
-use Rattle.platform_str.specs.declared.platform.Platform.{Ghosts}
-use Rattle.platform_str.specs.Strings.{bytes}
+use Rattle.platform_str.specs.{declared.platform.Platform.Ghosts, Strings.bytes}
 use Rattle.os_str_ext.specs.Chunks.{chunks_of}
-use Rattle.os_quote.specs.Item.{item_texts}
-use Rattle.os_quote.specs.Shown.{shown_by}
-use Rattle.os_quote.specs.Escape.{items_of}
-use Rattle.os_quote.specs.declared.write_display.Escaped.{Escaped}
+use Rattle.os_quote.specs.{Item.item_texts, Shown.shown_by, Escape.items_of, declared.write_display.Escaped.Escaped}
 
 -- the one escape of the string s in a form
 abbrev pub escape_of : (ℕ → Bool) → (List ℕ → List ℕ) → List ℕ → List ℕ

@@ -1,10 +1,8 @@
 -- What of a text is unchanged in its escape on one line, found by its bytes. Only private contracts name these; `IsEscapeBy` says what an escape is.
 use Rattle.std.specs.Prelude.{◌≡◌, ◌≢◌, ℕ, ◌+◌, ◌/◌, ◌≤◌, ◌<◌, nat_eq, not, Bool, true, false, List, ◌++◌, length, slice_index, bit_and, bit_or}
-use Rattle.std.specs.List.{AllByRecursion}
-use Rattle.std.specs.Char.{encode_utf8}
+use Rattle.std.specs.{List.AllByRecursion, Char.encode_utf8}
 use Rattle.std.specs.Str.{IsUtf8, chars}
-use Rattle.os_quote.specs.Item.{backslash}
-use Rattle.os_quote.specs.Shown.{stays_on_line}
+use Rattle.os_quote.specs.{Item.backslash, Shown.stays_on_line}
 use Rattle.os_quote.specs.declared.find_tables.TheConstants.{FIRST_HIGH, FIRST_LOW, SECOND_HIGH, SECOND_LOW, THIRD_HIGH, THIRD_LOW, OTHER_HIGH, OTHER_LOW}
 
 -- the character is unchanged in the escape

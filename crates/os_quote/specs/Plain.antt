@@ -1,7 +1,6 @@
 -- Bytes that both forms of an escape show unchanged, found without reading characters. Only private contracts name these; `IsEscapeBy` says what an escape is.
 use Rattle.std.specs.Prelude.{◌≡◌, ◌≢◌, ℕ, ◌≤◌, ◌<◌, List, ◌++◌, length, slice_index}
-use Rattle.std.specs.Int.{IsInRange}
-use Rattle.std.specs.List.{AllByRecursion}
+use Rattle.std.specs.{Int.IsInRange, List.AllByRecursion}
 use Rattle.os_quote.specs.Item.{backslash}
 
 -- a printable character of ASCII other than the backslash

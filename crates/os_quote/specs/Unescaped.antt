@@ -1,8 +1,10 @@
 -- Strings read from escapes into a buffer that may be too short for them (this project's own words).
-use Rattle.std.specs.Prelude.{◌≡◌, ℕ, ◌≤◌, Bool, List, length}
+use Rattle.std.specs.Prelude.{◌≡◌, ◌≢◌, ℕ, ◌≤◌, Bool, List, length, Option, Result, MatchOption, MatchResult}
+use Rattle.std.specs.Str.{IsUtf8}
 use Rattle.wtf8_core.specs.Truncated.{IsTruncated}
 use Rattle.os_quote.specs.Shown.{is_any, stays_on_line}
-use Rattle.os_quote.specs.Escape.{IsEscapeBy, IsBadEscapeBy}
+use Rattle.os_quote.specs.Escape.{IsEscapeBy, IsBadEscapeBy, IsQuoteFaultBy}
+use Rattle.os_quote.specs.declared.error.QuoteError.{QuoteError, TheVariants.Memory}
 
 -- the buffer has what the text means, truncated to the buffer's length: the string with this escape, if there is room for it, and else the only one that may have it
 pub record IsUnescapedBy (shows : ℕ → Bool) (well_formed : List ℕ → Type 0) (units : List ℕ → List ℕ) (text old new : List ℕ) (count : ℕ) : Type 0 where
@@ -19,3 +21,8 @@ IsUnescaped = IsUnescapedBy is_any
 
 abbrev pub IsLineUnescaped : (List ℕ → Type 0) → (List ℕ → List ℕ) → List ℕ → List ℕ → List ℕ → ℕ → Type 0
 IsLineUnescaped = IsUnescapedBy stays_on_line
+
+-- None if the text isn't UTF-8, else that the buffer has what it means (Ok), or why it isn't the escape of a string (Err), which is never a want of memory
+abbrev pub AreReadBy : (ℕ → Bool) → (List ℕ → Type 0) → (List ℕ → List ℕ) → List ℕ → List ℕ → List ℕ → Option (Result ℕ QuoteError) → Type 0
+AreReadBy shows well_formed units text old new result =
+    MatchOption result (¬ (IsUtf8 text)) (λ read. MatchResult read (IsUnescapedBy shows well_formed units text old new) (λ fault. IsQuoteFaultBy shows well_formed units text fault × (fault ≢ Memory)))

@@ -2,71 +2,53 @@
 ghost use Rattle.std.specs.Prelude.{◌≡◌};
 ghost use Rattle.os_quote.specs.Hidden.{byte_bits, third_bits, is_suspect};
 
+use wtf8_core::four_copies;
+
 // Each bit means some kinds of characters. Three bytes may begin one of these if each of them has
 // the bit; a byte has the bits that both tables of its halves have, and the third byte those of either
 // pair. The bits are dealt so that few other characters pass for suspects: none of Greek, Hebrew,
 // Devanagari, Thai, hiragana, full-width katakana, the syllables of Hangul, the first block of CJK
 // ideographs and emoji; of Latin, Cyrillic and Arabic some past the basic ones, as `ț`, `ґ` and the comma.
-// Each table is repeated four times, as vectors want it.
 
 /// By the high half of the first byte.
-pub(crate) const FIRST_HIGH: [u8; 64] = [
-    1, 1, 0, 0, 0, 2, 0, 4, 0, 0, 0, 0, 48, 50, 200, 128, 1, 1, 0, 0, 0, 2, 0, 4, 0, 0, 0, 0, 48,
-    50, 200, 128, 1, 1, 0, 0, 0, 2, 0, 4, 0, 0, 0, 0, 48, 50, 200, 128, 1, 1, 0, 0, 0, 2, 0, 4, 0,
-    0, 0, 0, 48, 50, 200, 128,
-];
+pub(crate) const FIRST_HIGH: [u8; 64] = four_copies!(
+    1, 1, 0, 0, 0, 2, 0, 4, 0, 0, 0, 0, 48, 50, 200, 128
+);
 
 /// By its low half.
-pub(crate) const FIRST_LOW: [u8; 64] = [
-    129, 137, 241, 137, 1, 1, 1, 1, 33, 1, 1, 17, 3, 17, 1, 69, 129, 137, 241, 137, 1, 1, 1, 1, 33,
-    1, 1, 17, 3, 17, 1, 69, 129, 137, 241, 137, 1, 1, 1, 1, 33, 1, 1, 17, 3, 17, 1, 69, 129, 137,
-    241, 137, 1, 1, 1, 1, 33, 1, 1, 17, 3, 17, 1, 69,
-];
+pub(crate) const FIRST_LOW: [u8; 64] = four_copies!(
+    129, 137, 241, 137, 1, 1, 1, 1, 33, 1, 1, 17, 3, 17, 1, 69
+);
 
 /// By the high half of the second byte.
-pub(crate) const SECOND_HIGH: [u8; 64] = [
-    7, 7, 7, 7, 7, 7, 7, 7, 127, 191, 151, 71, 7, 7, 7, 7, 7, 7, 7, 7, 7, 7, 7, 7, 127, 191, 151,
-    71, 7, 7, 7, 7, 7, 7, 7, 7, 7, 7, 7, 7, 127, 191, 151, 71, 7, 7, 7, 7, 7, 7, 7, 7, 7, 7, 7, 7,
-    127, 191, 151, 71, 7, 7, 7, 7,
-];
+pub(crate) const SECOND_HIGH: [u8; 64] = four_copies!(
+    7, 7, 7, 7, 7, 7, 7, 7, 127, 191, 151, 71, 7, 7, 7, 7
+);
 
 /// By its low half.
-pub(crate) const SECOND_LOW: [u8; 64] = [
-    255, 231, 167, 167, 39, 47, 39, 39, 103, 39, 47, 231, 39, 183, 111, 119, 255, 231, 167, 167,
-    39, 47, 39, 39, 103, 39, 47, 231, 39, 183, 111, 119, 255, 231, 167, 167, 39, 47, 39, 39, 103,
-    39, 47, 231, 39, 183, 111, 119, 255, 231, 167, 167, 39, 47, 39, 39, 103, 39, 47, 231, 39, 183,
-    111, 119,
-];
+pub(crate) const SECOND_LOW: [u8; 64] = four_copies!(
+    255, 231, 167, 167, 39, 47, 39, 39, 103, 39, 47, 231, 39, 183, 111, 119
+);
 
 /// By the high half of the third byte.
-pub(crate) const THIRD_HIGH: [u8; 64] = [
-    55, 55, 55, 55, 55, 55, 55, 55, 191, 247, 191, 247, 55, 55, 55, 55, 55, 55, 55, 55, 55, 55, 55,
-    55, 191, 247, 191, 247, 55, 55, 55, 55, 55, 55, 55, 55, 55, 55, 55, 55, 191, 247, 191, 247, 55,
-    55, 55, 55, 55, 55, 55, 55, 55, 55, 55, 55, 191, 247, 191, 247, 55, 55, 55, 55,
-];
+pub(crate) const THIRD_HIGH: [u8; 64] = four_copies!(
+    55, 55, 55, 55, 55, 55, 55, 55, 191, 247, 191, 247, 55, 55, 55, 55
+);
 
 /// By its low half.
-pub(crate) const THIRD_LOW: [u8; 64] = [
-    191, 183, 183, 183, 191, 183, 183, 183, 183, 183, 183, 183, 183, 183, 183, 247, 191, 183, 183,
-    183, 191, 183, 183, 183, 183, 183, 183, 183, 183, 183, 183, 247, 191, 183, 183, 183, 191, 183,
-    183, 183, 183, 183, 183, 183, 183, 183, 183, 247, 191, 183, 183, 183, 191, 183, 183, 183, 183,
-    183, 183, 183, 183, 183, 183, 247,
-];
+pub(crate) const THIRD_LOW: [u8; 64] = four_copies!(
+    191, 183, 183, 183, 191, 183, 183, 183, 183, 183, 183, 183, 183, 183, 183, 247
+);
 
 /// The same of the third byte once more, for kinds that have it in two boxes.
-pub(crate) const OTHER_HIGH: [u8; 64] = [
-    32, 32, 32, 32, 32, 32, 32, 32, 224, 168, 96, 104, 32, 32, 32, 32, 32, 32, 32, 32, 32, 32, 32,
-    32, 224, 168, 96, 104, 32, 32, 32, 32, 32, 32, 32, 32, 32, 32, 32, 32, 224, 168, 96, 104, 32,
-    32, 32, 32, 32, 32, 32, 32, 32, 32, 32, 32, 224, 168, 96, 104, 32, 32, 32, 32,
-];
+pub(crate) const OTHER_HIGH: [u8; 64] = four_copies!(
+    32, 32, 32, 32, 32, 32, 32, 32, 224, 168, 96, 104, 32, 32, 32, 32
+);
 
 /// By its low half.
-pub(crate) const OTHER_LOW: [u8; 64] = [
-    224, 224, 224, 224, 104, 104, 96, 96, 96, 96, 96, 224, 224, 224, 224, 232, 224, 224, 224, 224,
-    104, 104, 96, 96, 96, 96, 96, 224, 224, 224, 224, 232, 224, 224, 224, 224, 104, 104, 96, 96,
-    96, 96, 96, 224, 224, 224, 224, 232, 224, 224, 224, 224, 104, 104, 96, 96, 96, 96, 96, 224,
-    224, 224, 224, 232,
-];
+pub(crate) const OTHER_LOW: [u8; 64] = four_copies!(
+    224, 224, 224, 224, 104, 104, 96, 96, 96, 96, 96, 224, 224, 224, 224, 232
+);
 
 /// Whether a byte before two others may begin such a character.
 #[inline(always)]

@@ -1,11 +1,9 @@
 //! Strings written into a buffer, from escapes, which may not be UTF-8.
 ghost use Rattle.std.specs.Prelude.{◌≡◌, ◌≢◌, ◌≤◌, length, IfOk, IfErr, IfSome, MatchOption, MatchResult};
 ghost use Rattle.std.specs.Str.{IsUtf8};
-ghost use Rattle.os_quote.specs.Shown.{shown_by};
+ghost use Rattle.os_quote.specs.{Shown.shown_by, declared.error.QuoteError.TheVariants.Memory, Reading.HasNoBackslash};
 ghost use Rattle.os_quote.specs.Escape.{IsQuoteFault, IsLineFault, IsQuoteFaultBy};
-ghost use Rattle.os_quote.specs.Unescaped.{IsUnescaped, IsLineUnescaped, IsUnescapedBy};
-ghost use Rattle.os_quote.specs.declared.error.QuoteError.TheVariants.{Memory};
-ghost use Rattle.os_quote.specs.Reading.{HasNoBackslash};
+ghost use Rattle.os_quote.specs.Unescaped.{IsUnescaped, IsLineUnescaped, IsUnescapedBy, AreReadBy};
 
 use crate::error::QuoteError;
 use crate::find_hidden::split_hidden;
@@ -176,11 +174,8 @@ fn write_bytes_by<E: Platform>(
     buffer: &mut [u8],
 ) -> Option<Result<usize, QuoteError>>
     ensures utf8 { IfSome result (λ _. IsUtf8 escape.now) }
-    ensures read { MatchOption result (¬ (IsUtf8 escape.now)) (λ read. MatchResult read
-        (λ count. IsUnescapedBy (shown_by form) E.well_formed E.units escape.now buffer.old
-        buffer.new count)
-        (λ fault. IsQuoteFaultBy (shown_by form) E.well_formed E.units escape.now fault
-        × (fault ≢ Memory))) }
+    ensures read { AreReadBy (shown_by form) E.well_formed E.units escape.now buffer.old
+        buffer.new result }
 {
     if are_plain(escape) {
         return Some(Ok(push_truncated(buffer, 0, escape)));
@@ -199,11 +194,8 @@ fn write_shown<E: Platform>(
 ) -> Option<Result<usize, QuoteError>>
     requires { HasNoBackslash escape.now }
     ensures utf8 { IfSome result (λ _. IsUtf8 escape.now) }
-    ensures read { MatchOption result (¬ (IsUtf8 escape.now)) (λ read. MatchResult read
-        (λ count. IsUnescapedBy (shown_by form) E.well_formed E.units escape.now buffer.old
-        buffer.new count)
-        (λ fault. IsQuoteFaultBy (shown_by form) E.well_formed E.units escape.now fault
-        × (fault ≢ Memory))) }
+    ensures read { AreReadBy (shown_by form) E.well_formed E.units escape.now buffer.old
+        buffer.new result }
 {
     let Some(text) = text(escape) else {
         return None;
@@ -222,11 +214,8 @@ fn write_tokens<E: Platform>(
     buffer: &mut [u8],
 ) -> Option<Result<usize, QuoteError>>
     ensures utf8 { IfSome result (λ _. IsUtf8 escape.now) }
-    ensures read { MatchOption result (¬ (IsUtf8 escape.now)) (λ read. MatchResult read
-        (λ count. IsUnescapedBy (shown_by form) E.well_formed E.units escape.now buffer.old
-        buffer.new count)
-        (λ fault. IsQuoteFaultBy (shown_by form) E.well_formed E.units escape.now fault
-        × (fault ≢ Memory))) }
+    ensures read { AreReadBy (shown_by form) E.well_formed E.units escape.now buffer.old
+        buffer.new result }
 {
     let read = write_by::<E>(form, escape, buffer);
     match read {

@@ -2,8 +2,7 @@
 ghost use Rattle.std.specs.Prelude.{◌≡◌, ◌≢◌, ◌<◌, ◌∷◌, ◌++◌, ℕ, List, MatchOption, ◌+◌, ◌*◌, ◌/◌, ◌%◌, ◌≤◌};
 ghost use Rattle.wtf8_core.specs.FaultText.{upper_hex_digit};
 ghost use Rattle.os_quote.specs.Item.{backslash, byte_digits, wide_digits, item_text, IsItem, long_digits, IsLong};
-ghost use Rattle.os_quote.specs.Shown.{shown_by};
-ghost use Rattle.os_quote.specs.Escape.{BeginsNoToken};
+ghost use Rattle.os_quote.specs.{Shown.shown_by, Escape.BeginsNoToken};
 ghost use Rattle.os_quote.specs.Reading.{HasNoBackslash, IsCutAtFirst, IsCutAtBackslash, HasNoNumber, token_item, HasNoLong, HasNoFive, HasNoSix, HasNoFour, IsFour, IsFive, IsSix};
 
 use crate::form::Form;
@@ -27,9 +26,7 @@ pub(crate) fn split_backslash(text: &str) -> Option<(&str, &str)>
     ensures { MatchOption result (HasNoBackslash text.now)
         (λ parts. IsCutAtBackslash text.now parts.0.now parts.1.now) }
 {
-    let Some((prefix, following)) = cut_backslash(text.as_bytes()) else {
-        return None;
-    };
+    let (prefix, following) = cut_backslash(text.as_bytes())?;
     Some(unsafe {
         (
             str::from_utf8_unchecked(prefix),
@@ -48,9 +45,7 @@ pub(crate) fn cut_backslash(bytes: &[u8]) -> Option<(&[u8], &[u8])>
             return Some((&bytes[..0], following));
         }
     }
-    let Some(at) = memchr(b'\\', bytes) else {
-        return None;
-    };
+    let at = memchr(b'\\', bytes)?;
     Some((&bytes[..at], &bytes[at + 1..]))
 }
 
@@ -62,22 +57,16 @@ pub(crate) fn first_token(form: Form, following: &[u8]) -> Option<(Token, &[u8])
         (λ read. IsItem (shown_by form) (token_item read.0)
         × (backslash ∷ following.now ≡ item_text (token_item read.0) ++ read.1.now)) }
 {
-    let Some((kind, digits)) = following.split_first() else {
-        return None;
-    };
+    let (kind, digits) = following.split_first()?;
     if *kind == b'\\' {
         return Some((Token::Backslash, digits));
     }
     if *kind == b'x' {
-        let Some((unit, rest)) = two_digits(digits) else {
-            return None;
-        };
+        let (unit, rest) = two_digits(digits)?;
         return Some((Token::Byte(unit), rest));
     }
     if *kind == b'u' {
-        let Some((token, rest)) = number_token(form, digits) else {
-            return None;
-        };
+        let (token, rest) = number_token(form, digits)?;
         return Some((token, rest));
     }
     None
@@ -97,9 +86,7 @@ fn number_token(form: Form, digits: &[u8]) -> Option<(Token, &[u8])>
     match form {
         Form::Text => None,
         Form::Line => {
-            let Some((character, rest)) = long_character(digits) else {
-                return None;
-            };
+            let (character, rest) = long_character(digits)?;
             Some((Token::Long(character), rest))
         }
     }
@@ -112,9 +99,7 @@ pub(crate) fn four_digits(bytes: &[u8]) -> Option<(u16, &[u8])>
         ((u : ℕ) → u < 0x1_0000 → (after : List ℕ) → bytes.now ≢ wide_digits u ++ after)
         (λ read. bytes.now ≡ wide_digits read.0 ++ read.1.now) }
 {
-    let Some((high, lower)) = two_digits(bytes) else {
-        return None;
-    };
+    let (high, lower) = two_digits(bytes)?;
     let Some((low, rest)) = two_digits(lower) else {
         return None;
     };
@@ -152,15 +137,11 @@ pub(crate) fn long_character(bytes: &[u8]) -> Option<(char, &[u8])>
     ensures { MatchOption result (HasNoLong bytes.now)
         (λ read. IsLong read.0 × (bytes.now ≡ 0x7B ∷ (long_digits read.0 ++ 0x7D ∷ read.1.now))) }
 {
-    let Some(digits) = after_byte(bytes, b'{') else {
-        return None;
-    };
+    let digits = after_byte(bytes, b'{')?;
     if let Some((character, rest)) = six_digits(digits) {
         return Some((character, rest));
     }
-    let Some((character, rest)) = five_digits(digits) else {
-        return None;
-    };
+    let (character, rest) = five_digits(digits)?;
     Some((character, rest))
 }
 
@@ -170,15 +151,9 @@ fn six_digits(digits: &[u8]) -> Option<(char, &[u8])>
     ensures { MatchOption result (HasNoSix digits.now)
         (λ read. IsSix digits.now read.0 read.1.now) }
 {
-    let Some(lower) = after_byte(digits, b'1') else {
-        return None;
-    };
-    let Some(low) = after_byte(lower, b'0') else {
-        return None;
-    };
-    let Some((character, rest)) = closed_character(0x10, low) else {
-        return None;
-    };
+    let lower = after_byte(digits, b'1')?;
+    let low = after_byte(lower, b'0')?;
+    let (character, rest) = closed_character(0x10, low)?;
     Some((character, rest))
 }
 
@@ -188,18 +163,12 @@ fn five_digits(digits: &[u8]) -> Option<(char, &[u8])>
     ensures { MatchOption result (HasNoFive digits.now)
         (λ read. IsFive digits.now read.0 read.1.now) }
 {
-    let Some((first, low)) = digits.split_first() else {
-        return None;
-    };
-    let Some(high) = digit(*first) else {
-        return None;
-    };
+    let (first, low) = digits.split_first()?;
+    let high = digit(*first)?;
     if high == 0 {
         return None;
     }
-    let Some((character, rest)) = closed_character(high, low) else {
-        return None;
-    };
+    let (character, rest) = closed_character(high, low)?;
     Some((character, rest))
 }
 
@@ -211,15 +180,9 @@ fn closed_character(high: u8, low: &[u8]) -> Option<(char, &[u8])>
     ensures { MatchOption result (HasNoFour low.now)
         (λ read. IsFour high low.now read.0 read.1.now) }
 {
-    let Some((number, closed)) = four_digits(low) else {
-        return None;
-    };
-    let Some(rest) = after_byte(closed, b'}') else {
-        return None;
-    };
-    let Some(character) = char::from_u32(u32::from(high) * 0x1_0000 + u32::from(number)) else {
-        return None;
-    };
+    let (number, closed) = four_digits(low)?;
+    let rest = after_byte(closed, b'}')?;
+    let character = char::from_u32(u32::from(high) * 0x1_0000 + u32::from(number))?;
     Some((character, rest))
 }
 
@@ -228,9 +191,7 @@ fn after_byte(bytes: &[u8], byte: u8) -> Option<&[u8]>
     ensures { MatchOption result ((after : List ℕ) → bytes.now ≢ byte ∷ after)
         (λ following. bytes.now ≡ byte ∷ following.now) }
 {
-    let Some((first, following)) = bytes.split_first() else {
-        return None;
-    };
+    let (first, following) = bytes.split_first()?;
     if *first == byte {
         Some(following)
     } else {

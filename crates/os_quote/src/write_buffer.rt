@@ -2,10 +2,8 @@
 ghost use Rattle.std.specs.Prelude.{◌≡◌, ◌+◌, ◌*◌, ◌<◌, ◌^◌, ℕ, List, length};
 ghost use Rattle.wtf8_core.specs.Truncated.{IsTruncated};
 ghost use Rattle.platform_str.specs.Strings.{bytes};
-ghost use Rattle.os_quote.specs.Buffers.{Pushes};
+ghost use Rattle.os_quote.specs.{Buffers.Pushes, Escaped.escape_of, Shown.shown_by};
 ghost use Rattle.os_quote.specs.Escape.{IsEscape, IsLineEscape};
-ghost use Rattle.os_quote.specs.Escaped.{escape_of};
-ghost use Rattle.os_quote.specs.Shown.{shown_by};
 
 use crate::form::Form;
 use crate::write_token::TokenText;

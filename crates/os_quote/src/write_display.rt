@@ -31,9 +31,7 @@ impl<'a, E: Platform> Copy for Escaped<'a, E> {}
 
 impl<'a, E: Platform> Escaped<'a, E> {
     ghost use Rattle.platform_str.specs.Strings.{bytes};
-    ghost use Rattle.os_quote.specs.Shown.{shown_by};
-    ghost use Rattle.os_quote.specs.Escape.{IsEscapeBy};
-    ghost use Rattle.os_quote.specs.Escaped.{escaped_text};
+    ghost use Rattle.os_quote.specs.{Shown.shown_by, Escape.IsEscapeBy, Escaped.escaped_text};
 
     /// A value that prints the string as its escape in this form.
     pub(crate) fn new(form: Form, string: OsStr<'a, E>) -> Self

@@ -1,9 +1,8 @@
 //! From strings to escapes.
 ghost use Rattle.std.specs.Prelude.{IfOk, string_bytes};
 ghost use Rattle.platform_str.specs.Strings.{bytes};
-ghost use Rattle.os_quote.specs.Shown.{shown_by};
+ghost use Rattle.os_quote.specs.{Shown.shown_by, Escaped.escaped_text};
 ghost use Rattle.os_quote.specs.Escape.{IsEscape, IsLineEscape, IsEscapeBy};
-ghost use Rattle.os_quote.specs.Escaped.{escaped_text};
 
 use crate::form::Form;
 use crate::write_display::Escaped;

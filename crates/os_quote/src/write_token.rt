@@ -76,41 +76,19 @@ impl TokenText {
         requires below { number < 0x11_0000 }
         ensures { result ≡ item_text (LongCharacter number) }
     {
-        if number < 0x10_0000 {
-            TokenText::of_five_digits(number)
-        } else {
-            TokenText::of_six_digits(number)
-        }
-    }
-
-    /// `\u{HHHHH}`.
-    fn of_five_digits(number: u32) -> TokenText
-        requires past { 0x1_0000 ≤ number }
-        requires below { number < 0x10_0000 }
-        ensures { result ≡ item_text (LongCharacter number) }
-    {
         let low = number % 0x1_0000;
-        let (zero, first) = digits((number / 0x1_0000) as u8);
         let (a, b) = digits((low / 0x100) as u8);
         let (c, d) = digits((low % 0x100) as u8);
+        if number >= 0x10_0000 {
+            return TokenText {
+                bytes: [b'\\', b'u', b'{', b'1', b'0', a, b, c, d, b'}'],
+                len: 10,
+            };
+        }
+        let (zero, first) = digits((number / 0x1_0000) as u8);
         TokenText {
             bytes: [b'\\', b'u', b'{', first, a, b, c, d, b'}', zero],
             len: 9,
-        }
-    }
-
-    /// `\u{HHHHHH}`.
-    fn of_six_digits(number: u32) -> TokenText
-        requires past { 0x10_0000 ≤ number }
-        requires below { number < 0x11_0000 }
-        ensures { result ≡ item_text (LongCharacter number) }
-    {
-        let low = number % 0x1_0000;
-        let (a, b) = digits((low / 0x100) as u8);
-        let (c, d) = digits((low % 0x100) as u8);
-        TokenText {
-            bytes: [b'\\', b'u', b'{', b'1', b'0', a, b, c, d, b'}'],
-            len: 10,
         }
     }
 }

@@ -1,9 +1,6 @@
 -- What was written into a text of fixed room.
 use Rattle.std.proofs.Common.{◌≡◌, ◌++◌, ℕ, List, [], ◌∷◌, sym, ap, ◌∙◌, append_assoc, append-nil}
-use Rattle.std.specs.Fmt.InlineText.{inline_text, IsIntact, AppendsIfIntact}
-use Rattle.std.specs.Fmt.{WritesInCalls}
-use Rattle.std.specs.List.{concat, FoldsTo}
-use Rattle.std.specs.declared.fmt.InlineText.{InlineText}
+use Rattle.std.specs.{Fmt.InlineText.inline_text, Fmt.InlineText.IsIntact, Fmt.InlineText.AppendsIfIntact, Fmt.WritesInCalls, List.concat, List.FoldsTo, declared.fmt.InlineText.InlineText}
 
 -- calls that each append a part append all of them
 of_calls : {n : ℕ} (s : InlineText n) (parts : List (List ℕ)) (t : InlineText n) → IsIntact s → FoldsTo AppendsIfIntact s parts t → inline_text t ≡ inline_text s ++ concat parts

@@ -1,7 +1,6 @@
 -- Plain bytes: texts that both forms show unchanged.
 use Rattle.os_quote.proofs.Common.{◌≡◌, ◌⊎◌, ⊎_elim, ℕ, zero, suc, ◌+◌, ◌-◌, ◌<◌, ◌≤◌, true, List, [], ◌∷◌, ◌++◌, map, length, take, get_or, refl, sym, ap, ◌∙◌, subst, arith, append_assoc, AllByRecursion, IsUtf8, cases_lt, ne_eqb, chars-IsAscii, encode_ascii, IsUtf8-from_ascii, backslash, item_text, item_texts, character_item, shown_by, IsPlain, IsPlainUpTo, IsAfterPlain, AreUnchanged, IsUnchanged}
-use Rattle.os_quote.specs.declared.form.Form.{Form}
-use Rattle.os_quote.specs.declared.form.Form.TheVariants.{Text, Line}
+use Rattle.os_quote.specs.declared.form.Form.{Form, TheVariants.Text, TheVariants.Line}
 use Rattle.os_quote.proofs.lemmas.{Readings.ascii_all, Shown.ascii_stays, Texts.text_escape}
 
 plain_ascii : (bs : List ℕ) → AllByRecursion IsPlain bs → AllByRecursion (λ b. b < 128) bs

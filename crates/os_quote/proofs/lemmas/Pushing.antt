@@ -1,11 +1,8 @@
 -- How far a text has been written into a buffer.
 use Rattle.os_quote.proofs.Common.{◌≡◌, ⊎_elim, true, false, ℕ, ◌+◌, ◌<◌, ◌^◌, List, [], ◌++◌, length, refl, sym, ap, ◌∙◌, subst, arith, append_assoc, append-nil, length-append, cases_Bool, cases_eq, ne_eqb, Pushes, token_of, backslash, character_item, stays_on_line, IsUnchanged, Bool, item_text, text_escape}
-use Rattle.os_quote.specs.Buffers.{IsCutAtToken}
+use Rattle.os_quote.specs.{Buffers.IsCutAtToken, Sinks.Takes, BufferSink.BufferTook, BufferSink.buffer_rules, declared.write_buffer.Buffer.Buffer}
 use Rattle.std.proofs.Common.{Result, Ok, Err}
 use Rattle.std.specs.declared.fmt.Error.{Error}
-use Rattle.os_quote.specs.Sinks.{Takes}
-use Rattle.os_quote.specs.BufferSink.{BufferTook, buffer_rules}
-use Rattle.os_quote.specs.declared.write_buffer.Buffer.{Buffer}
 pub use Rattle.os_quote.specs.BufferSink.{push_nothing, push_both}
 use Rattle.wtf8_core.specs.Truncated.{IsTruncated}
 use Rattle.wtf8_core.proofs.lemmas.buffers.Truncated.{none_yet}

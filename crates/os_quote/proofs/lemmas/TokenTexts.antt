@@ -1,8 +1,6 @@
 -- The texts of tokens, byte by byte.
 use Rattle.os_quote.proofs.Common.{◌≡◌, ℕ, ◌/◌, ◌%◌, ◌<◌, ◌≤◌, List, [], ◌∷◌, ◌++◌, sym, ap, ◌∙◌, subst, arith, upper_hex_digit, IsUtf8, ByteUnit, WideUnit, LongCharacter, backslash, byte_digits, wide_digits, item_text, IsLong, is_any, stays_on_line}
-use Rattle.os_quote.proofs.lemmas.Items.{five_digits, six_digits}
-use Rattle.os_quote.proofs.lemmas.Readings.{item_is_text}
-use Rattle.os_quote.proofs.lemmas.Tokens.{line_has_long}
+use Rattle.os_quote.proofs.lemmas.{Items.five_digits, Items.six_digits, Readings.item_is_text, Tokens.line_has_long}
 
 pub two_digits : (u a b : ℕ) → a ≡ upper_hex_digit (u / 16) → b ≡ upper_hex_digit (u % 16) → a ∷ b ∷ [] ≡ byte_digits u
 two_digits u a b p q = ap (λ x. x ∷ b ∷ []) p ∙ ap (λ x. upper_hex_digit (u / 16) ∷ x ∷ []) q

@@ -1,10 +1,8 @@
 -- How far a text has been written.
 use Rattle.os_quote.proofs.Common.{arith, ◌≡◌, ℕ, List, [], ◌++◌, append_assoc, append-nil, rules, refl, sym, ap, ◌∙◌, HasWrittenStyled, IsFlush, Formatter, true≢false}
 use Rattle.std.proofs.Common.{Result, Ok, Err}
-use Rattle.std.specs.Fmt.{WritesStyledOnOk}
-use Rattle.std.specs.declared.fmt.Error.{Error}
-use Rattle.os_quote.specs.FormatterSink.{formatter_rules}
-use Rattle.os_quote.specs.Sinks.{Takes}
+use Rattle.std.specs.{Fmt.WritesStyledOnOk, declared.fmt.Error.Error}
+use Rattle.os_quote.specs.{FormatterSink.formatter_rules, Sinks.Takes}
 use Rattle.std.proofs.Output.{has_written_styled_append, has_written_styled_of_eq}
 
 -- from f to g a prefix of `all` was written, and `left` is still to be written

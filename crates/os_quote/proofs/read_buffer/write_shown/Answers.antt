@@ -2,9 +2,7 @@ use Rattle.os_quote.proofs.Common.{◌≢◌, [], subst, IsUtf8, IsUtf8-nil, is_
 use Rattle.std.proofs.Common.{MatchResult}
 use Rattle.wtf8_core.specs.Truncated.{IsTruncated}
 use Rattle.wtf8_core.proofs.lemmas.buffers.Truncated.{none_yet}
-use Rattle.os_quote.specs.Escape.{IsQuoteFaultBy}
-use Rattle.os_quote.specs.Unescaped.{IsUnescapedBy}
-use Rattle.os_quote.specs.declared.error.QuoteError.TheVariants.{Memory}
+use Rattle.os_quote.specs.{Escape.IsQuoteFaultBy, Unescaped.IsUnescapedBy, declared.error.QuoteError.TheVariants.Memory}
 use Rattle.os_quote.proofs.lemmas.{Escapes.own_escape, Texts.own_text, Unescaping.own_unescaped, Unescaping.with_both}
 use Rattle.os_quote.proofs.read_buffer.write_shown.Goals as goal
 
