@@ -1,9 +1,7 @@
 -- The first and the last character of a string, each with the rest of the string (std's `str` has the first by `chars`).
 use Rattle.std.specs.Prelude.{◌≡◌, ◌+◌, ◌-◌, ◌≤◌, ℕ, List, ◌++◌, length, take, Option, MatchOption}
 use Rattle.std.specs.Char.{IsScalar, encode_utf8}
-use Rattle.wtf8_core.specs.Character.{WholeCharacter}
-use Rattle.wtf8_core.specs.CodePoint.{encode}
-use Rattle.wtf8_core.specs.Covered.{StartsWithNoCharacter}
+use Rattle.wtf8_core.specs.{Character.WholeCharacter, CodePoint.encode, Covered.StartsWithNoCharacter}
 
 -- no whole character ends where s ends
 abbrev pub EndsUncovered : List ℕ → Type 0

@@ -1,9 +1,7 @@
 -- What contracts say of a part and of a unit: the part's bytes, and the unit's number.
 use Rattle.std.specs.Prelude.{ℕ, List}
-use Rattle.platform_str.specs.declared.platform.Platform.{Ghosts}
-use Rattle.platform_str.specs.Strings.{bytes}
-use Rattle.os_str_ext.specs.declared.os_units.NonUnicodeOsStr.{NonUnicodeOsStr}
-use Rattle.os_str_ext.specs.declared.os_units.OsUnit.{OsUnit}
+use Rattle.platform_str.specs.{declared.platform.Platform.Ghosts, Strings.bytes}
+use Rattle.os_str_ext.specs.declared.os_units.{NonUnicodeOsStr.NonUnicodeOsStr, OsUnit.OsUnit}
 
 module _ {E : Type 0} {P : Ghosts E} where
   -- the bytes of a part

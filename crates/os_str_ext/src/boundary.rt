@@ -1,7 +1,6 @@
 //! Where strings may be cut, and the parts that such cuts give.
 ghost use Rattle.std.specs.Prelude.{◌≡◌, ◌<◌, ◌≤◌, ◌+◌, ◌-◌, ◌↔◌, ◌++◌, IsTrue, length, take, drop};
-ghost use Rattle.wtf8_core.specs.Character.{WholeCharacter};
-ghost use Rattle.wtf8_core.specs.Boundary.{IsBoundary};
+ghost use Rattle.wtf8_core.specs.{Character.WholeCharacter, Boundary.IsBoundary};
 ghost use Rattle.platform_str.specs.Strings.{bytes};
 ghost use Rattle.os_str_ext.specs.Characters.{IsCharacterBefore};
 ghost use Rattle.os_str_ext.specs.Range.{FitsIn, IsPartInUnits};

@@ -1,14 +1,9 @@
 //! The calls that every string of a platform has in addition to its conversions.
 ghost use Rattle.std.specs.Prelude.{ℕ, List, ◌≡◌, ◌<◌, ◌↔◌, ◌++◌, ◌+◌, ◌*◌, ◌^◌, IsTrue, IsOk, IsErr, IfOk, IfSome, length, take, drop};
 ghost use Rattle.wtf8_core.specs.Occurrence.{Finds, IsFirstIndex, IsLastIndex, IsPrefix, IsSuffix};
-ghost use Rattle.wtf8_core.specs.UnitIndex.{FindsInUnits};
-ghost use Rattle.wtf8_core.specs.Boundary.{IsBoundary};
-ghost use Rattle.wtf8_core.specs.Chunks.{AreChunks};
-ghost use Rattle.wtf8_core.specs.Pieces.{OccursSomewhere, MayBeCutAround, StripsPrefix, StripsSuffix};
-ghost use Rattle.wtf8_core.specs.Pieces.{IsStartTrim, IsEndTrim, IsTrim, IsSplit, IsRSplit};
-ghost use Rattle.wtf8_core.specs.Pieces.{SplitsOnce, Splits, Trims};
-ghost use Rattle.std.specs.Char.{encode_utf8};
-ghost use Rattle.std.specs.List.{repeat};
+ghost use Rattle.wtf8_core.specs.{UnitIndex.FindsInUnits, Boundary.IsBoundary, Chunks.AreChunks};
+ghost use Rattle.wtf8_core.specs.Pieces.{OccursSomewhere, MayBeCutAround, StripsPrefix, StripsSuffix, IsStartTrim, IsEndTrim, IsTrim, IsSplit, IsRSplit, SplitsOnce, Splits, Trims};
+ghost use Rattle.std.specs.{Char.encode_utf8, List.repeat};
 ghost use Rattle.platform_str.specs.Strings.{string_vec_of};
 ghost use Rattle.os_str_ext.specs.Characters.{SplitsFirstChar, SplitsLastChar};
 ghost use Rattle.os_str_ext.specs.Chunks.{chunks_of};

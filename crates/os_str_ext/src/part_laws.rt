@@ -2,8 +2,7 @@
 //!
 //! Each law is the contract of a function that does nothing.
 ghost use Rattle.std.specs.Prelude.{◌≡◌, ◌↔◌, IsTrue, Some};
-ghost use Rattle.std.specs.Cmp.Lexicographic.{slice_cmp};
-ghost use Rattle.std.specs.Ordering.{nat_cmp};
+ghost use Rattle.std.specs.{Cmp.Lexicographic.slice_cmp, Ordering.nat_cmp};
 ghost use Rattle.std.specs.Hash as fed;
 ghost use Rattle.os_str_ext.specs.Parts.{part_bytes, unit_number};
 

@@ -1,8 +1,6 @@
 //! Patterns of searches.
 ghost use Rattle.std.specs.Prelude.{◌≡◌, ◌<◌, ◌≤◌, ◌↔◌, ℕ, List, length, take};
-ghost use Rattle.std.specs.Char.{encode_utf8};
-ghost use Rattle.std.specs.Str.{IsUtf8};
-ghost use Rattle.std.specs.String.{string_bytes};
+ghost use Rattle.std.specs.{Char.encode_utf8, Str.IsUtf8, String.string_bytes};
 ghost use Rattle.os_str_ext.specs.Patterns.{either_way, char_has_bytes};
 
 use std::alloc::AllocError;

@@ -1,8 +1,7 @@
 //! Where a text occurs in bytes.
 ghost use Rattle.std.specs.Prelude.{◌+◌, ◌-◌, ◌^◌, ◌↔◌, ◌<◌, ◌≤◌, IsTrue, IfSome, length};
 ghost use Rattle.wtf8_core.specs.Occurrence.{Finds, IsFirstIndex, IsLastIndex, IsPrefix, IsSuffix};
-ghost use Rattle.wtf8_core.specs.Boundary.{IsBoundary};
-ghost use Rattle.wtf8_core.specs.Pieces.{MayBeCutAround};
+ghost use Rattle.wtf8_core.specs.{Boundary.IsBoundary, Pieces.MayBeCutAround};
 
 use crate::compare::are_same;
 use crate::needle::{first_of, last_of};

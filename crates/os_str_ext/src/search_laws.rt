@@ -3,10 +3,8 @@
 //! Each law is the contract of a function that does nothing. They are about lists, so each holds of
 //! bytes and of units.
 ghost use Rattle.std.specs.Prelude.{◌≡◌, ◌<◌, [], ◌∷◌, ℕ, List, length};
-ghost use Rattle.std.specs.Char.{encode_utf8};
-ghost use Rattle.std.specs.String.{string_bytes};
-ghost use Rattle.wtf8_core.specs.CodePoint.{encode};
-ghost use Rattle.wtf8_core.specs.Pieces.{SplitsAt};
+ghost use Rattle.std.specs.{Char.encode_utf8, String.string_bytes};
+ghost use Rattle.wtf8_core.specs.{CodePoint.encode, Pieces.SplitsAt};
 ghost use Rattle.wtf8_core.specs.Occurrence.{OccursNowhere, IsFirstIndex, IsLastIndex};
 
 use crate::pattern::Pattern;

@@ -2,13 +2,8 @@
 use Rattle.os_str_ext.proofs.Common.{◌≡◌, ℕ, ◌<◌, List, [], ◌∷◌, ◌++◌, length, take, drop, inl, refl, sym, ap, ◌∙◌, subst, arith, append_assoc, take-length, All-from_recursion, IsUtf8-nil, IsUtf8-append, All, AllByRecursion, flat_map, IsUtf8, IsBoundary, Chunk, joined, AreChunks, HasNoCharacter, IsChunkOf}
 use Rattle.std.proofs.Common.{◌↔◌}
 use Rattle.std.proofs.lemmas.List.Elements.{recursion_from_All}
-use Rattle.wtf8_core.proofs.lemmas.characters.AtIndices.{none_begins}
-use Rattle.wtf8_core.proofs.lemmas.forms.Cuts.{utf8_cut}
-use Rattle.wtf8_core.proofs.lemmas.texts.AreWtf8.{no_text_begins}
-use Rattle.os_str_ext.proofs.lemmas.CutUnits.{part_in_units}
-use Rattle.os_str_ext.proofs.lemmas.EachChunk.{are_chunks_of, first_of}
-use Rattle.os_str_ext.proofs.lemmas.FirstChunk.{edges}
-use Rattle.os_str_ext.proofs.lemmas.PartUnits.{no_units}
+use Rattle.wtf8_core.proofs.lemmas.{characters.AtIndices.none_begins, forms.Cuts.utf8_cut, texts.AreWtf8.no_text_begins}
+use Rattle.os_str_ext.proofs.lemmas.{CutUnits.part_in_units, EachChunk.are_chunks_of, EachChunk.first_of, FirstChunk.edges, PartUnits.no_units}
 
 module _ (well_formed : List ℕ → Type 0) (units : List ℕ → List ℕ)
     (cut_prefix : (b : List ℕ) (i : ℕ) → well_formed b → IsBoundary b i → well_formed (take i b))

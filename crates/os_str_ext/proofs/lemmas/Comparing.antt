@@ -1,5 +1,6 @@
 -- Bytes are equal if their first bytes are and their last bytes are.
-use Rattle.os_str_ext.proofs.Common.{◌≡◌, ℕ, ◌+◌, ◌-◌, ◌≤◌, List, ◌++◌, length, take, drop, refl, sym, ap, ◌∙◌, arith, take-append-drop, length-append, length-drop, drop-drop, take_at, take-length, IsPrefix, IsSuffix}
+use Rattle.std.proofs.Common.{◌/◌}
+use Rattle.os_str_ext.proofs.Common.{◌≡◌, ℕ, ◌+◌, ◌-◌, ◌≤◌, List, [], ◌∷◌, ◌++◌, get_or, length, take, drop, refl, sym, ap, ◌∙◌, arith, take-append-drop, length-append, length-drop, drop-drop, take_at, take-length, IsPrefix, IsSuffix}
 
 same_by_ends : (k : ℕ) (a b : List ℕ) → k ≤ length a → length a ≤ k + k → take k a ≡ take k b → drop (length a - k) a ≡ drop (length a - k) b → a ≡ b
 same_by_ends k a b low high prefix suffix =
@@ -35,6 +36,14 @@ module _ (k : ℕ) (read : List ℕ → ℕ) (write : ℕ → List ℕ) (a b : L
     prefix_a.number ∙ ap (λ s. read (take k s)) e ∙ sym prefix_b.number,
     suffix_a.number ∙ ap (λ s. read (take k (drop (length s - k) s))) e ∙ sym suffix_b.number,
   )
+
+-- one to three bytes are equal if the first, the middle one and the last are
+pub same_from_three : (a b : List ℕ) → length a ≡ length b → 1 ≤ length a → length a ≤ 3
+    → get_or a 0 0 ≡ get_or b 0 0 → get_or a (length a / 2) 0 ≡ get_or b (length a / 2) 0 → get_or a (length a - 1) 0 ≡ get_or b (length a - 1) 0 → a ≡ b
+same_from_three (x ∷ []) (u ∷ []) s some few e f g = ap (λ n. n ∷ []) e
+same_from_three (x ∷ y ∷ []) (u ∷ v ∷ []) s some few e f g = ap (λ n. n ∷ y ∷ []) e ∙ ap (λ n. u ∷ n ∷ []) f
+same_from_three (x ∷ y ∷ z ∷ []) (u ∷ v ∷ w ∷ []) s some few e f g = ap (λ n. n ∷ y ∷ z ∷ []) e ∙ ap (λ n. u ∷ n ∷ z ∷ []) f ∙ ap (λ n. u ∷ v ∷ n ∷ []) g
+same_from_three a b s some few e f g = absurd (omega (arith, s, some, few))
 
 -- a prefix is what `take` gives and fits in the list; a suffix is what `drop` leaves
 pub prefix_from_take : (p s : List ℕ) → take (length p) s ≡ p → IsPrefix p s

@@ -1,9 +1,7 @@
 -- What the chunks of a string are: each part is a string without whole characters, and each text is UTF-8.
 use Rattle.os_str_ext.proofs.Common.{◌≡◌, ◌⊎◌, inl, inr, ⊎_elim, ℕ, ◌+◌, ◌<◌, ◌≤◌, List, [], ◌∷◌, ◌++◌, length, take, drop, refl, sym, ap, ◌∙◌, subst, arith, length-append, length-drop, All, AllByRecursion, IsUtf8, cases_eq, cases_Bool, false≢true, nil_from_length, All-from_recursion, IsBoundary, WholeCharacter, Chunk, joined, AreChunks, character_fits, some_chunks, chunks_once, chunks_of, IsChunkOf, IsFirstChunk}
-use Rattle.std.specs.Str.{is_utf8}
-use Rattle.std.specs.Str.Lossy.{utf8_valid_len}
-use Rattle.std.proofs.lemmas.List.{take_all}
-use Rattle.std.proofs.lemmas.Str.{IsUtf8-from_is_utf8, is_utf8-from_IsUtf8}
+use Rattle.std.specs.Str.{is_utf8, Lossy.utf8_valid_len}
+use Rattle.std.proofs.lemmas.{List.take_all, Str.IsUtf8-from_is_utf8, Str.is_utf8-from_IsUtf8}
 use Rattle.wtf8_core.proofs.lemmas.texts.AreWtf8.{valid_up_to}
 use Rattle.os_str_ext.proofs.lemmas.FirstChunk.{first_of_parts, edges, part_is_uncovered, first_and_rest, no_character_after, text_from}
 

@@ -1,12 +1,9 @@
 -- The first chunk by where its part and its text end, and the chunks after it.
 use Rattle.os_str_ext.proofs.Common.{◌≡◌, ⊎_elim, inl, inr, ℕ, ◌+◌, ◌-◌, ◌<◌, ◌≤◌, List, [], ◌∷◌, ◌++◌, length, take, drop, sym, ap, ◌∙◌, subst, arith, length-append, length-drop, take-append-drop, append_assoc, cases_lt, cases_eq, length-take-le, take-take, drop-take, IsUtf8-nil, IsUtf8-append, IsUtf8-encode, take-add, IsUtf8, IsBoundary, WholeCharacter, IsCovered, HasNoCharacter, Chunk, OccursAt, encode, character_fits, begins_at, form_encode, some_chunks, chunks_once, in_rest, whole_within, chunks_of, IsFirstChunk}
-use Rattle.std.proofs.lemmas.List.{drop_all, drop-append-le}
-use Rattle.std.proofs.Math.Seq.{take-append_seam}
+use Rattle.std.proofs.{lemmas.List.drop_all, lemmas.List.drop-append-le, Math.Seq.take-append_seam}
 use Rattle.std.specs.Str.{IsValidUpTo}
 use Rattle.wtf8_core.specs.Covered.{CrossesNoCharacter}
-use Rattle.wtf8_core.proofs.lemmas.chunks.OneList.{one_more_chunk}
-use Rattle.wtf8_core.proofs.lemmas.occurrence.Boundaries.{edges_of_text}
-use Rattle.wtf8_core.proofs.lemmas.characters.Seams.{Uncovered, text_covered, seam_after_uncovered}
+use Rattle.wtf8_core.proofs.lemmas.{chunks.OneList.one_more_chunk, occurrence.Boundaries.edges_of_text, characters.Seams.Uncovered, characters.Seams.text_covered, characters.Seams.seam_after_uncovered}
 
 -- the three parts of a string that is cut twice
 cut_twice : (s : List ℕ) (m e : ℕ) → m ≤ e → s ≡ take m s ++ (drop m (take e s) ++ drop e s)

@@ -2,9 +2,7 @@
 use Rattle.os_str_ext.proofs.Common.{◌≡◌, ℕ, zero, suc, ◌+◌, ◌-◌, ◌<◌, ◌≤◌, List, [], ◌∷◌, length, take, drop, Option, Some, None, sym, ap, subst, ◌∙◌, arith, ⊎_elim, length-drop, cases_Bool, cases_eq, cases_lt, cond-true, cond-false, eq-eqb, false≢true, get_or-drop, length-take-le, option_map, slice_index, NeedleOccursAt, FindsNeedle, FindsLastNeedle, IsFirstByte, Nowhere, Passes, is_byte}
 use Rattle.std.proofs.Common.{Bool, max}
 use Rattle.std.proofs.lemmas.List.{get_or-take}
-use Rattle.memchr.specs.Find.{IsFirst, IsLast, NoneBefore, NoneAfter, TakesFirst, places, places_from}
-use Rattle.memchr.specs.Pairs.{HasPair, IsPairFinderOf, reach_of}
-use Rattle.memchr.specs.declared.arch.all.packedpair.Finder.{Finder}
+use Rattle.memchr.specs.{Find.IsFirst, Find.IsLast, Find.NoneBefore, Find.NoneAfter, Find.TakesFirst, Find.places, Find.places_from, Pairs.HasPair, Pairs.IsPairFinderOf, Pairs.reach_of, declared.arch.all.packedpair.Finder.Finder}
 
 max_below : (a b n : ℕ) → a < n → b < n → max a b < n
 max_below a b n x y = omega arith

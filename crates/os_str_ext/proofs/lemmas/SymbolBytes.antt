@@ -1,10 +1,8 @@
 -- A string's one list of symbols, and the bytes of them.
 use Rattle.os_str_ext.proofs.Common.{◌≡◌, ℕ, List, [], ◌∷◌, ◌++◌, map, take, drop, refl, sym, ap, ◌∙◌, append_assoc, AllByRecursion, flat_map, IsUtf8, chars, encode_utf8_all, IsBoundary, Chunk, joined, HasNoCharacter, some_chunks, chunks_once, chunks_of, IsChunkOf, chunks_symbols, symbols_of, unit_symbol, Character}
-use Rattle.std.proofs.lemmas.Grind.{flat_map-append}
-use Rattle.std.proofs.lemmas.Str.{chars-encodes}
+use Rattle.std.proofs.lemmas.{Grind.flat_map-append, Str.chars-encodes}
 use Rattle.wtf8_core.specs.PartUnits.{unit_bytes}
-use Rattle.os_str_ext.specs.Symbols.{AreSymbols, chunk_symbols, symbol_bytes}
-use Rattle.os_str_ext.specs.declared.symbols.Symbol.{Symbol}
+use Rattle.os_str_ext.specs.{Symbols.AreSymbols, Symbols.chunk_symbols, Symbols.symbol_bytes, declared.symbols.Symbol.Symbol}
 use Rattle.os_str_ext.proofs.lemmas.EachChunk.{are_chunks_of}
 
 unit_symbols_bytes : (us : List ℕ) → flat_map symbol_bytes (map unit_symbol us) ≡ flat_map unit_bytes us

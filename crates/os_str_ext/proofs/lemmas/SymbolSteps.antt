@@ -2,8 +2,7 @@
 use Rattle.os_str_ext.proofs.Common.{◌≡◌, ⊎_elim, ℕ, ◌+◌, ◌-◌, ◌<◌, ◌≤◌, List, [], ◌∷◌, ◌++◌, map, length, take, drop, refl, sym, ap, ◌∙◌, subst, arith, append_assoc, append-nil, length-append, length-drop, take-append-drop, drop-drop, cases_lt, cases_eq, length-take-le, take-take, drop-take, drop_at, take_at, encode_same, IsScalar, encode_utf8, IsUtf8, chars, encode_utf8_all, WholeCharacter, encode, IsCovered, StartsWithNoCharacter, OccurrenceLaws, character_fits, whole_at, whole_within, form_encode, IsFirstUnit, IsUncoveredUpTo, IsFirstChunk, IsKnownPart, chunks_symbols, symbols_of, unit_symbol, Character}
 use Rattle.std.proofs.lemmas.Str.{IsUtf8-past_char, chars-nil, chars_past_char}
 use Rattle.wtf8_core.proofs.lemmas.characters.Seams.{covered_within}
-use Rattle.os_str_ext.proofs.lemmas.EachChunk.{text_end}
-use Rattle.os_str_ext.proofs.lemmas.FirstChunk.{first_and_rest, first_of_parts, no_chunks}
+use Rattle.os_str_ext.proofs.lemmas.{EachChunk.text_end, FirstChunk.first_and_rest, FirstChunk.first_of_parts, FirstChunk.no_chunks}
 
 -- no bytes have no symbols
 pub no_symbols : (units : List ℕ → List ℕ) (s : List ℕ) → s ≡ [] → symbols_of units s ≡ []

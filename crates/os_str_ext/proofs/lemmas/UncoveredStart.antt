@@ -2,9 +2,7 @@
 use Rattle.os_str_ext.proofs.Common.{◌≡◌, ◌⊎◌, ⊎_elim, ℕ, ◌+◌, ◌-◌, ◌<◌, ◌≤◌, List, [], ◌++◌, length, take, drop, get_or, Option, sym, ap, ◌∙◌, subst, arith, length-drop, take-append-drop, append-nil, drop-drop, cases_lt, cases_eq, get_or-drop, length-take-le, take-length, IsUtf8, encode, WholeCharacter, form_bounds, character_fits, begins_at, in_rest, whole_within, IsUncoveredUpTo, IsFirstChunk}
 use Rattle.std.proofs.lemmas.List.{get_or_append_left}
 use Rattle.wtf8_core.specs.Utf8.{IsUtf8Fault, part_end}
-use Rattle.wtf8_core.proofs.lemmas.characters.FourBytes.{past_ascii}
-use Rattle.wtf8_core.proofs.lemmas.characters.IllFormedParts.{apart_from_part}
-use Rattle.wtf8_core.proofs.lemmas.texts.StdFaults.{First, lead_of}
+use Rattle.wtf8_core.proofs.lemmas.{characters.FourBytes.past_ascii, characters.IllFormedParts.apart_from_part, texts.StdFaults.First, texts.StdFaults.lead_of}
 use Rattle.os_str_ext.specs.Chunks.{BeginsNoCharacter}
 use Rattle.os_str_ext.proofs.lemmas.FirstChunk.{first_of_parts, text_from, no_character_after, without_character}
 

@@ -1,6 +1,5 @@
 use Rattle.os_str_ext.proofs.Common.{◌∙◌, ◌-◌, ◌<◌, ◌∷◌, ap, length, subst, sym, StartsWithNoCharacter, no_units, IsFirstUnit, IsKnownPart, symbols_of, unit_symbol}
-use Rattle.os_str_ext.proofs.lemmas.FirstChunk.{edges, part_is_uncovered}
-use Rattle.os_str_ext.proofs.lemmas.SymbolSteps.{part_after_unit, symbols_by_unit, formed_after_unit}
+use Rattle.os_str_ext.proofs.lemmas.{FirstChunk.edges, FirstChunk.part_is_uncovered, SymbolSteps.part_after_unit, SymbolSteps.symbols_by_unit, SymbolSteps.formed_after_unit}
 use Rattle.os_str_ext.proofs.symbols.first_of_part.Goals as goal
 
 pub part_len-len-requires-clause-uncovered : goal.part_len-len-requires-clause-uncovered

@@ -1,7 +1,5 @@
 use Rattle.os_str_ext.proofs.Common.{length, arith}
-use Rattle.os_str_ext.proofs.lemmas.UncoveredStart.{all_uncovered}
-use Rattle.os_str_ext.proofs.lemmas.UncoveredStart.{uncovered_next}
-use Rattle.os_str_ext.proofs.lemmas.SymbolSteps.{uncovered_first, part_before_character}
+use Rattle.os_str_ext.proofs.lemmas.{UncoveredStart.all_uncovered, UncoveredStart.uncovered_next, SymbolSteps.uncovered_first, SymbolSteps.part_before_character}
 use Rattle.os_str_ext.proofs.symbols.part_len.Goals as goal
 
 pub loop-at-init : goal.loop-at-init

@@ -1,6 +1,5 @@
 use Rattle.std.proofs.Common.{rules, ◌+◌, ⊎_elim}
-use Rattle.std.proofs.lemmas.Bool.{cases_lt}
-use Rattle.std.proofs.lemmas.List.{places}
+use Rattle.std.proofs.lemmas.{Bool.cases_lt, List.places}
 use Rattle.os_str_ext.proofs.window.copy_at.Goals as goal
 
 pub returns-clause-kept : goal.returns-clause-kept
