@@ -4,7 +4,7 @@ ghost use Rattle.std.specs.Prelude.{◌≡◌, ◌++◌, ◌+◌, ◌≤◌, ◌
 ghost use Rattle.std.specs.List.{All};
 ghost use Rattle.wtf8_core.specs.Wtf8.{IsWtf8};
 ghost use Rattle.wtf8_core.specs.UnitsOf.{units_of};
-ghost use Rattle.platform_str.specs.ToWide.{adds_unit, unit_at, units_by_neighbours, units_after_first, chosen};
+ghost use Rattle.platform_str.specs.ToWide.{adds_unit, unit_at, units_after_first, chosen};
 
 use std::alloc::{AllocError, Allocator};
 use std::simd::prelude::*;
@@ -53,9 +53,10 @@ fn have_no_pair(bytes: &[u8]) -> bool
 }
 
 /// The unit that each of 16 bytes after the first adds, if it adds one. Halves of pairs are computed
-/// only where there may be some: a tenth of the time of short strings of other characters.
+/// once a block may have some, and `pairs` is set then, so that no later block is asked: without
+/// halves other characters take 0.9 of the time, and to ask each block costs mixed text a fifth.
 #[inline(always)]
-pub(crate) fn unit_lanes(bytes: &[u8]) -> [u16; 16]
+pub(crate) fn unit_lanes(bytes: &[u8], pairs: &mut bool) -> [u16; 16]
     requires { 19 ≤ length bytes.now }
     ensures { (i : ℕ) → i < 16 → slice_index result i
         ≡ unit_at (slice_index bytes.now i) (slice_index bytes.now (1 + i))
@@ -68,9 +69,10 @@ pub(crate) fn unit_lanes(bytes: &[u8]) -> [u16; 16]
     let unit = two % u16x16::splat(0x800);
     let unit = first.simd_ge(u16x16::splat(0xE0)).select(three, unit);
     let ascii = first.simd_lt(u16x16::splat(0x80));
-    if have_no_pair(bytes) {
+    if !*pairs && have_no_pair(bytes) {
         return ascii.select(first, unit).to_array();
     }
+    *pairs = true;
     let high = three / u16x16::splat(0x10) + u16x16::splat(0xD7C0);
     let low = three % u16x16::splat(0x400) + u16x16::splat(0xDC00);
     let unit = first.simd_ge(u16x16::splat(0xF0)).select(high, unit);
@@ -107,6 +109,29 @@ pub(crate) fn padded(bytes: &[u8]) -> [u8; 19]
     window
 }
 
+/// Writes those units of a block that have a mark from index `at` on, and returns the index after
+/// them. Within the block it may also overwrite the one unit after them.
+#[inline(always)]
+pub(crate) fn put_chosen(units: &mut [u16], at: usize, lanes: &[u16], marks: &[u16]) -> usize
+    requires marks { length marks.now ≡ length lanes.now }
+    requires least { (i : ℕ) → slice_index marks.now i ≤ 1 }
+    requires room { at + length lanes.now ≤ length units.old }
+    ensures written { take result units.new ≡ take at units.old ++ chosen lanes.now marks.now }
+    ensures after_one { drop (result + 1) units.new ≡ drop (result + 1) units.old }
+    ensures after_block { drop (at + length lanes.now) units.new
+        ≡ drop (at + length lanes.now) units.old }
+    ensures from { at ≤ result }
+    ensures few { result ≤ at + length lanes.now }
+    ensures len { length units.new ≡ length units.old }
+{
+    let mut end = at;
+    for i in 0..lanes.len() {
+        units[end] = lanes[i];
+        end += usize::from(marks[i]);
+    }
+    end
+}
+
 /// Appends those of the units that have a mark.
 #[inline(always)]
 fn push_chosen<A: Allocator>(
@@ -121,27 +146,10 @@ fn push_chosen<A: Allocator>(
     ensures capacity { vec_capacity units.old ≤ vec_capacity units.new }
     ensures len { vec_len units.new ≤ vec_len units.old + length lanes.now }
 {
-    let mut len = units.len();
+    let at = units.len();
     units.extend_from_slice(lanes)?;
-    for i in 0..lanes.len() {
-        units[len] = lanes[i];
-        len += usize::from(marks[i]);
-    }
-    units.truncate(len);
-    Ok(())
-}
-
-/// Appends what 16 bytes after the first add.
-#[inline(always)]
-fn push_block<A: Allocator>(units: &mut Vec<u16, A>, bytes: &[u8]) -> Result<(), AllocError>
-    requires { 19 ≤ length bytes.now }
-    ensures ok { OnOk result (units.new.items ++ units_after_first (drop 16 bytes.now)
-        ≡ units.old.items ++ units_after_first bytes.now) }
-    ensures room { vec_len units.old + 16 ≤ vec_capacity units.old → IsOk result }
-    ensures capacity { vec_capacity units.old ≤ vec_capacity units.new }
-    ensures len { vec_len units.new ≤ vec_len units.old + 16 }
-{
-    push_chosen(units, &unit_lanes(bytes), &unit_marks(bytes))?;
+    let end = put_chosen(units.as_mut_slice(), at, lanes, marks);
+    units.truncate(end);
     Ok(())
 }
 
@@ -151,6 +159,7 @@ fn push_end<A: Allocator>(
     units: &mut Vec<u16, A>,
     bytes: &[u8],
     count: usize,
+    pairs: &mut bool,
 ) -> Result<(), AllocError>
     requires few { length bytes.now ≤ 19 }
     requires count { count ≤ 16 }
@@ -162,10 +171,9 @@ fn push_end<A: Allocator>(
     ensures len { vec_len units.new ≤ vec_len units.old + count }
 {
     let window = padded(bytes);
-    let lanes = unit_lanes(&window);
+    let lanes = unit_lanes(&window, pairs);
     let marks = unit_marks(&window);
-    push_chosen(units, &lanes[..count], &marks[..count])?;
-    Ok(())
+    push_chosen(units, &lanes[..count], &marks[..count])
 }
 
 /// Appends what the next bytes after the first add: 16, or up to 16 where fewer than 19 are left. It
@@ -175,6 +183,7 @@ fn push_next<A: Allocator>(
     units: &mut Vec<u16, A>,
     bytes: &[u8],
     count: usize,
+    pairs: &mut bool,
 ) -> Result<(), AllocError>
     requires block { 19 ≤ length bytes.now → count ≡ 16 }
     requires count { count ≤ 16 }
@@ -186,62 +195,40 @@ fn push_next<A: Allocator>(
     ensures len { vec_len units.new ≤ vec_len units.old + count }
 {
     if bytes.len() >= 19 {
-        push_block(units, bytes)?;
-    } else {
-        push_end(units, bytes, count)?;
+        return push_chosen(units, &unit_lanes(bytes, pairs), &unit_marks(bytes));
     }
-    Ok(())
-}
-
-/// The unit that a byte adds, if it adds one.
-#[inline(always)]
-pub(crate) fn unit(before: u8, first: u8, second: u8, third: u8) -> u16
-    ensures { result ≡ unit_at before first second third }
-{
-    if first < 0x80 {
-        return u16::from(first);
-    }
-    let two = u16::from(first) * 0x40 + u16::from(second % 0x40);
-    if before < 0xF0 && first < 0xE0 {
-        return two % 0x800;
-    }
-    let three = two % 0x400 * 0x40 + u16::from(third % 0x40);
-    if before >= 0xF0 {
-        return 0xDC00 + three % 0x400;
-    }
-    if first < 0xF0 {
-        return three;
-    }
-    0xD7C0 + three / 0x10
-}
-
-/// Appends what a byte adds, by the byte before it and the two after it.
-#[inline(always)]
-fn push_unit<A: Allocator>(
-    units: &mut Vec<u16, A>,
-    before: u8,
-    first: u8,
-    second: u8,
-    third: u8,
-) -> Result<(), AllocError>
-    ensures ok { OnOk result (units.new.items ≡ units.old.items
-        ++ units_by_neighbours before first second third) }
-    ensures room { vec_len units.old < vec_capacity units.old → IsOk result }
-    ensures capacity { vec_capacity units.old ≤ vec_capacity units.new }
-    ensures len { vec_len units.new ≤ vec_len units.old + 1 }
-{
-    if before >= 0xF0 || first / 0x40 != 2 {
-        units.push(unit(before, first, second, third))?;
-    }
-    Ok(())
+    push_end(units, bytes, count, pairs)
 }
 
 /// The byte at an index, or 0 if there is none.
 #[inline(always)]
-pub(crate) fn byte_or_zero(bytes: &[u8], at: usize) -> u8
+fn byte_or_zero(bytes: &[u8], at: usize) -> u8
     ensures { result ≡ slice_index bytes.now at }
 {
     if at < bytes.len() { bytes[at] } else { 0 }
+}
+
+/// The unit that the first byte of a string adds.
+#[inline(always)]
+pub(crate) fn first_unit(string: &[u8]) -> u16
+    requires { 0 < length string.now }
+    ensures { result ≡ unit_at 0 (slice_index string.now 0) (slice_index string.now 1)
+        (slice_index string.now 2) }
+{
+    let first = string[0];
+    if first < 0x80 {
+        return u16::from(first);
+    }
+    let two = u16::from(first) * 0x40 + u16::from(byte_or_zero(string, 1) % 0x40);
+    if first < 0xE0 {
+        return two % 0x800;
+    }
+    let three = two % 0x400 * 0x40 + u16::from(byte_or_zero(string, 2) % 0x40);
+    if first < 0xF0 {
+        three
+    } else {
+        0xD7C0 + three / 0x10
+    }
 }
 
 /// Whether there are at least 16 bytes after the first and the next 16 are ASCII.
@@ -251,35 +238,6 @@ pub(crate) fn goes_on_in_ascii(bytes: &[u8]) -> bool
     ensures ascii { result ≡ true → All (λ b. b < 0x80) (take 16 (drop 1 bytes.now)) }
 {
     bytes.len() > 16 && are_below(u8x16::from_slice(&bytes[1..]).to_array(), 0x80)
-}
-
-/// Appends what the bytes after the first add.
-fn push_after_first<A: Allocator>(units: &mut Vec<u16, A>, bytes: &[u8]) -> Result<(), AllocError>
-    requires { 0 < length bytes.now }
-    ensures ok { OnOk result (units.new.items
-        ≡ units.old.items ++ units_after_first bytes.now) }
-    ensures room { vec_len units.old + length bytes.now ≤ vec_capacity units.old + 1
-        → IsOk result }
-{
-    let mut rest = bytes;
-    while rest.len() > 1 {
-        if goes_on_in_ascii(rest) {
-            let block = u8x16::from_slice(&rest[1..]).to_array();
-            units.extend_from_slice(&widened(block))?;
-            let (_, after) = rest.split_at(16);
-            rest = after;
-        } else if rest.len() <= 16 && rest[1] < 0x80 {
-            units.push(u16::from(rest[1]))?;
-            let (_, after) = rest.split_at(1);
-            rest = after;
-        } else {
-            let count = (rest.len() - 1).min(16);
-            push_next(units, rest, count)?;
-            let (_, after) = rest.split_at(count);
-            rest = after;
-        }
-    }
-    Ok(())
 }
 
 /// Appends the units of a string. If the vector has room for as many units as the string has bytes,
@@ -295,12 +253,22 @@ pub(crate) fn push_units<A: Allocator>(
     if string.is_empty() {
         return Ok(());
     }
-    push_unit(
-        units,
-        0,
-        string[0],
-        byte_or_zero(string, 1),
-        byte_or_zero(string, 2),
-    )?;
-    push_after_first(units, string)
+    units.push(first_unit(string))?;
+    let mut rest = string;
+    let mut pairs = false;
+    while rest.len() > 1 {
+        if goes_on_in_ascii(rest) {
+            let block = u8x16::from_slice(&rest[1..]).to_array();
+            units.extend_from_slice(&widened(block))?;
+            rest = rest.split_at(16).1;
+        } else if rest.len() <= 16 && rest[1] < 0x80 {
+            units.push(u16::from(rest[1]))?;
+            rest = rest.split_at(1).1;
+        } else {
+            let count = (rest.len() - 1).min(16);
+            push_next(units, rest, count, &mut pairs)?;
+            rest = rest.split_at(count).1;
+        }
+    }
+    Ok(())
 }

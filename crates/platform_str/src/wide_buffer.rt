@@ -4,10 +4,10 @@ ghost use Rattle.std.specs.Prelude.{◌≡◌, ◌++◌, ◌+◌, ◌≤◌, ◌
 ghost use Rattle.wtf8_core.specs.Wtf8.{IsWtf8};
 ghost use Rattle.wtf8_core.specs.UnitsOf.{units_of};
 ghost use Rattle.wtf8_core.specs.Truncated.{IsTruncated};
-ghost use Rattle.platform_str.specs.ToWide.{Appends, units_by_neighbours, units_after_first, chosen};
+ghost use Rattle.platform_str.specs.ToWide.{Appends, units_after_first, chosen};
 
 use crate::to_wide::{
-    byte_or_zero, goes_on_in_ascii, padded, unit, unit_lanes, unit_marks, widened,
+    first_unit, goes_on_in_ascii, padded, put_chosen, unit_lanes, unit_marks, widened,
 };
 use std::simd::prelude::*;
 
@@ -40,29 +40,6 @@ fn fill_up(buffer: &mut [u16], count: usize, units: &[u16])
         let room = buffer.len() - count;
         buffer[count..].copy_from_slice(&units[..room]);
     }
-}
-
-/// Writes those units of a block that have a mark from index `at` on, and returns the index after
-/// them. Within the block it may also overwrite the one unit after them.
-#[inline(always)]
-fn put_chosen(units: &mut [u16], at: usize, lanes: &[u16], marks: &[u16]) -> usize
-    requires marks { length marks.now ≡ length lanes.now }
-    requires least { (i : ℕ) → slice_index marks.now i ≤ 1 }
-    requires room { at + length lanes.now ≤ length units.old }
-    ensures written { take result units.new ≡ take at units.old ++ chosen lanes.now marks.now }
-    ensures after_one { drop (result + 1) units.new ≡ drop (result + 1) units.old }
-    ensures after_block { drop (at + length lanes.now) units.new
-        ≡ drop (at + length lanes.now) units.old }
-    ensures from { at ≤ result }
-    ensures few { result ≤ at + length lanes.now }
-    ensures len { length units.new ≡ length units.old }
-{
-    let mut end = at;
-    for i in 0..lanes.len() {
-        units[end] = lanes[i];
-        end += usize::from(marks[i]);
-    }
-    end
 }
 
 /// Appends those units of a block that have a mark, where the buffer has room for a block. What was
@@ -105,19 +82,19 @@ fn push_chosen(buffer: &mut [u16], count: usize, lanes: &[u16], marks: &[u16]) -
 /// Appends what 16 bytes after the first add. It is kept out of the loop over ASCII, which is faster
 /// without it.
 #[inline(never)]
-fn push_block(buffer: &mut [u16], count: usize, bytes: &[u8]) -> usize
+fn push_block(buffer: &mut [u16], count: usize, bytes: &[u8], pairs: &mut bool) -> usize
     requires some { 19 ≤ length bytes.now }
     requires room { count + 16 < 2 ^ 64 }
     ensures written { (units : List ℕ) × (Appends units buffer.old count buffer.new result
         × (units_after_first bytes.now ≡ units ++ units_after_first (drop 16 bytes.now))) }
     ensures few { result ≤ count + 16 }
 {
-    push_chosen(buffer, count, &unit_lanes(bytes), &unit_marks(bytes))
+    push_chosen(buffer, count, &unit_lanes(bytes, pairs), &unit_marks(bytes))
 }
 
 /// Appends what up to 16 bytes after the first add, where fewer than 19 are left.
 #[inline(never)]
-fn push_end(buffer: &mut [u16], count: usize, bytes: &[u8], step: usize) -> usize
+fn push_end(buffer: &mut [u16], count: usize, bytes: &[u8], step: usize, pairs: &mut bool) -> usize
     requires few { length bytes.now ≤ 19 }
     requires step { step ≤ 16 }
     requires within { step < length bytes.now }
@@ -127,51 +104,9 @@ fn push_end(buffer: &mut [u16], count: usize, bytes: &[u8], step: usize) -> usiz
     ensures few { result ≤ count + step }
 {
     let window = padded(bytes);
-    let lanes = unit_lanes(&window);
+    let lanes = unit_lanes(&window, pairs);
     let marks = unit_marks(&window);
     push_chosen(buffer, count, &lanes[..step], &marks[..step])
-}
-
-/// Appends what the next bytes after the first add: 16, or all if they are fewer.
-#[inline(always)]
-fn push_next(buffer: &mut [u16], count: usize, bytes: &[u8], step: usize) -> usize
-    requires most { 16 < length bytes.now → step ≡ 16 }
-    requires step { step ≤ 16 }
-    requires within { step < length bytes.now }
-    requires room { count + 16 < 2 ^ 64 }
-    ensures written { (units : List ℕ) × (Appends units buffer.old count buffer.new result
-        × (units_after_first bytes.now ≡ units ++ units_after_first (drop step bytes.now))) }
-    ensures few { result ≤ count + step }
-{
-    if goes_on_in_ascii(bytes) {
-        let block = u8x16::from_slice(&bytes[1..]).to_array();
-        push_truncated(buffer, count, &widened(block))
-    } else if bytes.len() >= 19 {
-        push_block(buffer, count, bytes)
-    } else {
-        push_end(buffer, count, bytes, step)
-    }
-}
-
-/// Appends what a byte adds, by the byte before it and the two after it.
-#[inline(always)]
-fn push_unit(
-    buffer: &mut [u16],
-    count: usize,
-    before: u8,
-    first: u8,
-    second: u8,
-    third: u8,
-) -> usize
-    requires room { count + 1 < 2 ^ 64 }
-    ensures written { Appends (units_by_neighbours before first second third) buffer.old count
-        buffer.new result }
-    ensures few { result ≤ count + 1 }
-{
-    if before >= 0xF0 || first / 0x40 != 2 {
-        return push_truncated(buffer, count, &[unit(before, first, second, third)]);
-    }
-    count
 }
 
 /// Writes the units of a string into a buffer, as far as there is room, and returns how many the
@@ -183,15 +118,22 @@ pub(crate) fn write_units(string: &[u8], buffer: &mut [u16]) -> usize
     if string.is_empty() {
         return 0;
     }
-    let second = byte_or_zero(string, 1);
-    let third = byte_or_zero(string, 2);
-    let mut count = push_unit(buffer, 0, 0, string[0], second, third);
+    let mut count = push_truncated(buffer, 0, &[first_unit(string)]);
     let mut rest = string;
+    let mut pairs = false;
     while rest.len() > 1 {
-        let step = (rest.len() - 1).min(BLOCK);
-        count = push_next(buffer, count, rest, step);
-        let (_, after) = rest.split_at(step);
-        rest = after;
+        if goes_on_in_ascii(rest) {
+            let block = u8x16::from_slice(&rest[1..]).to_array();
+            count = push_truncated(buffer, count, &widened(block));
+            rest = rest.split_at(BLOCK).1;
+        } else if rest.len() >= 19 {
+            count = push_block(buffer, count, rest, &mut pairs);
+            rest = rest.split_at(BLOCK).1;
+        } else {
+            let step = (rest.len() - 1).min(BLOCK);
+            count = push_end(buffer, count, rest, step, &mut pairs);
+            rest = rest.split_at(step).1;
+        }
     }
     count
 }

@@ -3,6 +3,8 @@ use Rattle.std.proofs.Common.{◌≡◌, ⊎_elim, ℕ, zero, suc, Bool, true, f
 use Rattle.std.proofs.lemmas.Bool.{cond-false}
 use Rattle.wtf8_core.proofs.Common.{cases_lt}
 use Rattle.wtf8_core.proofs.lemmas.units.OneToOne.{wide_pair}
+use Rattle.wtf8_core.proofs.lemmas.forms.Shapes.{form_parts}
+use Rattle.wtf8_core.specs.Byte.{IsContinuation}
 use Rattle.platform_str.proofs.Common.{nat_tests, take_all, length-take-le, get_or-take, wide_single, form_ascii, form_two, form_three, form_past, encode, encode_utf16, IsCodePoint, units, flat_map, IsWtf8, HasUnits, units_of, has_units_of, code_points_in-encoded, AllByRecursion, append_assoc}
 use Rattle.wtf8_core.specs.Surrogate.{high_unit, low_unit}
 use Rattle.platform_str.specs.ToWide.{adds_unit, bits_of_two, bits_of_three, unit_at, units_by_neighbours, units_after_first, chosen}
@@ -79,6 +81,10 @@ block_ascii (suc n) (p ∷ b ∷ bs) h a =
     ap (λ r. r ++ units_after_first (b ∷ bs)) (ascii_adds p b (get_or bs 0 0) (get_or bs 1 0) a.0)
     ∙ ap (λ r. b ∷ r) (block_ascii n (b ∷ bs) (omega (arith, h)) a.1)
 block_ascii n w h a = absurd (omega (arith, h))
+
+pub one_ascii : (w : List ℕ) → 1 < length w → get_or w 1 0 < 0x80 → units_after_first w ≡ get_or w 1 0 ∷ units_after_first (drop 1 w)
+one_ascii (a ∷ b ∷ bs) h l = ap (λ r. r ++ units_after_first (b ∷ bs)) (ascii_adds a b (get_or bs 0 0) (get_or bs 1 0) l)
+one_ascii w h l = absurd (omega (arith, h))
 
 -- the same by what the lanes and the marks of a block are said to be
 pub some_chosen : (n : ℕ) (w lanes marks : List ℕ) → length lanes ≡ 16 → length marks ≡ 16 → n ≤ 16 → n < length w
@@ -202,10 +208,24 @@ forms_add a (c ∷ cs) h i =
 pub string_adds : (s : List ℕ) → IsWtf8 s → units_after_first (0 ∷ s) ≡ units_of s
 string_adds s w = ap (λ x. units_after_first (0 ∷ x)) w.1.joined ∙ forms_add 0 w.0 (omega arith) w.1.code_points ∙ ap units (sym (code_points_in-encoded s w.0 w.1))
 
--- what a string begins with, and what is left
-pub begins_once : (s : List ℕ) → IsWtf8 s → 0 < length s → units_of s ≡ units_by_neighbours 0 (get_or s 0 0) (get_or s 1 0) (get_or s 2 0) ++ units_after_first s
-begins_once [] w h = absurd (omega (arith, h))
-begins_once (b ∷ bs) w h = sym (string_adds (b ∷ bs) w)
+-- a string begins with a unit, since no form begins with a continuation, and its other bytes add the others
+no_continuation : (b : ℕ) → (IsContinuation b → ⊥) → adds_unit 0 b ≡ true
+no_continuation b h = grind (arith, nat_tests, h)
+
+form_begins : (c : ℕ) (rest : List ℕ) → adds_unit 0 (get_or (encode c ++ rest) 0 0) ≡ true
+form_begins c rest =
+    let parts = form_parts c in
+    ap (λ form. adds_unit 0 (get_or (form ++ rest) 0 0)) parts.is ∙ no_continuation parts.lead parts.begins
+
+begins_new : (cs : List ℕ) → 0 < length (flat_map encode cs) → adds_unit 0 (get_or (flat_map encode cs) 0 0) ≡ true
+begins_new [] h = absurd (omega (arith, h))
+begins_new (c ∷ cs) h = form_begins c (flat_map encode cs)
+
+pub begins_with : (s : List ℕ) → IsWtf8 s → 0 < length s → units_of s ≡ unit_at 0 (get_or s 0 0) (get_or s 1 0) (get_or s 2 0) ∷ units_after_first s
+begins_with [] w h = absurd (omega (arith, h))
+begins_with (b ∷ bs) w h =
+    let new = subst (λ x. 0 < length x → adds_unit 0 (get_or x 0 0) ≡ true) (sym w.1.joined) (begins_new w.0) h in
+    sym (string_adds (b ∷ bs) w) ∙ ap (λ t. cond t (unit_at 0 b (get_or bs 0 0) (get_or bs 1 0) ∷ []) [] ++ units_after_first (b ∷ bs)) new
 
 pub no_units : (s : List ℕ) → IsWtf8 s → length s ≡ 0 → units_of s ≡ []
 no_units s w h = sym (string_adds s w) ∙ none_after (0 ∷ s) (omega (arith, h))

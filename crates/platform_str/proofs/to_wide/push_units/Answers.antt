@@ -1,6 +1,6 @@
-use Rattle.platform_str.proofs.Common.{◌≡◌, ◌++◌, ap, sym, subst, ◌∙◌, append-nil, OnOk, rules, slice_index}
-use Rattle.platform_str.specs.ToWide.{units_after_first, units_by_neighbours}
-use Rattle.platform_str.proofs.lemmas.ToWide.{begins_once, no_units, appended}
+use Rattle.platform_str.proofs.Common.{[], ◌∷◌, ◌++◌, ◌<◌, ap, arith, sym, ◌∙◌, append-nil, take, drop, length, length-drop, length-take-le, recursion_from_All, rules, slice_index}
+use Rattle.platform_str.specs.ToWide.{units_after_first}
+use Rattle.platform_str.proofs.lemmas.ToWide.{none_after, appended, begins_with, block_ascii, one_ascii, no_units}
 use Rattle.platform_str.proofs.to_wide.push_units.Goals as goal
 
 pub returns-then-is_empty-clause-ok : goal.returns-then-is_empty-clause-ok
@@ -8,14 +8,43 @@ returns-then-is_empty-clause-ok g c =
     let items = c.args.units.now.items in
     sym (ap (λ x. items ++ x) (no_units c.args.string.now c.requires (search rules)) ∙ append-nil items)
 
+pub loop-rest-init : goal.loop-rest-init
+loop-rest-init g c =
+    let s = c.args.string.now in
+    let some : 0 < length s = search rules in
+    let begins = begins_with s c.requires some ∙ ap (λ u. u ∷ units_after_first s) (sym c.first_unit.ensures) in (
+      some,
+      appended _ c.args.units.now.items (c.first_unit.result ∷ []) (units_after_first s) _ c.in_ok-push.ensures.items begins,
+      omega (arith, c.in_ok-push.ensures.capacity),
+      omega (arith, c.in_ok-push.ensures.len),
+    )
+
+pub loop-rest-preserved-then-goes_on_in_ascii : goal.loop-rest-preserved-then-goes_on_in_ascii
+loop-rest-preserved-then-goes_on_in_ascii g c =
+    let rest = c.loop-rest.rest.now in
+    let block = take 16 (drop 1 rest) in
+    let room = c.goes_on_in_ascii.ensures.room c.if-goes_on_in_ascii.true in
+    let ascii = recursion_from_All (λ b. b < 0x80) _ (c.goes_on_in_ascii.ensures.ascii c.if-goes_on_in_ascii.true) in
+    let adds = block_ascii 16 rest room ascii ∙ ap (λ r. block ++ units_after_first r) (sym c.split_at.ensures.back) in
+    let done = c.in_ok-extend_from_slice.ensures.items ∙ ap (λ x. c.loop-rest.units.items ++ x) c.widened.ensures in (
+      omega (arith, room, c.split_at.ensures.back_len),
+      appended _ c.loop-rest.units.items block (units_after_first c.split_at.result.1.now) _ done adds ∙ c.loop-rest.invariant.1,
+      omega (arith, c.loop-rest.invariant.2, c.in_ok-extend_from_slice.ensures.capacity),
+      omega (arith, room, c.loop-rest.invariant.3, c.split_at.ensures.back_len, c.in_ok-extend_from_slice.ensures.len, ap length c.widened.ensures, length-take-le 16 (drop 1 rest) (omega (arith, room, length-drop 1 rest))),
+    )
+
+pub loop-rest-preserved-then-rest-lt128 : goal.loop-rest-preserved-then-rest-lt128
+loop-rest-preserved-then-rest-lt128 g c =
+    let rest = c.loop-rest.rest.now in
+    let x = slice_index rest 1 in
+    let adds = one_ascii rest c.loop-rest-test.true c.if-rest-lt128.true ∙ ap (λ r. x ∷ units_after_first r) (sym c.split_at-then-rest-lt128.ensures.back) in (
+      omega (arith, c.loop-rest-test.true, c.split_at-then-rest-lt128.ensures.back_len),
+      appended _ c.loop-rest.units.items (x ∷ []) (units_after_first c.split_at-then-rest-lt128.result.1.now) _ (c.in_ok-push-2.ensures.items ∙ ap (λ u. c.loop-rest.units.items ++ (u ∷ [])) c.from.ensures) adds ∙ c.loop-rest.invariant.1,
+      omega (arith, c.loop-rest.invariant.2, c.in_ok-push-2.ensures.capacity),
+      omega (arith, c.loop-rest-test.true, c.loop-rest.invariant.3, c.split_at-then-rest-lt128.ensures.back_len, c.in_ok-push-2.ensures.len),
+    )
+
 pub returns-clause-ok : goal.returns-clause-ok
 returns-clause-ok g c =
-    let items = c.args.units.now.items in
-    let first = slice_index c.args.string.now 0 in
-    let begins = begins_once c.args.string.now c.requires (search rules) in
-    let done =
-    c.in_ok-push_unit.ensures.ok
-    ∙ ap (λ x. items ++ units_by_neighbours 0 first x c.byte_or_zero-2.result) c.byte_or_zero.ensures
-    ∙ ap (λ x. items ++ units_by_neighbours 0 first (slice_index c.args.string.now 1) x) c.byte_or_zero-2.ensures in
-    subst (λ x. OnOk c.push_after_first.result (c.push_after_first.new.units.items ≡ x))
-    (appended _ items _ (units_after_first c.args.string.now) _ done begins) c.push_after_first.ensures.ok
+    let items = c.loop-rest.units.items in
+    sym (ap (λ x. items ++ x) (none_after c.loop-rest.rest.now (omega (arith, c.loop-rest-test.false))) ∙ append-nil items) ∙ c.loop-rest.invariant.1

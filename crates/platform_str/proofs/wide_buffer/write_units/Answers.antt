@@ -1,8 +1,8 @@
-use Rattle.platform_str.proofs.Common.{◌≡◌, ◌++◌, ◌<◌, [], append-nil, ap, sym, subst, ◌∙◌, arith, rules, length, slice_index, units_of}
+use Rattle.platform_str.proofs.Common.{◌++◌, ◌<◌, [], ◌∷◌, append-nil, ap, sym, subst, refl, ◌∙◌, arith, rules, length, length-drop, length-take-le, take, drop, recursion_from_All}
 use Rattle.wtf8_core.specs.Truncated.{IsTruncated}
 use Rattle.wtf8_core.proofs.lemmas.buffers.Truncated.{none_yet}
-use Rattle.platform_str.specs.ToWide.{units_after_first, units_by_neighbours}
-use Rattle.platform_str.proofs.lemmas.ToWide.{begins_once, no_units, none_after}
+use Rattle.platform_str.specs.ToWide.{Appends, units_after_first}
+use Rattle.platform_str.proofs.lemmas.ToWide.{appended, begins_with, block_ascii, no_units, none_after}
 use Rattle.platform_str.proofs.wide_buffer.write_units.Goals as goal
 
 pub returns-then-is_empty : goal.returns-then-is_empty
@@ -16,13 +16,24 @@ loop-rest-init c =
     let s = c.args.string.now in
     let buffer = c.args.buffer.now in
     let some : 0 < length s = search rules in
-    let first = slice_index s 0 in
-    let units = units_by_neighbours 0 first c.byte_or_zero-second.result c.byte_or_zero-third.result in
-    let second = ap (λ x. units_by_neighbours 0 first x c.byte_or_zero-third.result) c.byte_or_zero-second.ensures in
-    let third = ap (λ x. units_by_neighbours 0 first (slice_index s 1) x) c.byte_or_zero-third.ensures in (
+    let begins = begins_with s c.requires some ∙ ap (λ u. u ∷ units_after_first s) (sym c.first_unit.ensures) in (
       some,
-      omega (arith, c.push_unit-count.ensures.few),
-      (units, c.push_unit-count.ensures.written [] buffer (none_yet buffer), ap (λ x. x ++ units_after_first s) (second ∙ third) ∙ sym (begins_once s c.requires some)),
+      omega (arith, c.push_truncated-count.ensures.len),
+      (c.first_unit.result ∷ [], c.push_truncated-count.ensures.written [] buffer (none_yet buffer), sym begins),
+    )
+
+pub loop-rest-preserved-then-goes_on_in_ascii : goal.loop-rest-preserved-then-goes_on_in_ascii
+loop-rest-preserved-then-goes_on_in_ascii c =
+    let rest = c.loop-rest.rest.now in
+    let block = take 16 (drop 1 rest) in
+    let room = c.goes_on_in_ascii.ensures.room c.if-goes_on_in_ascii.true in
+    let ascii = recursion_from_All (λ b. b < 0x80) _ (c.goes_on_in_ascii.ensures.ascii c.if-goes_on_in_ascii.true) in
+    let adds = block_ascii 16 rest room ascii ∙ ap (λ r. block ++ units_after_first r) (sym c.split_at.ensures.back) in
+    let all = c.loop-rest.invariant.2 in
+    let written = subst (λ units. Appends units c.loop-rest.buffer c.loop-rest.count c.push_truncated-count-then-goes_on_in_ascii.new.buffer c.push_truncated-count-then-goes_on_in_ascii.result) c.widened.ensures c.push_truncated-count-then-goes_on_in_ascii.ensures.written in (
+      omega (arith, room, c.split_at.ensures.back_len),
+      omega (arith, room, c.loop-rest.invariant.1, c.split_at.ensures.back_len, c.push_truncated-count-then-goes_on_in_ascii.ensures.len, ap length c.widened.ensures, length-take-le 16 (drop 1 rest) (omega (arith, room, length-drop 1 rest))),
+      (all.0 ++ block, written all.0 c.args.buffer.now all.1, appended _ all.0 block (units_after_first c.split_at.result.1.now) _ refl adds ∙ all.2),
     )
 
 pub returns : goal.returns

@@ -1,6 +1,6 @@
 use Rattle.platform_str.proofs.Common.{◌≡◌, ◌++◌, ◌+◌, ◌≤◌, length, take, drop}
 use Rattle.platform_str.specs.ToWide.{chosen}
-use Rattle.platform_str.proofs.wide_buffer.put_chosen.Given as goal
+use Rattle.platform_str.proofs.to_wide.put_chosen.Given as goal
 
 abbrev pub invariant-loop-i : goal.invariant-loop-i
 invariant-loop-i l =

@@ -1,7 +1,7 @@
 use Rattle.platform_str.proofs.Common.{◌+◌, rules, arith}
 use Rattle.std.proofs.lemmas.Grind.{common_steps}
 use Rattle.platform_str.proofs.lemmas.WideBuffer.{stays}
-use Rattle.platform_str.proofs.wide_buffer.put_chosen.Goals as goal
+use Rattle.platform_str.proofs.to_wide.put_chosen.Goals as goal
 
 pub loop-i-preserved : goal.loop-i-preserved
 loop-i-preserved c = (
