@@ -24,7 +24,7 @@ pub use Rattle.wtf8_core.proofs.lemmas.reader.FirstErr.{ok_values_of_oks, units_
 pub use Rattle.wtf8_core.proofs.lemmas.texts.AreWtf8.{lossy_is_utf8, lossy_text, part_at_start}
 pub use Rattle.wtf8_core.proofs.lemmas.units.AsFunction.{code_points_in-encoded, has_units_of, units_of-is}
 pub use Rattle.wtf8_core.proofs.lemmas.units.OneToOne.{IsUnit, encoded_units, units_once, wide_single}
-pub use Rattle.wtf8_core.proofs.lemmas.units.PrefixTests.{end_tested, prefix_tested, never}
+pub use Rattle.wtf8_core.proofs.lemmas.units.PrefixTests.{end_tested, prefix_tested}
 pub use Rattle.wtf8_core.specs.CodePoint.{IsCodePoint}
 unfoldable pub use Rattle.wtf8_core.specs.CodePoint.{encode, encode_utf16}
 pub use Rattle.wtf8_core.specs.Covered.{StartsWithNoCharacter}

@@ -161,27 +161,15 @@ pub trait OsStrBytes<'a>: Sized + Copy {
             (bytes_of self) (byte_cow_bytes io)) }
         ensures without_memory { Self.Platform.io_safe (bytes_of self) → IsOk result }
     {
-        io_bytes::<Self::Platform, A>(alloc, self.encoded_bytes())
+        let bytes = self.encoded_bytes();
+        if Self::Platform::is_io_safe(bytes) {
+            return Ok(ByteCow::Borrowed(bytes));
+        }
+        Ok(ByteCow::Owned(lossy::text_bytes::<Self::Platform, A>(alloc, bytes)?))
     }
 
     // the bytes of a string are well formed
     ghost formed: { (string : Self) → Self.Platform.well_formed (bytes_of string) };
-}
-
-/// The IO-lossy bytes of a string: its own if they are IO-safe, which doesn't allocate.
-fn io_bytes<'a, E: Platform, A: Allocator>(
-    alloc: A,
-    bytes: &'a [u8],
-) -> Result<ByteCow<'a, A>, AllocError>
-    requires { E.well_formed bytes.now }
-    ensures bytes { IfOk result (λ io. IsIoLossy E.io_safe E.lossy bytes.entry.now
-        (byte_cow_bytes io)) }
-    ensures without_memory { E.io_safe bytes.entry.now → IsOk result }
-{
-    if E::is_io_safe(bytes) {
-        return Ok(ByteCow::Borrowed(bytes));
-    }
-    Ok(ByteCow::Owned(lossy::text_bytes::<E, A>(alloc, bytes)?))
 }
 
 /// A vector of bytes, with any allocator.

@@ -1,5 +1,7 @@
 //! Values that are borrowed or owned, as std's `Cow`.
 ghost use Rattle.std.specs.Prelude.{◌≡◌, ℕ, List};
+ghost use Rattle.platform_str.specs.Strings.{bytes, path_bytes};
+ghost use Rattle.platform_str.specs.Cows.{cow_bytes, path_cow_bytes, byte_cow_bytes, str_cow_bytes};
 
 use crate::os_str::OsStr;
 use crate::os_string::OsString;
@@ -31,9 +33,6 @@ pub enum OsStrCow<'a, E: Platform + 'a, A: Allocator = Global> {
 }
 
 impl<'a, E: Platform, A: Allocator> OsStrCow<'a, E, A> {
-    ghost use Rattle.platform_str.specs.Strings.{bytes};
-    ghost use Rattle.platform_str.specs.Cows.{cow_bytes};
-
     /// A view of the string (std's `Cow::as_ref`).
     ///
     /// ```
@@ -53,8 +52,6 @@ impl<'a, E: Platform, A: Allocator> OsStrCow<'a, E, A> {
 }
 
 impl<'a, E: Platform, A: Allocator> HasBytes for OsStrCow<'a, E, A> {
-    ghost use Rattle.platform_str.specs.Cows.{cow_bytes};
-
     ghost bytes_of = { cow_bytes };
 
     fn bytes(&self) -> &[u8] {
@@ -70,9 +67,6 @@ pub enum PathCow<'a, E: Platform + 'a, A: Allocator = Global> {
 }
 
 impl<'a, E: Platform, A: Allocator> PathCow<'a, E, A> {
-    ghost use Rattle.platform_str.specs.Strings.{path_bytes};
-    ghost use Rattle.platform_str.specs.Cows.{path_cow_bytes};
-
     /// A view of the path (std's `Cow::as_ref`).
     ///
     /// ```
@@ -92,8 +86,6 @@ impl<'a, E: Platform, A: Allocator> PathCow<'a, E, A> {
 }
 
 impl<'a, E: Platform, A: Allocator> HasBytes for PathCow<'a, E, A> {
-    ghost use Rattle.platform_str.specs.Cows.{path_cow_bytes};
-
     ghost bytes_of = { path_cow_bytes };
 
     fn bytes(&self) -> &[u8] {
@@ -109,8 +101,6 @@ pub enum ByteCow<'a, A: Allocator = Global> {
 }
 
 impl<'a, A: Allocator> ByteCow<'a, A> {
-    ghost use Rattle.platform_str.specs.Cows.{byte_cow_bytes};
-
     /// A view of the bytes (std's `Cow::as_ref`).
     ///
     /// ```
@@ -137,8 +127,6 @@ pub enum StrCow<'a, A: Allocator = Global> {
 }
 
 impl<'a, A: Allocator> StrCow<'a, A> {
-    ghost use Rattle.platform_str.specs.Cows.{str_cow_bytes};
-
     /// A view of the text (std's `Cow::as_ref`).
     ///
     /// ```

@@ -1,7 +1,8 @@
 //! Strings as texts for printing, written piece by piece.
-ghost use Rattle.std.specs.Prelude.{◌≡◌};
-ghost use Rattle.std.specs.Fmt.{WritesStyledOnOk};
+ghost use Rattle.std.specs.Prelude.{◌≡◌, Some};
+ghost use Rattle.std.specs.Fmt.{WritesStyledOnOk, spec_fill, spec_align, spec_width};
 ghost use Rattle.platform_str.specs.Strings.{bytes};
+ghost use Rattle.platform_str.specs.Display.{shown_bytes, filled};
 
 use crate::lossy::first_text;
 use crate::os_str::OsStr;
@@ -19,25 +20,10 @@ use std::fmt;
 /// For the Unix string with the bytes 61 E2 82 41 (hexadecimal), `{}` writes "a\u{FFFD}A".
 #[derive(Drop)]
 pub struct OsStrDisplay<'a, E: Platform + 'a> {
-    string: OsStr<'a, E>,
-}
-
-impl<'a, E: Platform> OsStrDisplay<'a, E> {
-    ghost use Rattle.platform_str.specs.Display.{shown_bytes};
-
-    /// The lossy text of this string.
-    pub(crate) fn new(string: OsStr<'a, E>) -> Self
-        ensures { shown_bytes result ≡ bytes string.entry }
-    {
-        OsStrDisplay { string }
-    }
+    pub(crate) string: OsStr<'a, E>,
 }
 
 impl<'a, E: Platform> fmt::Display for OsStrDisplay<'a, E> {
-    ghost use Rattle.std.specs.Prelude.{Some};
-    ghost use Rattle.std.specs.Fmt.{spec_fill, spec_align, spec_width};
-    ghost use Rattle.platform_str.specs.Display.{shown_bytes, filled};
-
     ghost output = { λ shown. Some (E.lossy (shown_bytes shown)) };
 
     ghost styled_output = { λ shown spec. Some (filled (spec_fill spec) (spec_align spec)
@@ -49,8 +35,6 @@ impl<'a, E: Platform> fmt::Display for OsStrDisplay<'a, E> {
 }
 
 impl<'a, E: Platform> Writeable for OsStrDisplay<'a, E> {
-    ghost use Rattle.platform_str.specs.Display.{shown_bytes};
-
     ghost text = { λ shown. E.lossy (shown_bytes shown) };
 
     fn write_to<W: fmt::Write>(&self, f: &mut fmt::Formatter<W>) -> fmt::Result {

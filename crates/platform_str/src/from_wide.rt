@@ -56,8 +56,7 @@ pub(crate) fn wtf8_len(units: &[u16]) -> usize
         if rest.len() > 16 {
             len += 16 + count_from(rest, 0x80) + count_from(rest, 0x800);
             pairs += count_pairs(rest);
-            let (_, after) = rest.split_at(16);
-            rest = after;
+            rest = rest.split_at(16).1;
         } else {
             len += 1 + usize::from(*unit >= 0x80) + usize::from(*unit >= 0x800);
             pairs += usize::from(first_pair(rest).is_some());
@@ -225,16 +224,13 @@ fn write_after_first(bytes: &mut [u8], at: usize, units: &[u16])
         if goes_on_in_ascii(rest) {
             put_ascii(bytes, end, u16x16::from_slice(&rest[1..]).to_array());
             end += 16;
-            let (_, after) = rest.split_at(16);
-            rest = after;
+            rest = rest.split_at(16).1;
         } else if rest.len() > 20 {
             end = put_block(bytes, end, rest);
-            let (_, after) = rest.split_at(16);
-            rest = after;
+            rest = rest.split_at(16).1;
         } else {
             end = put_unit(bytes, end, rest[0], rest[1], unit_or_zero(rest, 2));
-            let (_, after) = rest.split_at(1);
-            rest = after;
+            rest = rest.split_at(1).1;
         }
     }
 }

@@ -37,7 +37,6 @@ mod os_string;
 mod path;
 mod platform;
 mod reading;
-mod text;
 mod to_wide;
 pub mod unix;
 pub mod wasm;

@@ -128,23 +128,6 @@ pub(crate) fn text_bytes<E: Platform, A: Allocator>(
     Ok(text)
 }
 
-/// The same for a string whose first fault is known.
-fn text_bytes_from_fault<E: Platform, A: Allocator>(
-    alloc: A,
-    bytes: &[u8],
-    valid: usize,
-    error_len: Option<u8>,
-) -> Result<Vec<u8, A>, AllocError>
-    requires formed { E.well_formed bytes.now }
-    requires fault { IsUtf8Fault bytes.now valid error_len }
-    ensures { IfOk result (λ text. text.items ≡ E.lossy bytes.now) }
-{
-    let mut text = Vec::with_capacity(alloc, text_room(bytes))?;
-    push_replaced(&mut text, bytes, valid)?;
-    push_text::<E, A>(&mut text, after_fault::<E>(bytes, valid, error_len))?;
-    Ok(text)
-}
-
 /// The lossy text of a string whose first fault is known, in new memory.
 pub(crate) fn text<E: Platform, A: Allocator>(
     alloc: A,
@@ -156,7 +139,9 @@ pub(crate) fn text<E: Platform, A: Allocator>(
     requires fault { IsUtf8Fault bytes.now valid error_len }
     ensures { IfOk result (λ text. string_bytes text ≡ E.lossy bytes.now) }
 {
-    let text = text_bytes_from_fault::<E, A>(alloc, bytes, valid, error_len)?;
+    let mut text = Vec::with_capacity(alloc, text_room(bytes))?;
+    push_replaced(&mut text, bytes, valid)?;
+    push_text::<E, A>(&mut text, after_fault::<E>(bytes, valid, error_len))?;
     Ok(unsafe { String::from_utf8_unchecked(text) })
 }
 

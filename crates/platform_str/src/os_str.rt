@@ -51,10 +51,7 @@ impl<'a, E: Platform> OsStr<'a, E> {
     pub fn new(text: &'a str) -> Self
         ensures { bytes result ≡ text.now }
     {
-        OsStr {
-            bytes: text.as_bytes(),
-            platform: PhantomData,
-        }
+        OsStr::from_encoded_bytes_unchecked(text.as_bytes())
     }
 
     /// The string of well-formed bytes (test: [`Platform::check`]). It is std's
@@ -234,7 +231,7 @@ impl<'a, E: Platform> OsStr<'a, E> {
     pub fn display(self) -> OsStrDisplay<'a, E>
         ensures { shown_bytes result ≡ bytes self.entry }
     {
-        OsStrDisplay::new(self)
+        OsStrDisplay { string: self }
     }
 
     /// Writes the lossy text into a buffer, truncated if the buffer is too short for it, and returns
@@ -326,7 +323,7 @@ impl<'a, E: Platform + 'a> OsStrBytes<'a> for OsStr<'a, E> {
 
     fn to_io_bytes(self) -> Option<&'a [u8]> {
         let io = self.as_encoded_bytes();
-        if E::is_io_safe(io) { Some(io) } else { None }
+        E::is_io_safe(io).then_some(io)
     }
 
     fn to_raw_bytes(self) -> ByteCow<'a> {

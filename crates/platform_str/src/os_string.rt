@@ -36,10 +36,7 @@ impl<E: Platform, A: Allocator> OsString<E, A> {
     pub fn new(alloc: A) -> Self
         ensures { (string_vec_of result).items ≡ [] }
     {
-        OsString {
-            vec: Vec::new(alloc),
-            platform: PhantomData,
-        }
+        OsString::from_encoded_bytes_unchecked(Vec::new(alloc))
     }
 
     /// The string of well-formed bytes (test: [`Platform::check`]), in their own vector. It is
@@ -151,10 +148,7 @@ impl<E: Platform, A: Allocator> OsString<E, A> {
     {
         match String::from_utf8(self.vec) {
             Ok(text) => Ok(text),
-            Err(error) => Err(OsString {
-                vec: error.into_bytes(),
-                platform: PhantomData,
-            }),
+            Err(error) => Err(OsString::from_encoded_bytes_unchecked(error.into_bytes())),
         }
     }
 
@@ -218,10 +212,7 @@ impl<E: Platform, A: Allocator> From<String<A>> for OsString<E, A> {
     ghost from_gives = { λ text string. string_vec_of string ≡ string_vec text };
 
     fn from(text: String<A>) -> Self {
-        OsString {
-            vec: text.into_bytes(),
-            platform: PhantomData,
-        }
+        OsString::from_encoded_bytes_unchecked(text.into_bytes())
     }
 }
 
@@ -257,11 +248,7 @@ impl<E: Platform, A: Allocator> OsStringBytes for OsString<E, A> {
 
     fn into_io_vec(self) -> Option<Vec<u8, A>> {
         let vec = self.into_encoded_bytes();
-        if E::is_io_safe(vec.as_slice()) {
-            Some(vec)
-        } else {
-            None
-        }
+        E::is_io_safe(vec.as_slice()).then_some(vec)
     }
 
     fn into_io_vec_lossy(self) -> Vec<u8, A> {

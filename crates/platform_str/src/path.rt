@@ -1,6 +1,8 @@
 //! Strings as paths, borrowed and owned. Paths aren't split into components here.
 ghost use Rattle.std.specs.Prelude.{◌≡◌, []};
-ghost use Rattle.platform_str.specs.Strings.{bytes, string_vec_of};
+ghost use Rattle.platform_str.specs.Strings.{bytes, path_bytes, string_vec_of, path_vec_of};
+ghost use Rattle.platform_str.specs.Display.{shown_bytes};
+ghost use Rattle.platform_str.specs.Cows.{IsOwnedPath};
 
 use crate::convert::{OsStrBytes, OsStringBytes};
 use crate::cow::{ByteCow, PathCow};
@@ -18,9 +20,6 @@ pub struct Path<'a, E: Platform + 'a> {
 }
 
 impl<'a, E: Platform> Path<'a, E> {
-    ghost use Rattle.platform_str.specs.Strings.{path_bytes};
-    ghost use Rattle.platform_str.specs.Display.{shown_bytes};
-
     /// The path of a string; every string is a path (std's `Path::new`).
     ///
     /// ```
@@ -65,9 +64,6 @@ impl<'a, E: Platform> Path<'a, E> {
 }
 
 impl<'a, E: Platform + 'a> OsStrBytes<'a> for Path<'a, E> {
-    ghost use Rattle.platform_str.specs.Strings.{path_bytes};
-    ghost use Rattle.platform_str.specs.Cows.{IsOwnedPath};
-
     type Platform = E;
 
     type Cow = PathCow<'a, E>;
@@ -120,8 +116,6 @@ pub struct PathBuf<E: Platform, A: Allocator = Global> {
 }
 
 impl<E: Platform, A: Allocator> PathBuf<E, A> {
-    ghost use Rattle.platform_str.specs.Strings.{path_bytes, path_vec_of};
-
     /// The empty path (std's `PathBuf::new`). It doesn't allocate.
     ///
     /// ```
@@ -132,9 +126,7 @@ impl<E: Platform, A: Allocator> PathBuf<E, A> {
     pub fn new(alloc: A) -> Self
         ensures { (path_vec_of result).items ≡ [] }
     {
-        PathBuf {
-            inner: OsString::new(alloc),
-        }
+        PathBuf::from(OsString::new(alloc))
     }
 
     /// A view of the path (std's `PathBuf::as_path`).
@@ -176,8 +168,7 @@ impl<E: Platform, A: Allocator> PathBuf<E, A> {
     pub fn into_os_string(self) -> OsString<E, A>
         ensures { string_vec_of result ≡ path_vec_of self }
     {
-        let PathBuf { inner } = self;
-        inner
+        self.inner
     }
 }
 
@@ -185,8 +176,6 @@ impl<E: Platform, A: Allocator> PathBuf<E, A> {
 ///
 /// `PathBuf::from(string).into_os_string()` is the string again.
 impl<E: Platform, A: Allocator> From<OsString<E, A>> for PathBuf<E, A> {
-    ghost use Rattle.platform_str.specs.Strings.{path_vec_of};
-
     ghost from_gives = { λ string path. path_vec_of path ≡ string_vec_of string };
 
     fn from(string: OsString<E, A>) -> Self {
@@ -198,8 +187,6 @@ impl<E: Platform, A: Allocator> From<OsString<E, A>> for PathBuf<E, A> {
 ///
 /// `PathBuf::from(OsString::from(path))` is the path again.
 impl<E: Platform, A: Allocator> From<PathBuf<E, A>> for OsString<E, A> {
-    ghost use Rattle.platform_str.specs.Strings.{path_vec_of};
-
     ghost from_gives = { λ path string. string_vec_of string ≡ path_vec_of path };
 
     fn from(path: PathBuf<E, A>) -> Self {
@@ -208,8 +195,6 @@ impl<E: Platform, A: Allocator> From<PathBuf<E, A>> for OsString<E, A> {
 }
 
 impl<E: Platform, A: Allocator> OsStringBytes for PathBuf<E, A> {
-    ghost use Rattle.platform_str.specs.Strings.{path_vec_of};
-
     type Platform = E;
 
     type Alloc = A;

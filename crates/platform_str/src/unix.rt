@@ -4,8 +4,7 @@ ghost use Rattle.std.specs.Str.Lossy.{utf8_lossy};
 ghost use Rattle.wtf8_core.specs.Byte.{IsByte};
 ghost use Rattle.wtf8_core.specs.Utf8.{IsIllFormedPart};
 ghost use Rattle.platform_str.specs.PlatformWords.{itself};
-ghost use Rattle.platform_str.specs.platforms.Unix.{IsNoFault, AreAboveAscii, IsSame, bytes_prop};
-ghost use Rattle.platform_str.specs.platforms.Unix.{unix_laws, unix_parts, unix_readings, unix_occurrence};
+ghost use Rattle.platform_str.specs.platforms.Unix.{IsNoFault, AreAboveAscii, IsSame, bytes_prop, unix_laws, unix_parts, unix_readings, unix_occurrence};
 
 use crate::join::append;
 use crate::platform::{Platform, Unix};

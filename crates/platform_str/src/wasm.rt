@@ -2,16 +2,14 @@
 ghost use Rattle.std.specs.Str.{IsUtf8};
 ghost use Rattle.wtf8_core.proofs.lemmas.forms.Propositions.{utf8_prop};
 ghost use Rattle.platform_str.specs.PlatformWords.{itself, IsThree};
-ghost use Rattle.platform_str.specs.platforms.Wasm.{IsTextFault, AreNone};
-ghost use Rattle.platform_str.specs.platforms.Wasm.{wasm_laws, wasm_parts, wasm_readings, wasm_occurrence};
+ghost use Rattle.platform_str.specs.platforms.Wasm.{IsTextFault, AreNone, wasm_laws, wasm_parts, wasm_readings, wasm_occurrence};
 ghost use Rattle.wtf8_core.specs.Lossy.{IsLossyText};
 
 use crate::join::append;
 use crate::lossy;
 use crate::platform::{Platform, Unix, Wasm};
-use crate::text::is_text;
 use std::alloc::{AllocError, Allocator, Global};
-use wtf8_core::{EncodingError, utf8_fault};
+use wtf8_core::{EncodingError, is_utf8, utf8_fault};
 
 /// A borrowed string of wasm.
 pub type OsStr<'a> = crate::OsStr<'a, Wasm>;
@@ -73,7 +71,7 @@ impl Platform for Wasm {
     }
 
     fn is_io_safe(bytes: &[u8]) -> bool {
-        is_text(bytes)
+        is_utf8(bytes)
     }
 
     fn lossy_len(_bytes: &[u8]) -> usize {

@@ -1,7 +1,8 @@
 //! The units of Windows strings.
-ghost use Rattle.std.specs.Prelude.{◌≡◌, ℕ, List, [], IsOk, IfOk};
+ghost use Rattle.std.specs.Prelude.{◌≡◌, ℕ, List, [], map, Ok, IsOk, IfOk};
 ghost use Rattle.std.specs.Iterator.{YieldsFirst, item_count};
 ghost use Rattle.wtf8_core.specs.Wtf8.{HasUnits};
+ghost use Rattle.wtf8_core.specs.UnitsOf.{ok_values};
 ghost use Rattle.wtf8_core.specs.Truncated.{IsTruncated};
 ghost use Rattle.platform_str.specs.Strings.{bytes, string_vec_of};
 
@@ -23,9 +24,6 @@ pub struct WideUnits<'a> {
 }
 
 impl<'a> Model for WideUnits<'a> {
-    ghost use Rattle.std.specs.Prelude.{List, ℕ, ◌≡◌, map, Ok};
-    ghost use Rattle.wtf8_core.specs.UnitsOf.{ok_values};
-
     ghost Value = { List ℕ };
 
     ghost view = { λ it. ok_values it.items };

@@ -13,9 +13,8 @@ ghost use Rattle.wtf8_core.specs.LossyReading.{IsLossyReading};
 use crate::join::push_wtf8;
 use crate::platform::{Platform, Windows};
 use crate::reading::read_wtf8;
-use crate::text::is_text;
 use std::alloc::{AllocError, Allocator, Global};
-use wtf8_core::{Checker, EncodingError, encode_wide, surrogate_fault};
+use wtf8_core::{Checker, EncodingError, encode_wide, is_utf8, surrogate_fault};
 
 /// A borrowed string of Windows.
 pub type OsStr<'a> = crate::OsStr<'a, Windows>;
@@ -79,7 +78,7 @@ impl Platform for Windows {
     }
 
     fn is_io_safe(bytes: &[u8]) -> bool {
-        is_text(bytes)
+        is_utf8(bytes)
     }
 
     fn lossy_len(_bytes: &[u8]) -> usize {

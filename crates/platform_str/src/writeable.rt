@@ -1,9 +1,8 @@
 //! Texts that are written piece by piece, filled to the width of a formatter.
-ghost use Rattle.std.specs.Prelude.{◌≡◌, ◌-◌, ◌≤◌, length, IfOk};
+ghost use Rattle.std.specs.Prelude.{◌≡◌, ◌-◌, ◌≤◌, ℕ, List, length, IfOk};
 ghost use Rattle.std.specs.Char.{encode_utf8};
 ghost use Rattle.std.specs.List.{repeat};
-ghost use Rattle.std.specs.Fmt.{WritesOnOk, WritesStyledOnOk, char_count, formatter_spec, is_char_start};
-ghost use Rattle.std.specs.Fmt.{spec_align, spec_fill, spec_width};
+ghost use Rattle.std.specs.Fmt.{WritesOnOk, WritesStyledOnOk, char_count, formatter_spec, is_char_start, spec_align, spec_fill, spec_width};
 ghost use Rattle.platform_str.specs.Display.{fill_before, filled};
 
 use std::fmt;
@@ -12,9 +11,6 @@ use std::fmt;
 ///
 /// [`write_filled`] writes such a text to the width that a formatter has.
 pub trait Writeable {
-    ghost use Rattle.std.specs.Prelude.{List, ℕ};
-    ghost use Rattle.std.specs.Fmt.{WritesStyledOnOk};
-
     /// The text.
     ghost text: { Self → List ℕ };
 
@@ -99,9 +95,6 @@ struct Shortfall {
 }
 
 impl fmt::Write for Shortfall {
-    ghost use Rattle.std.specs.Prelude.{◌≡◌, ◌-◌};
-    ghost use Rattle.std.specs.Fmt.{char_count};
-
     ghost write_str_gives = { λ before text after. after.left ≡ before.left - char_count text };
 
     fn write_str(&mut self, text: &str) -> fmt::Result {
