@@ -9,13 +9,18 @@
 //! and [`shell`] and [`powershell`] words of a shell, [`shell_words`] lines of them,
 //! [`windows_quote`], [`windows_name`] and [`windows_arguments`] command lines of Windows, and
 //! [`options`] options and operands. [`laws`] says what whole walks and whole lines give,
-//! [`fill_laws`] what filled arrays hold, and [`uses`], [`fill_uses`], [`line_uses`], [`path_uses`],
-//! [`glob_uses`] and [`ignore_uses`] conclude from it.
+//! [`fill_laws`] what filled arrays hold, and [`string_uses`], [`uses`], [`fill_uses`], [`line_uses`],
+//! [`path_part_uses`], [`path_uses`], [`glob_uses`] and [`ignore_uses`] conclude from it.
 //!
 //! A slice crosses as a pointer and a length. Each export takes any values: a platform, a pattern,
 //! an index or a fault that there isn't is answered by a status ([`status`]), so none has a
 //! `requires`. What no export can test is what its pointers point to; the edge in C (`c/osbytes.c`)
 //! tests what of it C can.
+//!
+//! The callers in the modules `.._uses` show that wrong bodies are refused: each is proved from the
+//! contract of an export alone, and its own contract would be false with a wrong body, so a contract
+//! that let the body through would leave the caller unproved. Where one asks for another status than
+//! `DONE`, it asks for its number, as C sees it, since a name would follow a wrong constant.
 #![tactic(auto)]
 
 pub mod boundary;
@@ -43,6 +48,7 @@ pub mod part_list;
 pub mod path_forms;
 pub mod path_joins;
 pub mod path_names;
+pub mod path_part_uses;
 mod path_parts;
 mod path_spans;
 pub mod path_tests;
@@ -58,6 +64,7 @@ pub mod span;
 pub mod split;
 pub mod split_fill;
 pub mod status;
+pub mod string_uses;
 mod strings;
 pub mod symbols;
 pub mod symbols_fill;

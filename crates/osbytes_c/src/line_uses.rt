@@ -1,6 +1,5 @@
-//! For trying: what a caller of words, command lines and options concludes from one call without a buffer,
-//! in each outcome.
-ghost use Rattle.std.specs.Prelude.{◌≡◌, ◌⊎◌, ◌≤◌, ◌<◌, ◌*◌, ◌+◌, ◌∷◌, false, List, ℕ, Option, drop, length, MatchOption};
+//! For trying: what a caller of words, command lines and options concludes from one call, in each outcome.
+ghost use Rattle.std.specs.Prelude.{◌≡◌, ◌⊎◌, ◌≤◌, ◌<◌, ◌↔◌, ◌*◌, ◌+◌, ◌∷◌, true, false, List, ℕ, Option, drop, length, take, IfSome, MatchOption};
 ghost use Rattle.std.specs.Str.{chars};
 ghost use Rattle.wtf8_core.specs.Occurrence.{IsPrefix};
 ghost use Rattle.wtf8_core.specs.UnitsOf.{units_of};
@@ -14,7 +13,7 @@ ghost use Rattle.os_command_line.specs.Windows.{IsCommandLine, IsTextOf};
 ghost use Rattle.os_command_line.specs.WindowsWriting.{IsFirstAt};
 ghost use Rattle.osbytes_c.specs.CommandLines.{quoted_name};
 ghost use Rattle.osbytes_c.specs.Faults.{IsWtf8Report};
-ghost use Rattle.osbytes_c.specs.Lines.{IsFaultOf, ended, language_of};
+ghost use Rattle.osbytes_c.specs.Lines.{AreEndedWords, IsFaultOf, ended, language_of};
 
 use crate::fault::Fault;
 use crate::options::{OptionSpan, osb_core_flag, osb_core_option};
@@ -37,6 +36,28 @@ pub fn word_len(name: &[u8]) -> Option<usize>
         0 | 2 => Some(count),
         _ => None,
     }
+}
+
+/// The index of a name's first NUL, or `None` if it has none or is too long.
+pub fn nul_in(name: &[u8]) -> Option<usize>
+    ensures { MatchOption result (HasNoNul name.now ⊎ (usize.MAX < 4 * length name.now + 3))
+        (λ index. IsFirstNul name.now index) }
+{
+    let mut count = 0;
+    let mut index = 0;
+    match osb_core_shell_quote(name, &mut [], &mut count, &mut index) {
+        7 => Some(index),
+        _ => None,
+    }
+}
+
+/// Whether a name is too long for the length of its word to be a `usize`.
+pub fn is_too_long(name: &[u8]) -> bool
+    ensures { (result ≡ true) ↔ (usize.MAX < 4 * length name.now + 3) }
+{
+    let mut count = 0;
+    let mut index = 0;
+    osb_core_shell_quote(name, &mut [], &mut count, &mut index) == 21
 }
 
 /// The same on one line.
@@ -145,6 +166,19 @@ pub fn words_len(options: u32, line: &[u8]) -> Option<usize>
     }
 }
 
+/// How many bytes the words of a line take in a buffer with a 0 after each, if there is room for all.
+pub fn words_in(options: u32, line: &[u8], buffer: &mut [u8]) -> Option<usize>
+    ensures { IfSome result
+        (λ len. AreEndedWords (language_of options) line.now (take len buffer.new)) }
+{
+    let mut count = 0;
+    let mut fault = LineFault { kind: 0, index: 0 };
+    match osb_core_shell_words(options, line, buffer, &mut count, &mut fault) {
+        0 => Some(count),
+        _ => None,
+    }
+}
+
 /// How many units a line's program's name and its arguments have with a 0 after each; `None` if the line is
 /// no string, has a NUL or is too long.
 pub fn arguments_len(line: &[u8]) -> Option<usize>
@@ -202,4 +236,17 @@ pub fn flag_end(word: &[u8], at: usize) -> Option<usize>
         0 => Some(span.end),
         _ => None,
     }
+}
+
+/// Whether a value begins at an index of a word.
+pub fn begins_value(word: &[u8], at: usize) -> bool
+    ensures { (result ≡ true) ↔ IsPrefix equals (drop at word.now) }
+{
+    let mut span = OptionSpan {
+        kind: 0,
+        value: 0,
+        start: 0,
+        end: 0,
+    };
+    osb_core_flag(word, at, &mut span) == 3
 }

@@ -1,5 +1,5 @@
 //! For trying: what a caller of one step concludes from its contract and the laws of whole walks.
-ghost use Rattle.std.specs.Prelude.{◌≡◌, true, [], ◌∷◌};
+ghost use Rattle.std.specs.Prelude.{◌≡◌, ◌<◌, ◌≤◌, true, [], ◌∷◌, drop, length, IfSome};
 ghost use Rattle.wtf8_core.specs.Chunks.{Chunk, AreChunks};
 ghost use Rattle.wtf8_core.specs.Pieces.{IsSplit, IsRSplit};
 ghost use Rattle.os_str_ext.specs.Symbols.{AreSymbols};
@@ -75,5 +75,23 @@ pub fn is_one_symbol(platform: u32, bytes: &[u8]) -> bool
         step.end == bytes.len()
     } else {
         false
+    }
+}
+
+/// Where the symbol ends that comes after an index of a string of a platform.
+pub fn symbol_end(platform: u32, bytes: &[u8], at: usize) -> Option<usize>
+    ensures within { IfSome result (λ end. (at < end) × (end ≤ length bytes.now)) }
+    ensures rest { IfSome result (λ end. IsString platform (drop at bytes.now)
+        → IsString platform (drop end bytes.now)) }
+{
+    let mut step = Step {
+        kind: 0,
+        value: 0,
+        end: 0,
+    };
+    if osb_core_symbol(platform, bytes, at, &mut step) == DONE {
+        Some(step.end)
+    } else {
+        None
     }
 }

@@ -1,13 +1,13 @@
 -- Parts of a path, by their indices.
 use Rattle.std.proofs.Common.{◌≡◌, inl, inr, ℕ, ◌+◌, ◌-◌, ◌≤◌, List, [], ◌∷◌, ◌++◌, length, take, drop, sym, ap, ◌∙◌, subst, append-nil, append_assoc, length-append, take-take, arith}
-use Rattle.std.proofs.lemmas.List.{drop-take, drop-drop, length-drop, length-take-le}
+use Rattle.std.proofs.lemmas.List.{drop-take, drop-drop, length-drop, length-take-le, take_all}
 use Rattle.std.proofs.Math.Seq.{take-append_seam, drop-append_seam}
 use Rattle.path_rules.specs.declared.rules.Style.{Style}
 use Rattle.path_rules.specs.Name.{IsStem, IsExtension}
 use Rattle.osbytes_c.specs.declared.part_list.Part.{Part}
 use Rattle.osbytes_c.specs.declared.span.Span.{Span}
-use Rattle.osbytes_c.specs.PathParts.{IsLastName}
-use Rattle.osbytes_c.specs.PathSpans.{IsNameSpan}
+use Rattle.osbytes_c.specs.PathParts.{AreParts, IsLastName}
+use Rattle.osbytes_c.specs.PathSpans.{IsNameSpan, WritesParts}
 use Rattle.osbytes_c.specs.Steps.{part}
 
 -- what is left at the end, from its index on
@@ -56,3 +56,10 @@ span_of p = record { start = p.start; end = p.end }
 
 pub is_name_span : (style : Style) (path : List ℕ) (p : Part) → IsLastName style path p → IsNameSpan style path (span_of p)
 is_name_span style path p last = subst (λ k. IsLastName style path (record { kind = k; start = p.start; end = p.end })) last.name last
+
+-- where there was room, all components are there
+pub parts_there : {style : Style} {path : List ℕ} {old new : List Part} {count : ℕ} → WritesParts style path old new count × (count ≤ length old) → AreParts style path (take count new)
+parts_there {style} {path} {old} {new} {count} w =
+    let t = w.0.1.1 in
+    let all = take_all (length old) w.0.0 (omega (arith, w.1, t.count_is)) in
+    subst (AreParts style path) (sym all ∙ t.prefix) w.0.1.0
