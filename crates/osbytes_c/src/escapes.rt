@@ -7,8 +7,8 @@ ghost use Rattle.osbytes_c.specs.Faults.{IsString, IsReport};
 ghost use Rattle.osbytes_c.specs.Platforms.{units_on};
 
 use crate::fault::Fault;
-use crate::status::{DONE, FAULTY, NO_PLATFORM, NO_ROOM, TOO_LONG};
-use crate::strings::{unix, wasm, windows};
+use crate::on_platform::on_string;
+use crate::status::{DONE, NO_ROOM, TOO_LONG};
 use os_quote::{write_escape, write_escape_line};
 use platform_str::{OsStr, Platform};
 
@@ -35,18 +35,7 @@ pub extern "C" fn osb_core_escape(
     ensures answers { (result ≡ 0) ⊎ ((result ≡ 2) ⊎ ((result ≡ 1)
         ⊎ ((result ≡ 21) ⊎ (result ≡ 16)))) }
 {
-    match platform {
-        0 => escape(unix(bytes), out, count),
-        1 => match windows(bytes, fault) {
-            Some(string) => escape(string, out, count),
-            None => FAULTY,
-        },
-        2 => match wasm(bytes, fault) {
-            Some(string) => escape(string, out, count),
-            None => FAULTY,
-        },
-        _ => NO_PLATFORM,
-    }
+    on_string!(platform, bytes, fault, string => escape(string, out, count))
 }
 
 /// The same of the escape on one line.
@@ -70,18 +59,7 @@ pub extern "C" fn osb_core_escape_line(
     ensures answers { (result ≡ 0) ⊎ ((result ≡ 2) ⊎ ((result ≡ 1)
         ⊎ ((result ≡ 21) ⊎ (result ≡ 16)))) }
 {
-    match platform {
-        0 => escape_line(unix(bytes), out, count),
-        1 => match windows(bytes, fault) {
-            Some(string) => escape_line(string, out, count),
-            None => FAULTY,
-        },
-        2 => match wasm(bytes, fault) {
-            Some(string) => escape_line(string, out, count),
-            None => FAULTY,
-        },
-        _ => NO_PLATFORM,
-    }
+    on_string!(platform, bytes, fault, string => escape_line(string, out, count))
 }
 
 /// The escape of a string.

@@ -8,9 +8,10 @@ ghost use Rattle.osbytes_c.specs.Platforms.{formed_on, units_on};
 
 use crate::built::write_list;
 use crate::item_list::first_item;
-use crate::status::{FAULTY, NO_MEMORY, NO_OPTION, NO_PATTERN, NO_PLATFORM};
+use crate::on_platform::on_platform;
+use crate::status::{FAULTY, NO_MEMORY, NO_OPTION, NO_PATTERN};
 use glob_patterns::{FaultKind, GlobOptions, GlobSet, GlobSetError, Separators};
-use platform_str::{OsStr, Platform, Unix, Wasm, Windows};
+use platform_str::{OsStr, Platform};
 use std::alloc::Global;
 
 /// The first pattern that has a fault, and what is wrong with it.
@@ -62,12 +63,10 @@ pub extern "C" fn osb_core_glob_matches(
     let Some(options) = options_of(options) else {
         return NO_OPTION;
     };
-    match platform {
-        0 => matches_on::<Unix>(alloc, options, patterns, paths, matched, count, fault),
-        1 => matches_on::<Windows>(alloc, options, patterns, paths, matched, count, fault),
-        2 => matches_on::<Wasm>(alloc, options, patterns, paths, matched, count, fault),
-        _ => NO_PLATFORM,
-    }
+    on_platform!(
+        platform,
+        matches_on(alloc, options, patterns, paths, matched, count, fault)
+    )
 }
 
 /// The options with this number.

@@ -43,6 +43,7 @@ mod item_list;
 pub mod laws;
 pub mod line_uses;
 pub mod lossy;
+mod on_platform;
 pub mod options;
 pub mod part_list;
 pub mod path_forms;

@@ -6,8 +6,8 @@ ghost use Rattle.osbytes_c.specs.Faults.{IsString, IsReport};
 ghost use Rattle.osbytes_c.specs.Platforms.{lossy_on};
 
 use crate::fault::Fault;
-use crate::status::{DONE, FAULTY, NO_PLATFORM, NO_ROOM, TOO_LONG};
-use crate::strings::{unix, wasm, windows};
+use crate::on_platform::on_string;
+use crate::status::{DONE, NO_ROOM, TOO_LONG};
 use platform_str::{OsStr, Platform};
 
 /// Writes the lossy text of a string of a platform into `out`, as far as there is room, and counts
@@ -33,18 +33,7 @@ pub extern "C" fn osb_core_lossy(
     ensures answers { (result ≡ 0) ⊎ ((result ≡ 2) ⊎ ((result ≡ 1)
         ⊎ ((result ≡ 21) ⊎ (result ≡ 16)))) }
 {
-    match platform {
-        0 => write_lossy(unix(bytes), out, count),
-        1 => match windows(bytes, fault) {
-            Some(string) => write_lossy(string, out, count),
-            None => FAULTY,
-        },
-        2 => match wasm(bytes, fault) {
-            Some(string) => write_lossy(string, out, count),
-            None => FAULTY,
-        },
-        _ => NO_PLATFORM,
-    }
+    on_string!(platform, bytes, fault, string => write_lossy(string, out, count))
 }
 
 /// The same of a string.

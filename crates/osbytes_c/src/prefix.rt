@@ -4,9 +4,10 @@ ghost use Rattle.wtf8_core.specs.Occurrence.{IsPrefix, IsSuffix};
 ghost use Rattle.osbytes_c.specs.Faults.{IsString, IsUnstring};
 ghost use Rattle.osbytes_c.specs.Platforms.{units_on};
 
-use crate::status::{DONE, FAULTY, NO_PLATFORM, NONE};
+use crate::on_platform::on_platform;
+use crate::status::{DONE, FAULTY, NONE};
 use os_str_ext::OsStrBytesExt;
-use platform_str::{OsStr, Platform, Unix, Wasm, Windows};
+use platform_str::{OsStr, Platform};
 
 /// Whether the units of a string start with those of another string of the platform.
 #[unsafe(no_mangle)]
@@ -23,12 +24,7 @@ pub extern "C" fn osb_core_starts_with_units(platform: u32, bytes: &[u8], prefix
     ensures answers { (result ≡ 0) ⊎ ((result ≡ 3) ⊎ ((result ≡ 1)
         ⊎ (result ≡ 16))) }
 {
-    match platform {
-        0 => starts_with::<Unix>(bytes, prefix),
-        1 => starts_with::<Windows>(bytes, prefix),
-        2 => starts_with::<Wasm>(bytes, prefix),
-        _ => NO_PLATFORM,
-    }
+    on_platform!(platform, starts_with(bytes, prefix))
 }
 
 /// Whether the units of a string end with those of another string of the platform.
@@ -46,12 +42,7 @@ pub extern "C" fn osb_core_ends_with_units(platform: u32, bytes: &[u8], suffix: 
     ensures answers { (result ≡ 0) ⊎ ((result ≡ 3) ⊎ ((result ≡ 1)
         ⊎ (result ≡ 16))) }
 {
-    match platform {
-        0 => ends_with::<Unix>(bytes, suffix),
-        1 => ends_with::<Windows>(bytes, suffix),
-        2 => ends_with::<Wasm>(bytes, suffix),
-        _ => NO_PLATFORM,
-    }
+    on_platform!(platform, ends_with(bytes, suffix))
 }
 
 /// The same of one platform.

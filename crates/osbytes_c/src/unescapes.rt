@@ -5,9 +5,10 @@ ghost use Rattle.os_quote.specs.Escape.{IsBadEscape, IsBadLineEscape, IsQuoteFau
 ghost use Rattle.os_quote.specs.Unescaped.{IsUnescaped, IsLineUnescaped};
 ghost use Rattle.osbytes_c.specs.Platforms.{formed_on, units_on};
 
-use crate::status::{BAD_ESCAPE, DONE, NO_PATTERN, NO_PLATFORM, NO_ROOM, NO_STRING};
+use crate::on_platform::on_platform;
+use crate::status::{BAD_ESCAPE, DONE, NO_PATTERN, NO_ROOM, NO_STRING};
 use os_quote::{QuoteError, write_unescaped_bytes, write_unescaped_line_bytes};
-use platform_str::{Platform, Unix, Wasm, Windows};
+use platform_str::Platform;
 
 /// Writes the string of a platform with this escape into `out`, as far as there is room, and counts
 /// its bytes: at most one for each byte of the escape. Without room for it, the escape may still be
@@ -32,12 +33,7 @@ pub extern "C" fn osb_core_unescape(
     ensures answers { (result ≡ 0) ⊎ ((result ≡ 2) ⊎ ((result ≡ 5)
         ⊎ ((result ≡ 6) ⊎ ((result ≡ 17) ⊎ (result ≡ 16))))) }
 {
-    match platform {
-        0 => unescape::<Unix>(escape, out, count, index),
-        1 => unescape::<Windows>(escape, out, count, index),
-        2 => unescape::<Wasm>(escape, out, count, index),
-        _ => NO_PLATFORM,
-    }
+    on_platform!(platform, unescape(escape, out, count, index))
 }
 
 /// The same of an escape on one line.
@@ -61,12 +57,7 @@ pub extern "C" fn osb_core_unescape_line(
     ensures answers { (result ≡ 0) ⊎ ((result ≡ 2) ⊎ ((result ≡ 5)
         ⊎ ((result ≡ 6) ⊎ ((result ≡ 17) ⊎ (result ≡ 16))))) }
 {
-    match platform {
-        0 => unescape_line::<Unix>(escape, out, count, index),
-        1 => unescape_line::<Windows>(escape, out, count, index),
-        2 => unescape_line::<Wasm>(escape, out, count, index),
-        _ => NO_PLATFORM,
-    }
+    on_platform!(platform, unescape_line(escape, out, count, index))
 }
 
 /// The string of one platform.
