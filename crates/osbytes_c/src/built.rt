@@ -1,5 +1,5 @@
 //! What was built in memory of its own, in a buffer that may be too short for it.
-ghost use Rattle.std.specs.Prelude.{◌≡◌, ◌∷◌, [], length};
+ghost use Rattle.std.specs.Prelude.{◌∷◌, [], length};
 ghost use Rattle.wtf8_core.specs.Truncated.{IsTruncated};
 ghost use Rattle.osbytes_c.specs.Answers.{IsDone, IsOneOf};
 

@@ -1,5 +1,5 @@
 //! For trying: what a caller concludes from the contracts of the calls that fill arrays.
-ghost use Rattle.std.specs.Prelude.{◌≡◌, ◌++◌, IfSome, length, map, take};
+ghost use Rattle.std.specs.Prelude.{◌++◌, IfSome, map, take};
 ghost use Rattle.wtf8_core.specs.Chunks.{AreChunks};
 ghost use Rattle.wtf8_core.specs.Pieces.{IsSplit, IsRSplit};
 ghost use Rattle.osbytes_c.specs.ChunkFills.{viewed_chunk};

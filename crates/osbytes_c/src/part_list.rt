@@ -1,8 +1,8 @@
 //! The components of a path, by their indices, in an array that may be too short for them.
-ghost use Rattle.std.specs.Prelude.{◌≡◌, ◌+◌, ◌<◌, ◌^◌, ◌∷◌, [], List, length, MatchOption};
+ghost use Rattle.std.specs.Prelude.{◌≡◌, ◌+◌, ◌<◌, ◌^◌, ◌∷◌, []};
 ghost use Rattle.path_rules.specs.Views.{item_of};
 ghost use Rattle.osbytes_c.specs.PathParts.{kind_number};
-ghost use Rattle.osbytes_c.specs.PartBuffers.{PartsTruncated, PushesPart};
+ghost use Rattle.osbytes_c.specs.PartBuffers.{PushesPart};
 
 use path_rules::Component;
 

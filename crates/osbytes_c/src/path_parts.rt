@@ -7,7 +7,7 @@ ghost use Rattle.osbytes_c.specs.PartBuffers.{PushesPart};
 ghost use Rattle.osbytes_c.specs.PathSpans.{WritesParts};
 
 use crate::part_list::{Part, kind_number, push};
-use path_rules::parts::{Head, Start, component_of, head_of};
+use path_rules::parts::{Start, component_of, head_of};
 use path_rules::{Rules, Style};
 
 /// The index of the first separator, or the length if there is none.

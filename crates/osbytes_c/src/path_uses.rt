@@ -1,5 +1,5 @@
 //! For trying: what a caller of what builds paths concludes, in each outcome.
-ghost use Rattle.std.specs.Prelude.{◌≡◌, ◌≤◌, ◌<◌, Bool, Some, None, take, IfOk, IfErr};
+ghost use Rattle.std.specs.Prelude.{◌≡◌, ◌<◌, Bool, Some, None, take, IfOk, IfErr};
 ghost use Rattle.path_building.specs.declared.styles.StyleError.TheVariants as style_error;
 ghost use Rattle.path_building.specs.Checked.{IsCheckedJoin};
 ghost use Rattle.path_building.specs.Cleaned.{IsCleaned};

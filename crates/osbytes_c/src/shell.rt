@@ -1,6 +1,5 @@
 //! Names as words of a shell.
 ghost use Rattle.std.specs.Prelude.{◌≡◌, ◌⊎◌, ◌<◌, ◌↔◌, ◌*◌, ◌+◌, ◌^◌, ◌∷◌, [], length, MatchResult, OnOk};
-ghost use Rattle.wtf8_core.specs.Truncated.{IsTruncated};
 ghost use Rattle.os_command_line.specs.Fish.{fish_word, IsFishText};
 ghost use Rattle.os_command_line.specs.ShellWriting.{quoted_word, IsLineWord, HasNoNul, IsFirstNul};
 ghost use Rattle.osbytes_c.specs.Answers.{IsOneOf, IsWritten, Writes};

@@ -1,5 +1,5 @@
 -- Items of a list, one after the other.
-use Rattle.std.proofs.Common.{◌≡◌, ℕ, List, [], ◌∷◌, ◌++◌, refl, sym, ◌∙◌, subst}
+use Rattle.std.proofs.Common.{◌≡◌, ℕ, List, [], ◌∷◌, ◌++◌, refl, sym, subst}
 use Rattle.osbytes_c.specs.ItemLists.{IsFirstItem, AreFirstItems, AreItems}
 
 -- one more item

@@ -1,4 +1,4 @@
-use Rattle.std.proofs.Common.{◌≡◌, ◌+◌, ◌-◌, false, [], ◌∷◌, ◌++◌, refl}
+use Rattle.std.proofs.Common.{◌+◌, ◌-◌, false, [], ◌∷◌, ◌++◌, refl}
 use Rattle.osbytes_c.specs.declared.chunks_fill.ChunkView.{ChunkView}
 use Rattle.osbytes_c.specs.ChunkFills.{ShowsChunk}
 use Rattle.osbytes_c.specs.Steps.{IsChunkAt}

@@ -1,4 +1,4 @@
-use Rattle.std.proofs.Common.{◌≡◌, List, [], drop, map, refl, sym, subst, append-nil}
+use Rattle.std.proofs.Common.{List, [], drop, map, refl, sym, subst, append-nil}
 use Rattle.wtf8_core.specs.Chunks.{Chunk, AreChunks}
 use Rattle.osbytes_c.specs.ChunkFills.{viewed_chunk}
 use Rattle.osbytes_c.specs.Fills.{IsLeft}

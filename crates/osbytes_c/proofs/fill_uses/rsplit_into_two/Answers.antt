@@ -1,4 +1,4 @@
-use Rattle.std.proofs.Common.{◌≡◌, [], ◌++◌, length, take, map, refl, sym, subst, append-nil, arith}
+use Rattle.std.proofs.Common.{[], ◌++◌, length, take, map, refl, sym, subst, append-nil, arith}
 use Rattle.std.proofs.lemmas.List.{take_all}
 use Rattle.wtf8_core.specs.Pieces.{IsRSplit}
 use Rattle.osbytes_c.specs.Fills.{IsLeft, viewed}

@@ -1,4 +1,4 @@
-use Rattle.std.proofs.Common.{◌≡◌, List, [], drop, refl, sym, subst, append-nil}
+use Rattle.std.proofs.Common.{List, [], drop, refl, sym, subst, append-nil}
 use Rattle.os_str_ext.specs.Symbols.{AreSymbols}
 use Rattle.os_str_ext.specs.declared.symbols.Symbol.{Symbol}
 use Rattle.osbytes_c.specs.Fills.{IsLeft}

@@ -1,4 +1,4 @@
-use Rattle.std.proofs.Common.{◌≡◌, ◌+◌, ◌-◌, ◌<◌, ◌≤◌, true, false, [], ◌∷◌, ◌++◌, length, refl, arith}
+use Rattle.std.proofs.Common.{◌≡◌, ◌+◌, ◌-◌, true, false, [], ◌∷◌, ◌++◌, refl, arith}
 use Rattle.osbytes_c.specs.declared.split.Piece.{Piece}
 use Rattle.osbytes_c.specs.declared.view.View.{View}
 use Rattle.osbytes_c.proofs.lemmas.Fills.{one_more_filled, one_more_last_piece}
