@@ -1,14 +1,24 @@
 //! For trying: what a caller of what takes paths apart concludes, in each outcome.
-ghost use Rattle.std.specs.Prelude.{◌≡◌, ◌⊎◌, ◌<◌, List, length, take, IfOk, IfErr, MatchOption};
-ghost use Rattle.path_rules.specs.Compare.{StartsWith};
+ghost use Rattle.std.specs.Prelude.{◌≡◌, ◌⊎◌, ◌<◌, ◌↔◌, true, List, length, take, IfOk, IfErr, MatchOption};
+ghost use Rattle.path_rules.specs.Compare.{EndsWith, StartsWith};
 ghost use Rattle.path_rules.specs.Component.{Item};
+ghost use Rattle.path_rules.specs.Parent.{HasNoParent};
+ghost use Rattle.path_rules.specs.Prefix.{IsPrefixed};
+ghost use Rattle.path_rules.specs.Root.{HasRoot, IsAbsolute};
 ghost use Rattle.path_rules.specs.Strip.{IsStripped};
-ghost use Rattle.osbytes_c.specs.PathParts.{AreParts};
-ghost use Rattle.osbytes_c.specs.PathSpans.{style_on};
+ghost use Rattle.osbytes_c.specs.PathParts.{AreParts, HasNoLastName};
+ghost use Rattle.osbytes_c.specs.PathSpans.{HasNoExtensionSpan, IsExtensionSpan, IsNameSpan, IsParentSpan, IsPrefixSpan, IsStemSpan, style_on};
 
 use crate::part_list::Part;
-use crate::path_tests::{Bytes, osb_core_path_strip_prefix};
-use crate::paths::osb_core_path_components;
+use crate::path_tests::{
+    Bytes, osb_core_path_ends_with, osb_core_path_has_root, osb_core_path_is_absolute,
+    osb_core_path_starts_with, osb_core_path_strip_prefix,
+};
+use crate::paths::{
+    osb_core_path_components, osb_core_path_extension, osb_core_path_file_name,
+    osb_core_path_file_stem, osb_core_path_parent, osb_core_path_prefix,
+};
+use crate::span::Span;
 use crate::status::DONE;
 
 /// How many components of a path are written into an array; else the status.
@@ -37,6 +47,114 @@ pub fn rest_after<'a>(platform: u32, path: &'a [u8], base: &[u8]) -> Option<&'a 
     let mut rest = Bytes { bytes: path };
     match osb_core_path_strip_prefix(platform, path, base, &mut rest) {
         DONE => Some(rest.bytes),
+        _ => None,
+    }
+}
+
+/// Whether a path has a root, or `None` if there is no such platform.
+pub fn has_root(platform: u32, path: &[u8]) -> Option<bool>
+    ensures { MatchOption result (2 < platform)
+        (λ is. (is ≡ true) ↔ HasRoot (style_on platform) path.now) }
+{
+    match osb_core_path_has_root(platform, path) {
+        0 => Some(true),
+        3 => Some(false),
+        _ => None,
+    }
+}
+
+/// Whether it is absolute.
+pub fn is_absolute(platform: u32, path: &[u8]) -> Option<bool>
+    ensures { MatchOption result (2 < platform)
+        (λ is. (is ≡ true) ↔ IsAbsolute (style_on platform) path.now) }
+{
+    match osb_core_path_is_absolute(platform, path) {
+        0 => Some(true),
+        3 => Some(false),
+        _ => None,
+    }
+}
+
+/// Whether it starts with the components of a base.
+pub fn starts_with(platform: u32, path: &[u8], base: &[u8]) -> Option<bool>
+    ensures { MatchOption result (2 < platform)
+        (λ is. (is ≡ true) ↔ StartsWith (style_on platform) path.now base.now) }
+{
+    match osb_core_path_starts_with(platform, path, base) {
+        0 => Some(true),
+        3 => Some(false),
+        _ => None,
+    }
+}
+
+/// Whether it ends with those of a child.
+pub fn ends_with(platform: u32, path: &[u8], child: &[u8]) -> Option<bool>
+    ensures { MatchOption result (2 < platform)
+        (λ is. (is ≡ true) ↔ EndsWith (style_on platform) path.now child.now) }
+{
+    match osb_core_path_ends_with(platform, path, child) {
+        0 => Some(true),
+        3 => Some(false),
+        _ => None,
+    }
+}
+
+/// Where the parent of a path is; `None` if it has none, or there is no such platform.
+pub fn parent_of(platform: u32, path: &[u8]) -> Option<Span>
+    ensures { MatchOption result ((2 < platform) ⊎ HasNoParent (style_on platform) path.now)
+        (λ span. IsParentSpan (style_on platform) path.now span) }
+{
+    let mut span = Span { start: 0, end: 0 };
+    match osb_core_path_parent(platform, path, &mut span) {
+        0 => Some(span),
+        _ => None,
+    }
+}
+
+/// The same of its last component, if that is a name.
+pub fn name_of(platform: u32, path: &[u8]) -> Option<Span>
+    ensures { MatchOption result ((2 < platform) ⊎ HasNoLastName (style_on platform) path.now)
+        (λ span. IsNameSpan (style_on platform) path.now span) }
+{
+    let mut span = Span { start: 0, end: 0 };
+    match osb_core_path_file_name(platform, path, &mut span) {
+        0 => Some(span),
+        _ => None,
+    }
+}
+
+/// The same of that name without its extension.
+pub fn stem_of(platform: u32, path: &[u8]) -> Option<Span>
+    ensures { MatchOption result ((2 < platform) ⊎ HasNoLastName (style_on platform) path.now)
+        (λ span. IsStemSpan (style_on platform) path.now span) }
+{
+    let mut span = Span { start: 0, end: 0 };
+    match osb_core_path_file_stem(platform, path, &mut span) {
+        0 => Some(span),
+        _ => None,
+    }
+}
+
+/// The same of its extension.
+pub fn extension_of(platform: u32, path: &[u8]) -> Option<Span>
+    ensures { MatchOption result ((2 < platform) ⊎ HasNoExtensionSpan (style_on platform) path.now)
+        (λ span. IsExtensionSpan (style_on platform) path.now span) }
+{
+    let mut span = Span { start: 0, end: 0 };
+    match osb_core_path_extension(platform, path, &mut span) {
+        0 => Some(span),
+        _ => None,
+    }
+}
+
+/// The same of a prefix.
+pub fn prefix_of(platform: u32, path: &[u8]) -> Option<Span>
+    ensures { MatchOption result ((2 < platform) ⊎ (¬ (IsPrefixed (style_on platform) path.now)))
+        (λ span. IsPrefixSpan (style_on platform) path.now span) }
+{
+    let mut span = Span { start: 0, end: 0 };
+    match osb_core_path_prefix(platform, path, &mut span) {
+        0 => Some(span),
         _ => None,
     }
 }
