@@ -1,4 +1,4 @@
-use Rattle.platform_str.proofs.Common.{◌≡◌, ◌+◌, ◌++◌, ap, sym, ◌∙◌, rules, arith, take, drop}
+use Rattle.platform_str.proofs.Common.{◌≡◌, ◌++◌, ap, sym, ◌∙◌, rules, arith, drop}
 use Rattle.std.proofs.lemmas.Result.{on_ok_weaker}
 use Rattle.platform_str.specs.ToWide.{chosen, units_after_first}
 use Rattle.platform_str.proofs.lemmas.ToWide.{appended, block_chosen}
