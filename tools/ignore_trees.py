@@ -1,0 +1,115 @@
+"""What git says of trees and ignore files made by rule, as an answer file.
+
+Each tree has directories and files three levels deep, a .gitignore at the top, and others below it. Their lines are
+made of what git's document speaks of: blanks and tabs at a line's end, `\\ `, `#`, `!`, slashes in all places, `*`,
+`**`, `?`, classes, backslashes, carriage returns, NULs, a byte order mark, bytes that are no text. Many are made of
+names that the tree has, so that lines match. `git check-ignore -v -n --no-index` is asked of each path of a tree, with
+no other ignore file: 5,000 paths.
+"""
+
+from __future__ import annotations
+
+import os
+import random
+import shutil
+import subprocess
+import tempfile
+from pathlib import Path
+from typing import Iterator
+
+PATHS = 5000
+NAMES = [b"a", b"b", b"c", b"ab", b"abc", b"a.c", b"b.c", b".a", b"-", b"a b", b"x[y", b"a]", b"#a", b"!a", b"\xff", b"\xc3\xa9", b"a\\", b"A"]
+CLASSES = [b"[ab]", b"[!a]", b"[^b]", b"[a-c]", b"[c-a]", b"[]a]", b"[!]]", b"[[:alpha:]]", b"[[:punct:]x]", b"[[:foo:]]", b"[a", b"[\\]a]", b"[a/b]", b"[-a]", b"[a-]", b"[\\a-\\c]", b"[[:a]", b"[a-b-c]", b"[[:space:]]"]
+PARTS = [b"*", b"**", b"***", b"?", b"*.c", b"a*", b"*b", b"a**", b"**b", b"\\a", b"\\*", b"\\", b"?b", b"*a*c", b"a?c"]
+PREFIXES = [b"", b"", b"", b"", b"/", b"/", b"!", b"!", b"!/", b"\\!", b"#", b"\\#", b" ", b"//"]
+SUFFIXES = [b"", b"", b"", b"", b"/", b"/", b"/**", b"/*", b" ", b"\\ ", b"\t", b"  ", b"/ ", b"\\ \\ ", b"\r", b" \r", b"\0x", b"\\/"]
+ENDS = [b"\n", b"\n", b"\n", b"\r\n", b"\n\n"]
+
+
+def line(names: list[bytes]) -> bytes:
+    """Returns a line, most often of names that a tree has."""
+    def part() -> bytes:
+        return random.choice(random.choices([names, PARTS, CLASSES, NAMES], [9, 3, 1, 1])[0])
+
+    parts = [part() + (part() if random.random() < 0.2 else b"") for _ in range(random.choice([1, 1, 1, 2, 2, 3]))]
+    return random.choice(PREFIXES) + random.choice([b"/", b"/", b"/", b"\\/", b"/**/"]).join(parts) + random.choice(SUFFIXES)
+
+
+def ignore_file(names: list[bytes]) -> bytes:
+    lines = b"".join(line(names) + random.choice(ENDS) for _ in range(random.randrange(2, 16)))
+    lines = lines[:-1] if random.random() < 0.3 else lines
+    return random.choice([b"", b"", b"", b"\xef\xbb\xbf"]) + lines
+
+
+def make_tree(top: bytes, depth: int) -> None:
+    for name in random.sample(NAMES, random.randrange(1, 5)):
+        path = os.path.join(top, name)
+        if depth and random.random() < 0.6:
+            os.mkdir(path)
+            make_tree(path, depth - 1)
+        else:
+            open(path, "wb").close()
+
+
+def paths_of(top: bytes) -> Iterator[tuple[bytes, bool]]:
+    for folder, folders, files in os.walk(top):
+        for name in sorted(folders + files):
+            path = os.path.join(folder, name)
+            yield os.path.relpath(path, top), os.path.isdir(path)
+
+
+def ask_git(top: bytes, paths: list[bytes]) -> Iterator[tuple[bytes, str]]:
+    """Yields for each path the ignore file that decides it, if one does, and what git says of it."""
+    words = ["git", "-c", "core.ignorecase=false", "-c", "core.excludesFile=/dev/null"]
+    words += ["check-ignore", "-v", "-n", "-z", "--stdin", "--no-index"]
+    given = b"".join(path + b"\0" for path in paths)
+    env = {**os.environ, "GIT_DIR": os.fsdecode(top) + ".git", "GIT_WORK_TREE": os.fsdecode(top)}
+    ran = subprocess.run(words, input=given, stdout=subprocess.PIPE, cwd=top, env={**env, "GIT_CONFIG_NOSYSTEM": "1", "HOME": "/"})
+    if ran.returncode not in (0, 1):
+        raise SystemExit(f"check-ignore: git ended with status {ran.returncode}")
+    fields = ran.stdout.split(b"\0")
+    for source, number, pattern, _ in zip(*[iter(fields[:-1])] * 4):
+        yield source, ("w" if pattern.startswith(b"!") else "i") + number.decode()
+
+
+def rows_of(room: Path, number: int) -> Iterator[str]:
+    """Yields a row of an answer file for each path of a tree."""
+    top = os.fsencode(room / f"tree{number}")
+    os.mkdir(top)
+    make_tree(top, 3)
+    paths = list(paths_of(top))
+    names = [os.path.basename(path) for path, _ in paths]
+    directories = [b""] + [path for path, is_dir in paths if is_dir and random.random() < 0.4]
+    random.shuffle(directories)
+    files = [(directory, ignore_file(names)) for directory in directories]
+    for directory, content in files:
+        with open(os.path.join(top, directory, b".gitignore"), "wb") as file:
+            file.write(content)
+    subprocess.run(["git", "init", "-q", "--template=", "--bare", top + b".git"], check=True)
+    sources = {os.path.join(directory, b".gitignore"): index for index, (directory, _) in enumerate(files)}
+    given = ",".join(f"{directory.hex() or '-'}:{content.hex() or '-'}" for directory, content in files)
+    for (path, is_dir), (source, said) in zip(paths, ask_git(top, [path for path, _ in paths])):
+        answer = f"{sources[source]}:{said}" if source else "-"
+        yield "\t".join([given, path.hex(), "01"[is_dir], answer])
+
+
+def answer_file(seed: str, room: Path) -> Path:
+    """Writes a row for each path of trees into an answer file in a folder."""
+    random.seed(seed)
+    rows: list[str] = []
+    with tempfile.TemporaryDirectory(prefix="ignored-") as name:
+        while len(rows) < PATHS:
+            rows += rows_of(Path(name), len(rows))
+    decided = sum(not row.endswith("-") for row in rows)
+    print(f"git: {len(rows)} paths asked, {decided} of them decided by a line of an ignore file")
+    made = room / "ignore_trees.tsv"
+    made.write_text("\n".join([f"# {made.name} (git); rows: {len(rows)}; seed: {seed}", *rows, ""]), encoding="utf-8")
+    return made
+
+
+def has_git() -> bool:
+    """Returns whether git is there, and says so where it isn't."""
+    if not shutil.which("git"):
+        print("git: there is none here, so nothing was asked of it")
+        return False
+    return True
