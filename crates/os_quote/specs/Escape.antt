@@ -1,7 +1,6 @@
 -- The escape of a string, and which texts are no escapes (this project's own format).
 use Rattle.std.specs.Prelude.{◌≡◌, ◌≢◌, ℕ, Bool, List, ◌∷◌, ◌++◌, map, length}
-use Rattle.std.specs.List.{flat_map, AllByRecursion}
-use Rattle.std.specs.Str.{chars}
+use Rattle.std.specs.{List.flat_map, List.AllByRecursion, Str.chars}
 use Rattle.wtf8_core.specs.Chunks.{Chunk, AreChunks}
 use Rattle.os_quote.specs.Item.{Item, backslash, item_text, item_texts, IsItem, unit_item, character_item}
 use Rattle.os_quote.specs.Shown.{is_any, stays_on_line}

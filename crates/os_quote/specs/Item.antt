@@ -1,7 +1,6 @@
 -- The items of an escape, and how each is written (this project's own format).
 use Rattle.std.specs.Prelude.{◌≡◌, ◌≢◌, ℕ, ◌/◌, ◌%◌, ◌<◌, ◌≤◌, nat_lt, nat_eq, Bool, false, if◌then◌else◌, List, [], ◌∷◌, ◌++◌}
-use Rattle.std.specs.List.{flat_map}
-use Rattle.std.specs.Char.{IsScalar, encode_utf8}
+use Rattle.std.specs.{List.flat_map, Char.IsScalar, Char.encode_utf8}
 use Rattle.wtf8_core.specs.FaultText.{upper_hex_digit}
 
 -- the code of `\`

@@ -1,7 +1,6 @@
 -- Each string has pieces from its start and from its end, and one cut at most from either.
 use Rattle.std.proofs.Common.{◌≡◌, ℕ, zero, suc, ◌<◌, ◌≤◌, List, [], ◌∷◌, ◌++◌, length, Option, None, Some, MatchOption, refl, sym, ap, ◌∙◌, arith, inl, inr, ◌⊎◌, ⊎_elim, length-append}
-use Rattle.std.proofs.lemmas.Bool.{cases_eq, cases_lt}
-use Rattle.std.proofs.lemmas.List.{append_cancel_left, take_at, drop_at}
+use Rattle.std.proofs.lemmas.{Bool.cases_eq, Bool.cases_lt, List.append_cancel_left, List.take_at, List.drop_at}
 use Rattle.std.specs.Prelude.{take, drop}
 use Rattle.wtf8_core.specs.Occurrence.{OccursAt, OccursNowhere, IsPrefix}
 use Rattle.wtf8_core.specs.Pieces.SplitsInto.{whole, cut}

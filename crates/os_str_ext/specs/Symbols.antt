@@ -3,8 +3,7 @@ use Rattle.std.specs.Prelude.{◌≡◌, ◌<◌, ℕ, pos, List, ◌++◌, map}
 use Rattle.std.specs.{Char.encode_utf8, Hash.HashWrites}
 use Rattle.std.specs.Hash as fed
 use Rattle.std.specs.{List.flat_map, Str.chars}
-use Rattle.wtf8_core.specs.Chunks.{Chunk, AreChunks}
-use Rattle.wtf8_core.specs.PartUnits.{unit_bytes}
+use Rattle.wtf8_core.specs.{Chunks.Chunk, Chunks.AreChunks, PartUnits.unit_bytes}
 use Rattle.os_str_ext.specs.Chunks.{chunks_of, IsFirstChunk}
 use Rattle.os_str_ext.specs.{Parts.unit_number, declared.symbols.Symbol.Symbol}
 use Rattle.os_str_ext.specs.declared.symbols.Symbol.TheVariants.{Character}

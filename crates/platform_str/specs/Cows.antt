@@ -3,13 +3,10 @@ use Rattle.std.specs.Prelude.{◌≡◌, ℕ, List}
 use Rattle.std.specs.declared.vec.Vec.{Vec}
 use Rattle.std.specs.String.{string_bytes}
 use Rattle.platform_str.specs.declared.platform.Platform.{Ghosts}
-use Rattle.platform_str.specs.declared.cow.OsStrCow.{OsStrCow}
+use Rattle.platform_str.specs.declared.cow.{OsStrCow.OsStrCow, PathCow.PathCow, ByteCow.ByteCow, StrCow.StrCow}
 use Rattle.platform_str.specs.declared.cow.OsStrCow.TheVariants as string
-use Rattle.platform_str.specs.declared.cow.PathCow.{PathCow}
 use Rattle.platform_str.specs.declared.cow.PathCow.TheVariants as path
-use Rattle.platform_str.specs.declared.cow.ByteCow.{ByteCow}
 use Rattle.platform_str.specs.declared.cow.ByteCow.TheVariants as byte
-use Rattle.platform_str.specs.declared.cow.StrCow.{StrCow}
 use Rattle.platform_str.specs.declared.cow.StrCow.TheVariants as text
 use Rattle.platform_str.specs.Strings.{bytes, path_bytes, string_vec_of, path_vec_of}
 

@@ -1,9 +1,6 @@
 -- What `{}` writes of a string, and how it is filled to a width (like std's `Display` of an `OsStr` on Unix).
 use Rattle.std.specs.Prelude.{ℕ, ◌-◌, ◌/◌, List, ◌++◌, Option, Some, None}
-use Rattle.std.specs.Option.{unwrap_or}
-use Rattle.std.specs.Char.{encode_utf8}
-use Rattle.std.specs.List.{repeat}
-use Rattle.std.specs.Fmt.{char_count}
+use Rattle.std.specs.{Option.unwrap_or, Char.encode_utf8, List.repeat, Fmt.char_count}
 use Rattle.std.specs.declared.fmt.Alignment.{Alignment}
 use Rattle.std.specs.declared.fmt.Alignment.TheVariants.{Left, Right, Center}
 use Rattle.platform_str.specs.declared.platform.Platform.{Ghosts}

@@ -1,8 +1,7 @@
 -- The bytes of units, unit by unit: what a unit gives to them depends on the unit before it and the one after it (RFC 3629, section 3; RFC 2781, section 2.2). Only private contracts name these.
 use Rattle.std.specs.Prelude.{ℕ, ◌/◌, if◌then◌else◌, List, [], ◌∷◌, ◌++◌, take, drop, slice_index}
 use Rattle.std.specs.Int.{w32, to_le_bytes}
-use Rattle.wtf8_core.specs.CodePoint.{encode}
-use Rattle.wtf8_core.specs.Surrogate.{is_pair, paired}
+use Rattle.wtf8_core.specs.{CodePoint.encode, Surrogate.is_pair, Surrogate.paired}
 
 -- of a pair's four bytes the high surrogate gives the first three and the low one the last; another unit gives its own
 abbrev pub bytes_by_neighbours : ℕ → ℕ → ℕ → List ℕ

@@ -1,9 +1,7 @@
 -- IO-lossy bytes, and what the loops over lossy texts and readings have done so far.
 use Rattle.std.specs.Prelude.{◌≡◌, ℕ, ◌+◌, ◌<◌, ◌≤◌, List, ◌++◌, length, take, drop, Option}
 use Rattle.std.specs.Option.{MatchOption}
-use Rattle.wtf8_core.specs.Utf8.{IsProperPrefix, IsIllFormed}
-use Rattle.wtf8_core.specs.Lossy.{replacement}
-use Rattle.wtf8_core.specs.LossyReading.{IsLossyReading}
+use Rattle.wtf8_core.specs.{Utf8.IsProperPrefix, Utf8.IsIllFormed, Lossy.replacement, LossyReading.IsLossyReading}
 
 -- the part of a fault at the start: the bytes end within a character, or an ill-formed part of some length begins there
 abbrev pub IsFaultPart : List ℕ → Option ℕ → Type 0

@@ -4,8 +4,7 @@ use Rattle.std.specs.declared.vec.Vec.{Vec}
 use Rattle.platform_str.specs.declared.platform.Platform.{Ghosts}
 use Rattle.platform_str.specs.declared.os_str.OsStr.{OsStr}
 use Rattle.platform_str.specs.declared.os_string.OsString.{OsString}
-use Rattle.platform_str.specs.declared.path.Path.{Path}
-use Rattle.platform_str.specs.declared.path.PathBuf.{PathBuf}
+use Rattle.platform_str.specs.declared.path.{Path.Path, PathBuf.PathBuf}
 
 module _ {E : Type 0} {P : Ghosts E} where
   -- the bytes of a borrowed string, and of a path

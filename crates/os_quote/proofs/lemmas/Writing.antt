@@ -1,9 +1,8 @@
 -- How far a text has been written.
 use Rattle.os_quote.proofs.Common.{arith, ◌≡◌, ℕ, List, [], ◌++◌, append_assoc, append-nil, rules, refl, sym, ap, ◌∙◌, HasWrittenStyled, IsFlush, Formatter, true≢false}
-use Rattle.std.proofs.Common.{Result, Ok, Err}
+use Rattle.std.proofs.{Common.Result, Common.Ok, Common.Err, Output.has_written_styled_append, Output.has_written_styled_of_eq}
 use Rattle.std.specs.{Fmt.WritesStyledOnOk, declared.fmt.Error.Error}
 use Rattle.os_quote.specs.{FormatterSink.formatter_rules, Sinks.Takes}
-use Rattle.std.proofs.Output.{has_written_styled_append, has_written_styled_of_eq}
 
 -- from f to g a prefix of `all` was written, and `left` is still to be written
 abbrev pub WritesRest : {W : Type 0} → (W → List ℕ → W → Type 0) → Formatter W → Formatter W → List ℕ → List ℕ → Type 0

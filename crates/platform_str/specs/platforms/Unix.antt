@@ -3,18 +3,14 @@ use Rattle.std.proofs.Common.{◌≡◌, ℕ, ◌<◌, ◌≤◌, List, ◌++◌
 use Rattle.std.specs.List.{All}
 use Rattle.std.specs.Str.Lossy.{utf8_lossy}
 use Rattle.std.proofs.Math.Bridge.{le_prop}
-use Rattle.std.proofs.lemmas.List.{take_at, drop_at}
+use Rattle.std.proofs.lemmas.{List.take_at, List.drop_at, Str.utf8_lossy-IsUtf8}
 use Rattle.std.proofs.lemmas.List.Elements.{All-append, All-take, All-drop, All-from_recursion, recursion_from_All}
-use Rattle.std.proofs.lemmas.Str.{utf8_lossy-IsUtf8}
-use Rattle.wtf8_core.specs.Byte.{IsByte}
-use Rattle.wtf8_core.specs.OccurrenceLaws.{OccurrenceLaws}
-use Rattle.wtf8_core.specs.Utf8.{IsIllFormedPart}
+use Rattle.wtf8_core.specs.{Byte.IsByte, OccurrenceLaws.OccurrenceLaws, Utf8.IsIllFormedPart}
 use Rattle.wtf8_core.specs.declared.fault.EncodingError.{EncodingError}
 use Rattle.wtf8_core.proofs.lemmas.characters.AtIndices.{none_begins}
 use Rattle.wtf8_core.proofs.lemmas.chunks.PartUnits.{uncovered_bytes}
 use Rattle.wtf8_core.proofs.lemmas.texts.AreWtf8.{text_bytes, lossy_prefix, lossy_text, lossy_is_utf8, part_first}
-use Rattle.platform_str.specs.Laws.{PlatformLaws, PartLaws, ReadingLaws}
-use Rattle.platform_str.specs.PlatformWords.{itself, wide_bytes}
+use Rattle.platform_str.specs.{Laws.PlatformLaws, Laws.PartLaws, Laws.ReadingLaws, PlatformWords.itself, PlatformWords.wide_bytes}
 
 -- no bytes are refused
 abbrev pub IsNoFault : List ℕ → EncodingError → Type 0

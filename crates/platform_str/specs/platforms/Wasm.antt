@@ -1,18 +1,12 @@
 -- The strings of wasm: UTF-8. What its words mean, and its four records of laws, proved.
 use Rattle.std.proofs.Common.{◌≡◌, ⊎_elim, get_or, ℕ, ◌<◌, List, [], ◌∷◌, ◌++◌, length, length-append, drop, refl, sym, ap, ◌∙◌, subst, take-append-drop, arith}
-use Rattle.std.specs.List.{flat_map}
-use Rattle.std.specs.Str.{IsUtf8}
+use Rattle.std.specs.{List.flat_map, Str.IsUtf8}
 use Rattle.std.specs.Str.Lossy.{utf8_lossy}
 use Rattle.std.proofs.Math.Seq.{take-length}
-use Rattle.std.proofs.lemmas.List.{take_at, drop_at}
-use Rattle.std.proofs.lemmas.Bool.{cases_lt}
+use Rattle.std.proofs.lemmas.{List.take_at, List.drop_at, Bool.cases_lt}
 use Rattle.std.proofs.lemmas.Str.{IsUtf8-append, IsUtf8-take, IsUtf8-drop, IsCharBoundary-from_drop}
-use Rattle.wtf8_core.specs.Covered.{StartsWithNoCharacter, HasNoCharacter}
-use Rattle.wtf8_core.specs.Lossy.{IsLossyText}
+use Rattle.wtf8_core.specs.{Covered.StartsWithNoCharacter, Covered.HasNoCharacter, Lossy.IsLossyText, PartUnits.unit_bytes, OccurrenceLaws.OccurrenceLaws, Utf8.IsUtf8Fault}
 use Rattle.wtf8_core.specs.Lossy.IsLossyText.{text as kept_text}
-use Rattle.wtf8_core.specs.PartUnits.{unit_bytes}
-use Rattle.wtf8_core.specs.OccurrenceLaws.{OccurrenceLaws}
-use Rattle.wtf8_core.specs.Utf8.{IsUtf8Fault}
 use Rattle.wtf8_core.specs.declared.fault.EncodingError.{EncodingError}
 use Rattle.wtf8_core.specs.declared.fault.EncodingError.TheVariants.{Byte, CodePoint, End, Utf8}
 use Rattle.wtf8_core.proofs.lemmas.characters.AtIndices.{none_begins}
@@ -20,8 +14,7 @@ use Rattle.wtf8_core.proofs.lemmas.forms.Cuts.{utf8_cut, utf8_after}
 use Rattle.wtf8_core.proofs.lemmas.occurrence.Boundaries.{edges_of_text}
 use Rattle.wtf8_core.proofs.lemmas.texts.AreWtf8.{text_bytes, lossy_is_utf8, lossy_text, no_text_begins}
 use Rattle.wtf8_core.proofs.lemmas.texts.LossyTexts.{no_text, one_utf8_fault, lossy_text_is}
-use Rattle.platform_str.specs.Laws.{PlatformLaws, PartLaws, ReadingLaws}
-use Rattle.platform_str.specs.PlatformWords.{itself, IsThree, wide_bytes}
+use Rattle.platform_str.specs.{Laws.PlatformLaws, Laws.PartLaws, Laws.ReadingLaws, PlatformWords.itself, PlatformWords.IsThree, PlatformWords.wide_bytes}
 
 -- the first fault of bytes that aren't UTF-8
 abbrev pub IsTextFault : List ℕ → EncodingError → Type 0

@@ -1,24 +1,16 @@
 -- The strings of Windows: WTF-8. What its words mean, and its records of laws, proved; that of occurrences is wtf8_core's.
 use Rattle.std.proofs.Common.{◌≤◌, ◌++◌, length, drop, sym, ap, ◌∙◌, subst, arith}
 use Rattle.std.specs.Str.{IsUtf8}
-use Rattle.wtf8_core.specs.Checker.{HasFirstFault}
-use Rattle.wtf8_core.specs.Wtf8.{IsWtf8}
-use Rattle.wtf8_core.specs.UnitsOf.{units_of, wtf8_lossy}
-use Rattle.wtf8_core.specs.Lossy.{replacement}
-use Rattle.wtf8_core.specs.LossyReading.{IsLossyReading}
+use Rattle.wtf8_core.specs.{Checker.HasFirstFault, Wtf8.IsWtf8, UnitsOf.units_of, UnitsOf.wtf8_lossy, Lossy.replacement, LossyReading.IsLossyReading, PartUnits.AreLoneSurrogates}
 use Rattle.wtf8_core.specs.LossyReading.IsLossyReading.{formed}
-use Rattle.wtf8_core.specs.PartUnits.{AreLoneSurrogates}
-use Rattle.wtf8_core.proofs.lemmas.reader.Complete.{never_both, one_fault}
+use Rattle.wtf8_core.proofs.lemmas.reader.{Complete.never_both, Complete.one_fault, LossyReadings.one_reading, LossyReadings.some_reading, LossyReadings.reading_wtf8}
 use Rattle.wtf8_core.proofs.lemmas.units.AsFunction.{one_encoding, some_encoding, units_listed, units_cut}
 use Rattle.wtf8_core.proofs.lemmas.characters.AtIndices.{none_begins}
 use Rattle.wtf8_core.proofs.lemmas.forms.Cuts.{wtf8_cut}
-use Rattle.wtf8_core.proofs.lemmas.reader.LossyReadings.{one_reading, some_reading, reading_wtf8}
 use Rattle.wtf8_core.proofs.lemmas.chunks.PartUnits.{uncovered_wtf8}
-use Rattle.wtf8_core.proofs.lemmas.texts.LossyTexts.{wtf8_lossy_prefix, surrogate_first}
+use Rattle.wtf8_core.proofs.lemmas.texts.{LossyTexts.wtf8_lossy_prefix, LossyTexts.surrogate_first, WithoutSurrogates.cut_at_lead}
 use Rattle.wtf8_core.proofs.lemmas.texts.AreWtf8.{wtf8_of_text, wtf8_lossy_text, wtf8_lossy_is_utf8, wtf8_after_text}
-use Rattle.wtf8_core.proofs.lemmas.texts.WithoutSurrogates.{cut_at_lead}
-use Rattle.platform_str.specs.Laws.{PlatformLaws, PartLaws, ReadingLaws}
-use Rattle.platform_str.specs.PlatformWords.{AreWideUnits, IsThree}
+use Rattle.platform_str.specs.{Laws.PlatformLaws, Laws.PartLaws, Laws.ReadingLaws, PlatformWords.AreWideUnits, PlatformWords.IsThree}
 
 pub windows_laws : PlatformLaws HasFirstFault IsWtf8 units_of AreWideUnits IsUtf8 wtf8_lossy IsThree
 windows_laws = record {

@@ -1,7 +1,5 @@
 use Rattle.platform_str.proofs.Common.{◌≤◌, ◌+◌, length, take, drop, arith, ap, sym, ◌∙◌, length-drop, length-take-le, pairs}
-use Rattle.platform_str.proofs.lemmas.FromWide.{are_units}
-use Rattle.platform_str.proofs.lemmas.LaneTests.{count_is_splat}
-use Rattle.platform_str.proofs.lemmas.FromWideCounts.{pairs_below, pairs_prefix}
+use Rattle.platform_str.proofs.lemmas.{FromWide.are_units, LaneTests.count_is_splat, FromWideCounts.pairs_below, FromWideCounts.pairs_prefix}
 use Rattle.platform_str.proofs.from_wide.count_pairs.Goals as goal
 
 pub returns : goal.returns

@@ -1,8 +1,6 @@
 use Rattle.platform_str.proofs.Common.{rules, ◌+◌, length, length-append, length-drop, take, drop, slice_index, ap, arith, flat_map}
 use Rattle.platform_str.specs.FromWide.{word_bytes, bytes_after_first}
-use Rattle.platform_str.proofs.lemmas.ToWide.{appended}
-use Rattle.platform_str.proofs.lemmas.FromWide.{block_words, gives_few, some_after}
-use Rattle.platform_str.proofs.lemmas.FromWideLanes.{few_bytes}
+use Rattle.platform_str.proofs.lemmas.{ToWide.appended, FromWide.block_words, FromWide.gives_few, FromWide.some_after, FromWideLanes.few_bytes}
 use Rattle.platform_str.proofs.from_wide.put_block.Goals as goal
 
 pub put_words-requires-clause-few : goal.put_words-requires-clause-few

@@ -1,6 +1,5 @@
 use Rattle.platform_str.proofs.Common.{◌++◌, ◌+◌, ◌≤◌, length, length-append, length-take-le, take, drop, slice_index, sym, ap, ◌∙◌, arith, append_assoc, flat_map}
-use Rattle.std.proofs.lemmas.List.{drop_more}
-use Rattle.std.proofs.lemmas.Simd.{length-put_chunk}
+use Rattle.std.proofs.lemmas.{List.drop_more, Simd.length-put_chunk}
 use Rattle.std.specs.Int.{w32, to_le_bytes}
 use Rattle.platform_str.specs.FromWide.{word_bytes}
 use Rattle.platform_str.proofs.lemmas.FromWideLanes.{word_stored}

@@ -1,7 +1,6 @@
 use Rattle.platform_str.proofs.Common.{refl, ◌++◌, ◌<◌, [], length, length-append, length-take-le, length-drop, take, drop, ap, ◌∙◌, sym, arith, take_all, append-nil, recursion_from_All}
 use Rattle.platform_str.specs.FromWide.{bytes_after_first}
-use Rattle.platform_str.proofs.lemmas.ToWide.{appended}
-use Rattle.platform_str.proofs.lemmas.FromWide.{block_ascii, none_after}
+use Rattle.platform_str.proofs.lemmas.{ToWide.appended, FromWide.block_ascii, FromWide.none_after}
 use Rattle.platform_str.proofs.from_wide.write_after_first.Goals as goal
 
 pub put_ascii-requires-clause-ascii : goal.put_ascii-requires-clause-ascii

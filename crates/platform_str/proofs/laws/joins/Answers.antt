@@ -1,6 +1,5 @@
 use Rattle.platform_str.proofs.Common.{◌≡◌, List, ℕ, ◌++◌, sym, ap, ◌∙◌, append_assoc, IsJoin}
-use Rattle.wtf8_core.specs.Occurrence.{IsPrefix}
-use Rattle.wtf8_core.specs.OccurrenceLaws.{OccurrenceLaws}
+use Rattle.wtf8_core.specs.{Occurrence.IsPrefix, OccurrenceLaws.OccurrenceLaws}
 use Rattle.platform_str.proofs.laws.joins.Goals as goal
 
 module _ (wf : List ℕ → Type 0) (units : List ℕ → List ℕ) (laws : OccurrenceLaws wf units) where

@@ -1,6 +1,5 @@
 use Rattle.platform_str.proofs.Common.{arith, ◌∙◌, take, drop}
-use Rattle.std.proofs.lemmas.List.{get_or-map}
-use Rattle.std.proofs.lemmas.Simd.{get_or-chunk, length-chunk}
+use Rattle.std.proofs.lemmas.{List.get_or-map, Simd.get_or-chunk, Simd.length-chunk}
 use Rattle.platform_str.proofs.to_wide.lanes.Goals as goal
 
 pub returns-clause-bytes : goal.returns-clause-bytes

@@ -1,7 +1,6 @@
 use Rattle.platform_str.proofs.Common.{rules, arith}
 use Rattle.platform_str.specs.ToWide.{chosen}
-use Rattle.platform_str.proofs.lemmas.Filled.{mark_few, marked_few}
-use Rattle.platform_str.proofs.lemmas.ToWide.{block_chosen}
+use Rattle.platform_str.proofs.lemmas.{Filled.mark_few, Filled.marked_few, ToWide.block_chosen}
 use Rattle.platform_str.proofs.wide_buffer.push_block.Goals as goal
 
 pub push_chosen-requires-clause-least : goal.push_chosen-requires-clause-least

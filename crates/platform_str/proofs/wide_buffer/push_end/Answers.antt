@@ -1,7 +1,6 @@
 use Rattle.platform_str.proofs.Common.{◌+◌, rules, arith, take}
 use Rattle.platform_str.specs.ToWide.{chosen}
-use Rattle.platform_str.proofs.lemmas.Filled.{few_taken, mark_few, marked_few}
-use Rattle.platform_str.proofs.lemmas.ToWide.{some_chosen}
+use Rattle.platform_str.proofs.lemmas.{Filled.few_taken, Filled.mark_few, Filled.marked_few, ToWide.some_chosen}
 use Rattle.platform_str.proofs.wide_buffer.push_end.Goals as goal
 
 pub push_chosen-requires-clause-least : goal.push_chosen-requires-clause-least

@@ -1,7 +1,6 @@
 use Rattle.platform_str.proofs.Common.{◌≡◌, ◌+◌, ◌<◌, ◌∙◌, ap, arith, length, take, drop}
 use Rattle.std.proofs.Common.{◌-◌, get_or, set}
-use Rattle.std.proofs.lemmas.List.{take-set, length-set}
-use Rattle.std.proofs.lemmas.Simd.{get_or-chunk}
+use Rattle.std.proofs.lemmas.{List.take-set, List.length-set, Simd.get_or-chunk}
 use Rattle.platform_str.specs.ToWide.{chosen}
 use Rattle.platform_str.proofs.lemmas.WideBuffer.{put_after, put_back}
 use Rattle.platform_str.proofs.wide_buffer.push_in_room.Goals as goal
