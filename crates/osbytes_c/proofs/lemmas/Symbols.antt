@@ -1,8 +1,9 @@
 -- The first symbol of bytes, by what they begin with.
-use Rattle.std.proofs.Common.{◌≡◌, ⊎_elim, ℕ, zero, suc, slice_index_or, ◌+◌, ◌-◌, ◌<◌, ◌≤◌, List, [], ◌∷◌, ◌++◌, length, take, drop, refl, sym, ap, ◌∙◌, subst, arith, length-append, length-drop, take-append-drop}
+use Rattle.std.proofs.Common.{◌≡◌, ⊎_elim, ℕ, zero, suc, get_or, slice_index_or, ◌+◌, ◌-◌, ◌<◌, ◌≤◌, List, [], ◌∷◌, ◌++◌, length, take, drop, refl, sym, ap, ◌∙◌, subst, arith, length-append, length-drop, take-append-drop}
+use Rattle.std.proofs.Math.Utf8.{low_scalar}
 use Rattle.std.proofs.lemmas.Bool.{cases_lt}
-use Rattle.std.proofs.lemmas.List.{length-take-le, take-take, take_at, drop_at, drop-drop, drop_all}
-use Rattle.std.proofs.lemmas.Str.{IsCharBoundary-from_take, IsUtf8-drop, IsUtf8-encode, length-encode, len_utf8_bounds}
+use Rattle.std.proofs.lemmas.List.{length-take-le, take-take, take_at, drop_at, drop-drop, drop_all, drop_more}
+use Rattle.std.proofs.lemmas.Str.{IsCharBoundary-from_take, IsUtf8-drop, IsUtf8-encode, encode_ascii, length-encode, len_utf8_bounds}
 use Rattle.std.specs.Char.{IsScalar, encode_utf8}
 use Rattle.std.specs.Str.{IsUtf8}
 use Rattle.wtf8_core.specs.Character.{WholeCharacter}
@@ -30,6 +31,7 @@ use Rattle.os_str_ext.proofs.lemmas.FirstChunk.{edges, part_is_uncovered}
 use Rattle.os_str_ext.proofs.lemmas.SymbolSteps.{symbols_by_character, symbols_by_unit}
 use Rattle.osbytes_c.specs.Faults.{IsString, IsUnstring}
 use Rattle.osbytes_c.specs.Platforms.{units_on}
+use Rattle.osbytes_c.specs.SymbolFills.{IsSymbolStep}
 use Rattle.osbytes_c.specs.Steps.{Reports, IsSymbolAt, IsFirstOf, IsSurrogatePrefix, StartsWithNoSymbol}
 use Rattle.osbytes_c.specs.declared.symbols.Step.{Step}
 
@@ -222,3 +224,17 @@ no_symbol_of_wasm zero s a b c uncovered = absurd (a refl)
 no_symbol_of_wasm (suc zero) s a b c uncovered = absurd (b refl)
 no_symbol_of_wasm (suc (suc zero)) s a b c uncovered = uncovered
 no_symbol_of_wasm (suc (suc (suc p))) s a b c uncovered = absurd (omega (arith, c))
+
+-- a character of ASCII
+pub ascii_step : (p : ℕ) (s : List ℕ) (at b : ℕ) → at < length s → get_or s at 0 ≡ b → b < 0x80 → IsSymbolStep p s at (record { kind = 1; value = b; end = at + 1 })
+ascii_step p s at b less is ascii =
+    let scalar : IsScalar b = low_scalar b (omega (arith, ascii)) in
+    let rest = drop (at + 1) s in
+    let starts : drop at s ≡ encode_utf8 b ++ rest = drop_more s at 0 less ∙ ap (λ x. x ∷ rest) is ∙ ap (λ x. x ++ rest) (sym (encode_ascii b ascii)) in
+    let step : Step = record { kind = 1; value = b; end = 1 } in
+    let end : 1 ≡ length (drop at s) - length rest = omega (arith, less, length-drop at s, length-drop (at + 1) s) in
+    record {
+      symbol = λ w. step_from p s at step (omega (arith, less)) (character_first p b (drop at s) rest step scalar starts (refl, refl) end w);
+      some = omega arith;
+      within = omega (arith, less);
+    }

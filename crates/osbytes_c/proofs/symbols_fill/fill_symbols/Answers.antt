@@ -1,8 +1,7 @@
-use Rattle.std.proofs.Common.{◌≡◌, ◌+◌, ◌-◌, false, [], ◌∷◌, ◌++◌, refl}
-use Rattle.osbytes_c.specs.declared.symbols_fill.SymbolView.{SymbolView}
+use Rattle.std.proofs.Common.{◌≡◌, ◌+◌, ◌-◌, false, [], ◌∷◌, ◌++◌}
 use Rattle.osbytes_c.specs.SymbolFills.{IsSymbolStep, ShowsSymbol}
 use Rattle.osbytes_c.proofs.lemmas.Fills.{one_more_filled, one_more_given}
-use Rattle.osbytes_c.proofs.lemmas.SymbolFills.{unstring_before, view_within}
+use Rattle.osbytes_c.proofs.lemmas.SymbolFills.{unstring_before}
 use Rattle.osbytes_c.proofs.symbols_fill.fill_symbols.Goals as goal
 
 pub returns-in_default : goal.returns-in_default
@@ -17,10 +16,10 @@ loop-count-preserved c =
     let next = c.loop-count.next in
     let step = c.in-Some.step in
     let is : IsSymbolStep c.args.platform s next step = c.in-Some.ensures.symbol in
-    let view : SymbolView = record { kind = step.kind; value = step.value; bytes = record { at = c.args.address + next; len = step.end - next } } in (
+    let view = c.write_symbol.new.out in (
       inv.0 ++ view ∷ [],
       (
-        one_more_given (IsSymbolStep c.args.platform s) (ShowsSymbol c.args.address) (λ step. step.end) (λ step. false) c.args.at inv.0 next step view inv.1.0 is (record { kind = refl; value = refl; bytes = view_within c.args.address next step.end is.some }),
+        one_more_given (IsSymbolStep c.args.platform s) (ShowsSymbol c.args.address) (λ step. step.end) (λ step. false) c.args.at inv.0 next step view inv.1.0 is c.in-Some.ensures.shown,
         (one_more_filled inv.0 c.args.out.now c.loop-count.out c.loop-count.count view inv.1.1.0 c.loop-count-test.true, is.within),
       ),
     )
