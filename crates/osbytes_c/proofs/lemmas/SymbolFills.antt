@@ -1,18 +1,15 @@
 -- Symbols in an array, one after the other.
-use Rattle.std.proofs.Common.{◌≡◌, ℕ, zero, suc, ◌+◌, ◌-◌, ◌<◌, Bool, true, false, ◌↔◌, List, [], ◌∷◌, ◌++◌, length, drop, refl, sym, subst, arith}
+use Rattle.std.proofs.Common.{◌≡◌, ℕ, zero, suc, Bool, true, false, ◌↔◌, List, [], ◌∷◌, ◌++◌, length, drop, refl, sym, subst}
 use Rattle.os_str_ext.specs.Symbols.{AreSymbols}
 use Rattle.os_str_ext.specs.declared.symbols.Symbol.{Symbol}
 use Rattle.os_str_ext.proofs.lemmas.SymbolBytes.{symbols_once}
 use Rattle.osbytes_c.specs.declared.symbols_fill.SymbolView.{SymbolView}
 use Rattle.osbytes_c.specs.Faults.{IsString, IsUnstring}
-use Rattle.osbytes_c.specs.Fills.{GiveInOrder, IsLeft, IsView}
+use Rattle.osbytes_c.specs.Fills.{GiveInOrder, IsLeft}
 use Rattle.osbytes_c.specs.Platforms.{units_on}
 use Rattle.osbytes_c.specs.Steps.{Reports}
 use Rattle.osbytes_c.proofs.lemmas.Walks.{symbol_walk}
 use Rattle.osbytes_c.specs.SymbolFills.{AreReported, IsSymbolStep, ShowsSymbol}
-
-pub view_within : (address i j : ℕ) → i < j → IsView address i j (record { at = address + i; len = j - i })
-view_within address i j less = record { ordered = omega (arith, less); at = refl; len = refl }
 
 -- what is left of a string after some symbols is one
 pub strings_left : (platform : ℕ) (s : List ℕ) (address at : ℕ) (items : List SymbolView) (rest : ℕ)

@@ -1,4 +1,4 @@
-use Rattle.std.proofs.Common.{◌≡◌, ◌+◌, ◌-◌, false, [], ◌∷◌, ◌++◌}
+use Rattle.std.proofs.Common.{false, [], ◌∷◌, ◌++◌}
 use Rattle.osbytes_c.specs.SymbolFills.{IsSymbolStep, ShowsSymbol}
 use Rattle.osbytes_c.proofs.lemmas.Fills.{one_more_filled, one_more_given}
 use Rattle.osbytes_c.proofs.lemmas.SymbolFills.{unstring_before}
@@ -6,20 +6,20 @@ use Rattle.osbytes_c.proofs.symbols_fill.fill_symbols.Goals as goal
 
 pub returns-in_default : goal.returns-in_default
 returns-in_default c =
-    let inv = c.loop-count.invariant in
-    unstring_before c.args.platform c.args.bytes.now c.args.address c.args.at inv.0 c.loop-count.next inv.1.0 c.in_default.ensures.symbol
+    let inv = c.loop-next.invariant in
+    unstring_before c.args.platform c.args.bytes.now c.args.address c.args.at inv.0 c.loop-next.next inv.1.0 c.in_default.ensures.symbol
 
-pub loop-count-preserved : goal.loop-count-preserved
-loop-count-preserved c =
+pub loop-next-preserved : goal.loop-next-preserved
+loop-next-preserved c =
     let s = c.args.bytes.now in
-    let inv = c.loop-count.invariant in
-    let next = c.loop-count.next in
+    let inv = c.loop-next.invariant in
+    let next = c.loop-next.next in
     let step = c.in-Some.step in
     let is : IsSymbolStep c.args.platform s next step = c.in-Some.ensures.symbol in
     let view = c.write_symbol.new.out in (
       inv.0 ++ view ∷ [],
       (
         one_more_given (IsSymbolStep c.args.platform s) (ShowsSymbol c.args.address) (λ step. step.end) (λ step. false) c.args.at inv.0 next step view inv.1.0 is c.in-Some.ensures.shown,
-        (one_more_filled inv.0 c.args.out.now c.loop-count.out c.loop-count.count view inv.1.1.0 c.loop-count-test.true, is.within),
+        (one_more_filled inv.0 c.args.out.now c.loop-next.out c.loop-next.count view inv.1.1.0 c.if-count-out.true, is.within),
       ),
     )
