@@ -6,7 +6,6 @@ pub mod EscapedLetters
 pub mod EscapedMarks
 pub mod EscapedMeaning
 pub mod Folding
-pub mod Lengthened
 pub mod Mapped
 pub mod Meanings
 pub mod Readings

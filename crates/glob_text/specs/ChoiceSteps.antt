@@ -1,5 +1,5 @@
 -- How far the choices have been found: only private contracts name this.
-use Rattle.std.specs.Prelude.{◌≡◌, ◌⊎◌, ◌<◌, ℕ, List, [], ◌∷◌, ◌++◌, map, length, reverse, Option, Some, None}
+use Rattle.std.specs.Prelude.{◌≡◌, ◌⊎◌, ◌<◌, ℕ, List, [], ◌∷◌, ◌++◌, map, length, reverse, Bool, true, false}
 use Rattle.glob_text.specs.declared.choices.Chosen.{Chosen}
 use Rattle.glob_text.specs.declared.choices.Group.{Group}
 use Rattle.glob_text.specs.declared.choices.Found.{Found}
@@ -72,7 +72,7 @@ module _ {A : Type 0} where
   abbrev pub state_of : Found A → State ℕ
   state_of s = record { frames = reverse (map frame_of s.groups.items); current = indices_of s.current.items }
 
-  -- the next state is this one, or it is too large
-  abbrev pub IsNext : Option (Found A) → State ℕ → Type 0
-  IsNext None s = IsTooLarge s
-  IsNext (Some found) s = state_of found ≡ s
+-- the next state is this one, or it is too large
+abbrev pub IsNext : Bool → State ℕ → State ℕ → Type 0
+IsNext false next s = IsTooLarge s
+IsNext true next s = next ≡ s

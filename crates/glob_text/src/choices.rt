@@ -1,13 +1,14 @@
 //! The patterns without alternatives that a pattern stands for.
-ghost use Rattle.std.specs.Prelude.{◌≡◌, ◌++◌, ◌∷◌, ◌<◌, [], true, length, map, IfOk, MatchOption};
+ghost use Rattle.std.specs.Prelude.{◌≡◌, ◌++◌, ◌∷◌, ◌<◌, [], true, length, map, IfOk, OnOk, MatchOption};
 ghost use Rattle.glob_text.specs.Marks.{mark_of};
 ghost use Rattle.glob_text.specs.Braces.{are_balanced};
 ghost use Rattle.glob_text.specs.Alternatives.{each, product, most_choices, AreChoices, AreTooMany};
 ghost use Rattle.glob_text.specs.Chosen.{choices_of};
-ghost use Rattle.glob_text.specs.ChoiceSteps.{indices_of, state_of, after_open, after_comma, after_close, after_itself, advanced, IsNext};
+ghost use Rattle.glob_text.specs.ChoiceSteps.{indices_of, state_of, after_open, after_comma, after_close, advanced, IsNext};
 
 use crate::mark::Mark;
 use std::alloc::{AllocError, Allocator, Global};
+use std::mem::replace;
 
 /// How many patterns one may stand for.
 const MOST_CHOICES: usize = 1024;
@@ -36,32 +37,27 @@ struct Found<A: Allocator = Global> {
     current: Vec<Chosen<A>, A>,
 }
 
-/// The choice that is nothing.
-fn nothing<A: Allocator + Copy>(alloc: A) -> Result<Vec<Chosen<A>, A>, AllocError>
+/// The choice that is nothing, with room for so many marks.
+fn nothing<A: Allocator + Copy>(alloc: A, room: usize) -> Result<Vec<Chosen<A>, A>, AllocError>
     ensures { IfOk result (λ choices. indices_of choices.items ≡ [] ∷ []) }
 {
     let mut choices = Vec::new(alloc);
     choices.push(Chosen {
-        marks: Vec::new(alloc),
+        marks: Vec::with_capacity(alloc, room)?,
     })?;
     Ok(choices)
 }
 
-/// The choices, each with one more mark.
-fn each<A: Allocator>(
-    choices: Vec<Chosen<A>, A>,
-    mark: usize,
-) -> Result<Vec<Chosen<A>, A>, AllocError>
-    ensures { IfOk result
-        (λ longer. indices_of longer.items ≡ each (indices_of choices.items) mark) }
+/// Adds a mark to each of the choices.
+fn push_mark<A: Allocator>(choices: &mut Vec<Chosen<A>, A>, mark: usize) -> Result<(), AllocError>
+    ensures { OnOk result (indices_of choices.new.items ≡ each (indices_of choices.old.items) mark) }
 {
-    let mut longer = choices;
     let mut at = 0;
-    while at < longer.len() {
-        longer[at].marks.push(mark)?;
+    while at < choices.len() {
+        choices[at].marks.push(mark)?;
         at += 1;
     }
-    Ok(longer)
+    Ok(())
 }
 
 /// A choice, and after it another.
@@ -121,112 +117,87 @@ fn product<A: Allocator + Copy>(
     Ok(Some(choices))
 }
 
-/// Choices, and after them others.
-fn joined_lists<A: Allocator>(
-    first: Vec<Chosen<A>, A>,
-    second: Vec<Chosen<A>, A>,
-) -> Result<Vec<Chosen<A>, A>, AllocError>
-    ensures { IfOk result
-        (λ both. indices_of both.items ≡ indices_of first.items ++ indices_of second.items) }
-{
-    let mut both = first;
-    let mut rest = second;
-    both.append(&mut rest)?;
-    Ok(both)
-}
-
 /// After a `{`.
-fn after_open<A: Allocator + Copy>(alloc: A, found: Found<A>) -> Result<Found<A>, AllocError>
-    ensures { IfOk result (λ next. state_of next ≡ after_open (state_of found)) }
+fn after_open<A: Allocator + Copy>(alloc: A, found: &mut Found<A>) -> Result<(), AllocError>
+    ensures { OnOk result (state_of found.new ≡ after_open (state_of found.old)) }
 {
-    let Found {
-        mut groups,
-        current,
-    } = found;
-    groups.push(Group {
+    let outer = replace(&mut found.current, nothing(alloc, 0)?);
+    found.groups.push(Group {
         found: Vec::new(alloc),
-        outer: current,
+        outer,
     })?;
-    let current = nothing(alloc)?;
-    Ok(Found { groups, current })
+    Ok(())
 }
 
-/// After a comma.
+/// After a comma; whether the choices aren't too many.
 fn after_comma<A: Allocator + Copy>(
     alloc: A,
-    found: Found<A>,
+    found: &mut Found<A>,
     mark: usize,
-) -> Result<Option<Found<A>>, AllocError>
-    ensures { IfOk result (λ next. IsNext next (after_comma (state_of found) mark)) }
+) -> Result<bool, AllocError>
+    ensures { IfOk result (λ fits. IsNext fits (state_of found.new)
+        (after_comma (state_of found.old) mark)) }
 {
-    let Found {
-        mut groups,
-        current,
-    } = found;
-    let Some(group) = groups.pop() else {
-        let current = each(current, mark)?;
-        return Ok(Some(Found { groups, current }));
+    let Some(group) = found.groups.pop() else {
+        push_mark(&mut found.current, mark)?;
+        return Ok(true);
     };
-    let Group { found, outer } = group;
-    let found = joined_lists(found, current)?;
-    if found.len() > MOST_CHOICES {
-        return Ok(None);
+    let Group {
+        found: mut whole,
+        outer,
+    } = group;
+    whole.append(&mut found.current)?;
+    if whole.len() > MOST_CHOICES {
+        return Ok(false);
     }
-    groups.push(Group { found, outer })?;
-    let current = nothing(alloc)?;
-    Ok(Some(Found { groups, current }))
+    found.groups.push(Group {
+        found: whole,
+        outer,
+    })?;
+    found.current = nothing(alloc, 0)?;
+    Ok(true)
 }
 
-/// After a `}`.
-fn after_close<A: Allocator + Copy>(
-    alloc: A,
-    found: Found<A>,
-) -> Result<Option<Found<A>>, AllocError>
-    ensures { IfOk result (λ next. IsNext next (after_close (state_of found))) }
+/// After a `}`; whether the choices aren't too many.
+fn after_close<A: Allocator + Copy>(alloc: A, found: &mut Found<A>) -> Result<bool, AllocError>
+    ensures { IfOk result (λ fits. IsNext fits (state_of found.new)
+        (after_close (state_of found.old))) }
 {
-    let Found {
-        mut groups,
-        current,
-    } = found;
-    let Some(group) = groups.pop() else {
-        return Ok(Some(Found { groups, current }));
+    let Some(group) = found.groups.pop() else {
+        return Ok(true);
     };
-    let Group { found, outer } = group;
-    let second = joined_lists(found, current)?;
-    let Some(current) = product(alloc, &outer, &second)? else {
-        return Ok(None);
+    let Group {
+        found: mut whole,
+        outer,
+    } = group;
+    whole.append(&mut found.current)?;
+    let Some(current) = product(alloc, &outer, &whole)? else {
+        return Ok(false);
     };
-    Ok(Some(Found { groups, current }))
+    found.current = current;
+    Ok(true)
 }
 
-/// After a mark that is itself.
-fn after_itself<A: Allocator>(found: Found<A>, mark: usize) -> Result<Found<A>, AllocError>
-    ensures { IfOk result (λ next. state_of next ≡ after_itself (state_of found) mark) }
-{
-    let Found { groups, current } = found;
-    let current = each(current, mark)?;
-    Ok(Found { groups, current })
-}
-
-/// After one more mark, of this index; `None` where the choices are too many.
+/// After one more mark, of this index; whether the choices aren't too many.
 fn advance<A: Allocator + Copy>(
     alloc: A,
-    found: Found<A>,
+    found: &mut Found<A>,
     mark: &Mark<A>,
     index: usize,
-) -> Result<Option<Found<A>>, AllocError>
-    ensures { IfOk result
-        (λ next. IsNext next (advanced (state_of found) (mark_of mark.now) index)) }
+) -> Result<bool, AllocError>
+    ensures { IfOk result (λ fits. IsNext fits (state_of found.new)
+        (advanced (state_of found.old) (mark_of mark.now) index)) }
 {
     match mark {
-        Mark::Open(_) => Ok(Some(after_open(alloc, found)?)),
-        Mark::Comma => after_comma(alloc, found, index),
-        Mark::Close(_) => after_close(alloc, found),
-        Mark::Literal(_) => Ok(Some(after_itself(found, index)?)),
-        Mark::Any => Ok(Some(after_itself(found, index)?)),
-        Mark::Star(_) => Ok(Some(after_itself(found, index)?)),
-        Mark::OneOf(_) => Ok(Some(after_itself(found, index)?)),
+        Mark::Open(_) => after_open(alloc, found)?,
+        Mark::Comma => return after_comma(alloc, found, index),
+        Mark::Close(_) => return after_close(alloc, found),
+        Mark::Literal(_) => push_mark(&mut found.current, index)?,
+        Mark::Any => push_mark(&mut found.current, index)?,
+        Mark::Star(_) => push_mark(&mut found.current, index)?,
+        Mark::OneOf(_) => push_mark(&mut found.current, index)?,
     }
+    Ok(true)
 }
 
 /// The choices of marks whose braces are closed; `None` where they are too many.
@@ -241,15 +212,15 @@ pub(crate) fn choices<A: Allocator + Copy>(
 {
     let mut found = Found {
         groups: Vec::new(alloc),
-        current: nothing(alloc)?,
+        current: nothing(alloc, marks.len())?,
     };
     let mut left = marks;
     while let Some((mark, rest)) = left.split_first() {
         let index = marks.len() - left.len();
-        let Some(next) = advance(alloc, found, mark, index)? else {
+        let fits = advance(alloc, &mut found, mark, index)?;
+        if !fits {
             return Ok(None);
-        };
-        found = next;
+        }
         left = rest;
     }
     Ok(Some(found.current))

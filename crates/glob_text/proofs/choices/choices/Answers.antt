@@ -17,12 +17,12 @@ loop-mark-init g c =
 pub overflow_sub-index : goal.overflow_sub-index
 overflow_sub-index g c = left_fits c.args.marks.now c.loop-mark.left.now c.loop-mark.invariant.before c.loop-mark.invariant.joined
 
-pub returns-in_default-2 : goal.returns-in_default-2
-returns-in_default-2 g c =
+pub returns-then-not-fits : goal.returns-then-not-fits
+returns-then-not-fits g c =
     let marks = map mark_of c.args.marks.now in
     let left = map mark_of c.loop-mark.left.now in
     let fits = left_fits c.args.marks.now c.loop-mark.left.now c.loop-mark.invariant.before c.loop-mark.invariant.joined in
-    let large = rw c.in_default-2.is at c.in_ok-next.ensures in
+    let large = rw c.if-not-fits.true at c.in_ok-fits.ensures in
     too_many_indices marks _ (map mark_of c.in-Some.rest.now)
     (one_more_index marks (state_of c.loop-mark.found) left (mark_of c.in-Some.mark.now) _ _ c.loop-mark.invariant (ap (map mark_of) c.in-Some.ensures.cases.0)
     (omega (arith, fits, length-map c.args.marks.now mark_of, length-map c.loop-mark.left.now mark_of))) large
@@ -33,7 +33,7 @@ loop-mark-preserved g c =
     let left = map mark_of c.loop-mark.left.now in
     let rest = map mark_of c.in-Some.rest.now in
     let fits = left_fits c.args.marks.now c.loop-mark.left.now c.loop-mark.invariant.before c.loop-mark.invariant.joined in
-    let next = rw c.in-Some-2.is at c.in_ok-next.ensures in
+    let next = rw c.if-not-fits.false at c.in_ok-fits.ensures in
     subst (λ z. FoundSoFar marks (map_state (mark_at marks) z) rest) (sym next)
     (one_more_index marks (state_of c.loop-mark.found) left (mark_of c.in-Some.mark.now) rest _ c.loop-mark.invariant (ap (map mark_of) c.in-Some.ensures.cases.0)
     (omega (arith, fits, length-map c.args.marks.now mark_of, length-map c.loop-mark.left.now mark_of)))
