@@ -1,5 +1,6 @@
 pub mod Added
 pub mod Bodies
+pub mod Classes
 pub mod Cuts
 pub mod Groups
 pub mod LineReadings
@@ -8,4 +9,3 @@ pub mod Parts
 pub mod Readings
 pub mod Rests
 pub mod Verdicts
-pub mod Wilds

@@ -5,7 +5,6 @@ use Rattle.os_ignore.specs.declared.class.Name.{Name}
 use Rattle.os_ignore.specs.declared.class.Name.TheVariants.{Alnum, Alpha, Blank, Cntrl, Digit, Graph, Lower, Print, Punct, Space, Upper, Xdigit}
 use Rattle.os_ignore.specs.declared.class.Member.{Member}
 use Rattle.os_ignore.specs.declared.class.Member.TheVariants.{Single, Range, Named}
-use Rattle.os_ignore.specs.declared.class.Class.{Class}
 
 -- the named class, over ASCII, has the byte: git's `space` is blank, tab, line feed and carriage return
 abbrev pub is_named : Name → ℕ → Bool
@@ -34,11 +33,6 @@ is_in [] b = false
 is_in (m ∷ ms) b = is_member m b || is_in ms b
 
 -- a class permits its members or, if it is negated, each other byte
-abbrev pub permitted : Bool → List Member → ℕ → Bool
-permitted false ms b = is_in ms b
-permitted true ms b = not (is_in ms b)
-
-module _ {A : Type 0} where
-  -- the class permits the byte
-  abbrev pub permits : Class A → ℕ → Bool
-  permits class b = permitted class.negated class.members.items b
+abbrev pub permits : Bool → List Member → ℕ → Bool
+permits false ms b = is_in ms b
+permits true ms b = not (is_in ms b)

@@ -1,5 +1,10 @@
--- What the reader of a class answers: only private contracts name this.
-use Rattle.std.specs.Prelude.{◌<◌, length, List}
+-- What the reader of a class answers, and the ranges that it compiles members to: only private contracts name this.
+use Rattle.std.specs.Prelude.{ℕ, ◌<◌, length, List, [], ◌∷◌}
+use Rattle.wildcards.specs.declared.range.Range.{Range}
+use Rattle.os_ignore.specs.declared.class.Name.{Name}
+use Rattle.os_ignore.specs.declared.class.Name.TheVariants.{Alnum, Alpha, Blank, Cntrl, Digit, Graph, Lower, Print, Punct, Space, Upper, Xdigit}
+use Rattle.os_ignore.specs.declared.class.Member.{Member}
+use Rattle.os_ignore.specs.declared.class.Member.TheVariants as written
 use Rattle.os_ignore.specs.declared.letter.Letter.{Letter}
 use Rattle.os_ignore.specs.declared.class_text.Next.{Next}
 use Rattle.os_ignore.specs.declared.class_text.Next.TheVariants as next
@@ -16,3 +21,38 @@ abbrev pub LeavesLess : List Letter → Next → Type 0
 LeavesLess text next.Broken = Unit {0}
 LeavesLess text (next.Closed rest) = length rest.now < length text
 LeavesLess text (next.Member m before rest) = length rest.now < length text
+
+-- the letters from the first to the last
+abbrev pub range : ℕ → ℕ → Range
+range first last = record { first = first; last = last }
+
+-- digits, and small and capital letters
+abbrev pub digits : Range
+digits = range 0x30 0x39
+
+abbrev pub capitals : Range
+capitals = range 0x41 0x5A
+
+abbrev pub smalls : Range
+smalls = range 0x61 0x7A
+
+-- the ranges of a named class
+abbrev pub name_ranges : Name → List Range
+name_ranges Alnum = digits ∷ capitals ∷ smalls ∷ []
+name_ranges Alpha = capitals ∷ smalls ∷ []
+name_ranges Blank = range 0x20 0x20 ∷ range 0x9 0x9 ∷ []
+name_ranges Cntrl = range 0x0 0x1F ∷ range 0x7F 0x7F ∷ []
+name_ranges Digit = digits ∷ []
+name_ranges Graph = range 0x21 0x7E ∷ []
+name_ranges Lower = smalls ∷ []
+name_ranges Print = range 0x20 0x20 ∷ range 0x21 0x7E ∷ []
+name_ranges Punct = range 0x21 0x2F ∷ range 0x3A 0x40 ∷ range 0x5B 0x60 ∷ range 0x7B 0x7E ∷ []
+name_ranges Space = range 0x20 0x20 ∷ range 0x9 0x9 ∷ range 0xA 0xA ∷ range 0xD 0xD ∷ []
+name_ranges Upper = capitals ∷ []
+name_ranges Xdigit = digits ∷ range 0x41 0x46 ∷ range 0x61 0x66 ∷ []
+
+-- those of a member
+abbrev pub member_ranges : Member → List Range
+member_ranges (written.Single b) = range b b ∷ []
+member_ranges (written.Range from to) = range from to ∷ []
+member_ranges (written.Named name) = name_ranges name

@@ -1,13 +1,15 @@
 -- How a class is written (git's wildmatch.c): `[`, then `!` or `^` if it is negated, members, and `]`, which is a member if it comes first.
 use Rattle.std.specs.Prelude.{◌≡◌, ℕ, Bool, true, false, not, nat_eq, ◌&&◌, ◌||◌, cond, List, [], ◌∷◌, Option, Some, None, codes}
+use Rattle.wildcards.specs.declared.class.Class.{Class}
+use Rattle.wildcards.specs.Classes.{permitted}
 use Rattle.os_ignore.specs.declared.letter.Letter.{Letter}
 use Rattle.os_ignore.specs.declared.class.Name.{Name}
 use Rattle.os_ignore.specs.declared.class.Name.TheVariants.{Alnum, Alpha, Blank, Cntrl, Digit, Graph, Lower, Print, Punct, Space, Upper, Xdigit}
 use Rattle.os_ignore.specs.declared.class.Member.{Member}
 use Rattle.os_ignore.specs.declared.class.Member.TheVariants.{Single, Range, Named}
-use Rattle.os_ignore.specs.declared.class.Class.{Class}
 use Rattle.os_ignore.specs.declared.class_text.Before.{Before}
 use Rattle.os_ignore.specs.declared.class_text.Before.TheVariants.{First, Byte, Nothing}
+use Rattle.os_ignore.specs.Class.{permits}
 use Rattle.os_ignore.specs.Letters.{is_plain}
 use Rattle.os_ignore.specs.Reading.{Reads}
 
@@ -115,9 +117,10 @@ pub record IsBrokenClass (text : List Letter) : Type 0 where
   pub stops : member_at left.0 left.1 ≡ broken
 
 module _ {A : Type 0} where
-  -- the class that is written in the text, which comes after a `[`, and what comes after it
+  -- a class is written in the text, which comes after a `[`, and this comes after it; the compiled class permits what its members permit
   pub record IsClass (text : List Letter) (class : Class A) (rest : List Letter) : Type 0 where
-    pub negated : class.negated ≡ (negation text).0
+    pub members : List Member
     pub left : Before × List Letter
-    pub read : AreMembers text class.members.items left
+    pub read : AreMembers text members left
     pub ends : member_at left.0 left.1 ≡ closed rest
+    pub compiled : (b : ℕ) → permitted class b ≡ permits (negation text).0 members b

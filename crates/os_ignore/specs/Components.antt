@@ -2,6 +2,8 @@
 use Rattle.std.specs.Prelude.{◌≡◌, ◌+◌, length, ◌++◌, ℕ, false, nat_eq, List, [], ◌∷◌, Option, Some, None}
 use Rattle.std.specs.List.{All, slice_split}
 use denote.Ref.{Bor}
+use Rattle.wildcards.specs.declared.separators.Separators.TheVariants.{Slash}
+use Rattle.wildcards.specs.Components.{components}
 
 -- no byte of s is the separator
 abbrev pub IsPlain : ℕ → List ℕ → Type 0
@@ -25,14 +27,6 @@ abbrev pub left_size : {X : Type 0} → Option (Bor (List X)) → ℕ
 left_size None = 0
 left_size (Some rest) = length rest.now + 1
 
--- the components of a path, which slashes separate
-abbrev pub components : List ℕ → List (List ℕ)
-components path = pieces 0x2F path
-
--- the components of what is left of a path
-abbrev pub left_components : Option (Bor (List ℕ)) → List (List ℕ)
-left_components left = left_pieces 0x2F left
-
 -- the last component of a path: what comes after its last slash
 abbrev pub IsLastComponent : List ℕ → List ℕ → Type 0
-IsLastComponent path last = (front : List (List ℕ)) × (components path ≡ front ++ last ∷ [])
+IsLastComponent path last = (front : List (List ℕ)) × (components Slash path ≡ front ++ last ∷ [])

@@ -3,10 +3,7 @@ pub mod Letters
 pub mod Class
 pub mod ClassText
 pub mod ClassSteps
-pub mod Wild
 pub mod Components
-pub mod Match
-pub mod Steps
 pub mod PatternText
 pub mod Lines
 pub mod Files

@@ -1,15 +1,16 @@
 -- How a pattern is written: parts between slashes, of `*`, `?`, classes and literal bytes (gitignore, "PATTERN FORMAT").
 use Rattle.std.specs.Prelude.{◌≡◌, Bool, true, false, not, nat_le, ◌&&◌, List, [], ◌∷◌, ◌++◌, length, Option, Some, None}
 use denote.Ref.{Bor}
+use Rattle.wildcards.specs.declared.class.Class.{Class}
+use Rattle.wildcards.specs.declared.part.Part.{Part}
+use Rattle.wildcards.specs.declared.piece.Item.{Item}
+use Rattle.wildcards.specs.declared.piece.Item.TheVariants.{Any, OneOf}
+use Rattle.wildcards.specs.declared.piece.Item.TheVariants as item
+use Rattle.wildcards.specs.declared.piece.Piece.{Piece}
+use Rattle.wildcards.specs.declared.piece.Piece.TheVariants.{Many, One}
 use Rattle.os_ignore.specs.declared.letter.Letter.{Letter}
 use Rattle.os_ignore.specs.declared.letter.Kind.{Kind}
 use Rattle.os_ignore.specs.declared.letter.Kind.TheVariants.{Slash, Star, Question, Bracket, Literal}
-use Rattle.os_ignore.specs.declared.class.Class.{Class}
-use Rattle.os_ignore.specs.declared.item.Item.{Item}
-use Rattle.os_ignore.specs.declared.item.Item.TheVariants.{Any, Byte, OneOf}
-use Rattle.os_ignore.specs.declared.item.Piece.{Piece}
-use Rattle.os_ignore.specs.declared.item.Piece.TheVariants.{Many, One}
-use Rattle.os_ignore.specs.declared.path.Part.{Part}
 use Rattle.os_ignore.specs.declared.pattern.After.{After}
 use Rattle.os_ignore.specs.declared.pattern.After.TheVariants as after
 use Rattle.os_ignore.specs.ClassText.{IsClass, IsBrokenClass}
@@ -53,10 +54,10 @@ concat_of (x ∷ xs) = x ++ concat_of xs
 module _ {A : Type 0} where
   -- a letter, by its kind, and what comes after it are a piece, and what comes after that
   abbrev pub PieceAt : Kind → Letter → List Letter → Piece (Item A) → List Letter → Type 0
-  PieceAt Slash l ls piece rest = (piece ≡ One (Byte l.byte)) × (rest ≡ ls)
+  PieceAt Slash l ls piece rest = (piece ≡ One (item.Literal l.byte)) × (rest ≡ ls)
   PieceAt Star l ls piece rest = (piece ≡ Many) × (rest ≡ ls)
   PieceAt Question l ls piece rest = (piece ≡ One Any) × (rest ≡ ls)
-  PieceAt Literal l ls piece rest = (piece ≡ One (Byte l.byte)) × (rest ≡ ls)
+  PieceAt Literal l ls piece rest = (piece ≡ One (item.Literal l.byte)) × (rest ≡ ls)
   PieceAt Bracket l ls piece rest = (class : Class A) × (piece ≡ One (OneOf class)) × IsClass ls class rest
 
   -- the text begins with the piece, and not with a slash

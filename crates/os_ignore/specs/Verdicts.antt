@@ -1,14 +1,16 @@
 -- Which line decides a path (gitignore, "DESCRIPTION" and "PATTERN FORMAT").
 use Rattle.std.specs.Prelude.{◌≡◌, ◌<◌, ℕ, Bool, true, false, List, [], ◌∷◌, ◌++◌, length}
 use Rattle.std.specs.List.{AllByRecursion}
-use Rattle.os_ignore.specs.declared.item.Piece.{Piece}
-use Rattle.os_ignore.specs.declared.path.Part.{Part}
+use Rattle.wildcards.specs.declared.options.Options.{Options}
+use Rattle.wildcards.specs.declared.part.Part.{Part}
+use Rattle.wildcards.specs.declared.piece.Piece.{Piece}
+use Rattle.wildcards.specs.declared.separators.Separators.TheVariants.{Slash}
+use Rattle.wildcards.specs.Match.{Matches}
 use Rattle.os_ignore.specs.declared.line.Line.{Line}
 use Rattle.os_ignore.specs.declared.file.File.{File}
 use Rattle.os_ignore.specs.declared.verdict.Verdict.{Verdict}
 use Rattle.os_ignore.specs.declared.verdict.Verdict.TheVariants.{Neither, Ignored, TakenIn}
 use Rattle.os_ignore.specs.Components.{IsCut, IsLastComponent}
-use Rattle.os_ignore.specs.Match.{Matches}
 
 -- the rest is the path from the directory, which is empty at the top of the tree
 abbrev pub IsBelow : List ℕ → List ℕ → List ℕ → Type 0
@@ -20,12 +22,16 @@ abbrev pub IsTarget : Bool → List ℕ → List ℕ → Type 0
 IsTarget true path target = target ≡ path
 IsTarget false path target = IsLastComponent path target
 
+-- slashes alone separate components, and a dot at the start of one is matched as any byte
+abbrev pub by_slashes : Options
+by_slashes = record { separators = Slash; literal_leading_dot = false }
+
 module _ {A : Type 0} where
   -- the text is a literal start, and a rest that the pattern matches
   pub record MatchesText (literal : List ℕ) (pattern : List (Piece (Part A))) (text : List ℕ) : Type 0 where
     pub rest : List ℕ
     pub joined : text ≡ literal ++ rest
-    pub matches : Matches pattern rest
+    pub matches : Matches by_slashes pattern rest
 
   -- the line matches the path, which may be a directory
   pub record LineMatches (line : Line A) (path : List ℕ) (is_dir : Bool) : Type 0 where

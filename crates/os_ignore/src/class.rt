@@ -1,8 +1,9 @@
-//! Classes, as `[a-z]`.
-ghost use Rattle.std.specs.Prelude.{◌≡◌};
-ghost use Rattle.os_ignore.specs.Class.{is_named, is_member, is_in, permits};
+//! What classes are written with, as `[a-z]`.
+ghost use Rattle.std.specs.Prelude.{◌≡◌, ◌++◌, IfOk};
+ghost use Rattle.os_ignore.specs.ClassSteps.{range, name_ranges, member_ranges};
 
-use std::alloc::{Allocator, Global};
+use std::alloc::{AllocError, Allocator};
+use wildcards::Range;
 
 /// A class of POSIX, over ASCII, as git has it.
 #[derive(Clone, Copy)]
@@ -32,67 +33,71 @@ pub enum Member {
     Named(Name),
 }
 
-/// A class.
-#[derive(Drop)]
-pub struct Class<A: Allocator = Global> {
-    pub negated: bool,
-    pub members: Vec<Member, A>,
+/// The bytes from the first to the last.
+const fn range(first: u8, last: u8) -> Range
+    ensures { result ≡ range first last }
+{
+    Range {
+        first: first as u32,
+        last: last as u32,
+    }
 }
 
 impl Name {
-    /// Whether the class has the byte.
-    pub fn has(self, byte: u8) -> bool
-        ensures { result ≡ is_named self byte }
+    /// Appends its bytes.
+    fn push_to<A: Allocator>(self, ranges: &mut Vec<Range, A>) -> Result<(), AllocError>
+        ensures { IfOk result (λ _. ranges.new.items ≡ ranges.old.items ++ name_ranges self) }
     {
         match self {
-            Name::Alnum => byte.is_ascii_alphanumeric(),
-            Name::Alpha => byte.is_ascii_alphabetic(),
-            Name::Blank => byte == b' ' || byte == b'\t',
-            Name::Cntrl => byte.is_ascii_control(),
-            Name::Digit => byte.is_ascii_digit(),
-            Name::Graph => byte.is_ascii_graphic(),
-            Name::Lower => byte.is_ascii_lowercase(),
-            Name::Print => byte == b' ' || byte.is_ascii_graphic(),
-            Name::Punct => byte.is_ascii_punctuation(),
-            Name::Space => byte == b' ' || byte == b'\t' || byte == b'\n' || byte == b'\r',
-            Name::Upper => byte.is_ascii_uppercase(),
-            Name::Xdigit => byte.is_ascii_hexdigit(),
+            Name::Alnum => ranges.extend_from_slice(&[
+                range(b'0', b'9'),
+                range(b'A', b'Z'),
+                range(b'a', b'z'),
+            ]),
+            Name::Alpha => ranges.extend_from_slice(&[range(b'A', b'Z'), range(b'a', b'z')]),
+            Name::Blank => ranges.extend_from_slice(&[range(b' ', b' '), range(b'\t', b'\t')]),
+            Name::Cntrl => ranges.extend_from_slice(&[range(0, 0x1F), range(0x7F, 0x7F)]),
+            Name::Digit => ranges.extend_from_slice(&[range(b'0', b'9')]),
+            Name::Graph => ranges.extend_from_slice(&[range(b'!', b'~')]),
+            Name::Lower => ranges.extend_from_slice(&[range(b'a', b'z')]),
+            Name::Print => ranges.extend_from_slice(&[range(b' ', b' '), range(b'!', b'~')]),
+            Name::Punct => ranges.extend_from_slice(&[
+                range(b'!', b'/'),
+                range(b':', b'@'),
+                range(b'[', b'`'),
+                range(b'{', b'~'),
+            ]),
+            Name::Space => ranges.extend_from_slice(&[
+                range(b' ', b' '),
+                range(b'\t', b'\t'),
+                range(b'\n', b'\n'),
+                range(b'\r', b'\r'),
+            ]),
+            Name::Upper => ranges.extend_from_slice(&[range(b'A', b'Z')]),
+            Name::Xdigit => ranges.extend_from_slice(&[
+                range(b'0', b'9'),
+                range(b'A', b'F'),
+                range(b'a', b'f'),
+            ]),
         }
     }
 }
 
 impl Member {
-    /// Whether the byte is the member, or in it.
-    fn has(self, byte: u8) -> bool
-        ensures { result ≡ is_member self byte }
+    /// Appends its bytes.
+    pub(crate) fn push_to<A: Allocator>(self, ranges: &mut Vec<Range, A>) -> Result<(), AllocError>
+        ensures { IfOk result (λ _. ranges.new.items ≡ ranges.old.items ++ member_ranges self) }
     {
         match self {
-            Member::Single(own) => own == byte,
-            Member::Range(from, to) => from <= byte && byte <= to,
-            Member::Named(name) => name.has(byte),
+            Member::Single(byte) => {
+                ranges.push(range(byte, byte))?;
+                Ok(())
+            }
+            Member::Range(from, to) => {
+                ranges.push(range(from, to))?;
+                Ok(())
+            }
+            Member::Named(name) => name.push_to(ranges),
         }
-    }
-}
-
-/// Whether a byte is in one of the members.
-fn is_in(members: &[Member], byte: u8) -> bool
-    ensures { result ≡ is_in members.entry.now byte }
-{
-    let mut left = members;
-    while let Some((member, more)) = left.split_first() {
-        if member.has(byte) {
-            return true;
-        }
-        left = more;
-    }
-    false
-}
-
-impl<A: Allocator> Class<A> {
-    /// Whether a byte is one of the class.
-    pub fn permits(&self, byte: u8) -> bool
-        ensures { result ≡ permits self.now byte }
-    {
-        is_in(&self.members, byte) != self.negated
     }
 }

@@ -3,9 +3,10 @@ ghost use Rattle.std.specs.Prelude.{◌≡◌, ◌<◌, ◌≤◌, false, length
 ghost use Rattle.os_ignore.specs.ClassText.{all_names, name_text, after_text, known_name, ends_name, named_text, closes, range_at, member_at, negation, IsClass, IsBrokenClass};
 ghost use Rattle.os_ignore.specs.ClassSteps.{reading_of, LeavesLess};
 
-use crate::class::{Class, Member, Name};
+use crate::class::{Member, Name};
 use crate::letter::Letter;
 use std::alloc::{AllocError, Allocator};
+use wildcards::Class;
 
 /// What comes before a letter of a class.
 #[derive(Clone, Copy)]
@@ -199,7 +200,7 @@ fn negation(text: &[Letter]) -> (bool, &[Letter])
 }
 
 /// Reads the class that comes after a `[`, and what comes after it; `None` where it is none.
-pub(crate) fn read_class<'a, A: Allocator>(
+pub(crate) fn read_class<'a, A: Allocator + Copy>(
     alloc: A,
     text: &'a [Letter],
 ) -> Result<Option<(Class<A>, &'a [Letter])>, AllocError>
@@ -208,15 +209,15 @@ pub(crate) fn read_class<'a, A: Allocator>(
     ensures shorter { IfOk result (λ read. IfSome read (λ p. length p.1.now < length text.now)) }
 {
     let (negated, body) = negation(text);
-    let mut members = Vec::new(alloc);
+    let mut ranges = Vec::new(alloc);
     let mut before = Before::First;
     let mut left = body;
     loop {
         match next_member(before, left) {
             Next::Broken => return Ok(None),
-            Next::Closed(rest) => return Ok(Some((Class { negated, members }, rest))),
+            Next::Closed(rest) => return Ok(Some((Class::new(alloc, negated, ranges)?, rest))),
             Next::Member(member, after, rest) => {
-                members.push(member)?;
+                member.push_to(&mut ranges)?;
                 before = after;
                 left = rest;
             }

@@ -29,12 +29,9 @@ mod class_text;
 mod component;
 mod file;
 mod ignore;
-mod item;
 pub mod laws;
 mod letter;
 mod line;
-mod part;
-mod path;
 mod pattern;
 mod verdict;
 

@@ -2,11 +2,10 @@
 ghost use Rattle.std.specs.Prelude.{◌≡◌, IfOk, MatchOption, ◌++◌, ◌∷◌};
 ghost use Rattle.os_ignore.specs.Lines.{IsTrimmed, strip_first, StripsSlash, has_slash, is_comment, literal_prefix, after_literal, IsLineOf, LettersSayNothing, IsLine, SaysNothing};
 
-use crate::item::Piece;
 use crate::letter::{Kind, Letter, letters};
-use crate::path::Part;
 use crate::pattern::read_pattern;
 use std::alloc::{AllocError, Allocator, Global};
+use wildcards::{Part, Piece};
 
 /// A line that is a pattern.
 #[derive(Drop)]

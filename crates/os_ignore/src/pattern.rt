@@ -5,10 +5,9 @@ ghost use Rattle.os_ignore.specs.Letters.{kind_of};
 ghost use Rattle.os_ignore.specs.PatternText.{PieceAt, IsBrokenPiece, IsPart, IsBrokenPart, is_deep, all_stars, group, is_joined, IsPattern, IsBrokenPattern, left_after};
 
 use crate::class_text::read_class;
-use crate::item::{Item, Piece};
 use crate::letter::{Kind, Letter};
-use crate::path::Part;
 use std::alloc::{AllocError, Allocator};
+use wildcards::{Item, Part, Piece};
 
 /// What comes after a part.
 #[derive(Clone, Copy)]
@@ -42,7 +41,7 @@ impl<'a> After<'a> {
 }
 
 /// Reads the piece that begins with `first`, which is no slash; `None` where it is a class that isn't one.
-fn read_piece<'a, A: Allocator>(
+fn read_piece<'a, A: Allocator + Copy>(
     alloc: A,
     first: Letter,
     rest: &'a [Letter],
@@ -60,17 +59,20 @@ fn read_piece<'a, A: Allocator>(
             };
             Ok(Some((Piece::One(Item::OneOf(class)), after)))
         }
-        Kind::Literal | Kind::Slash => Ok(Some((Piece::One(Item::Byte(first.byte)), rest))),
+        Kind::Literal | Kind::Slash => {
+            let letter = u32::from(first.byte);
+            Ok(Some((Piece::One(Item::Literal(letter)), rest)))
+        }
     }
 }
 
-/// Reads a part, and what comes after it; `None` where a class in it isn't one.
+/// Reads the pieces of a part, and what comes after it; `None` where a class in it isn't one.
 fn read_part<A: Allocator + Copy>(
     alloc: A,
     text: &[Letter],
-) -> Result<Option<(Part<A>, After<'_>)>, AllocError>
+) -> Result<Option<(Vec<Piece<Item<A>>, A>, After<'_>)>, AllocError>
     ensures part { IfOk result (λ read. MatchOption read (IsBrokenPart A text.entry.now)
-        (λ p. IsPart text.entry.now p.0.pieces.items p.1)) }
+        (λ p. IsPart text.entry.now p.0.items p.1)) }
     ensures shorter { IfOk result (λ read. IfSome read
         (λ p. left_size (left_after p.1) < length text.entry.now + 1)) }
 {
@@ -78,7 +80,7 @@ fn read_part<A: Allocator + Copy>(
     let mut left = text;
     while let Some((first, rest)) = left.split_first() {
         if first.byte == b'/' {
-            return Ok(Some((Part { pieces }, After::Slash(first.quoted, rest))));
+            return Ok(Some((pieces, After::Slash(first.quoted, rest))));
         }
         let Some((piece, after)) = read_piece(alloc, *first, rest)? else {
             return Ok(None);
@@ -86,7 +88,7 @@ fn read_part<A: Allocator + Copy>(
         pieces.push(piece)?;
         left = after;
     }
-    Ok(Some((Part { pieces }, After::End)))
+    Ok(Some((pieces, After::End)))
 }
 
 /// Whether each piece is a star.
@@ -110,16 +112,18 @@ fn is_deep<A: Allocator>(pieces: &[Piece<Item<A>>]) -> bool
     pieces.len() >= 2 && all_stars(pieces)
 }
 
-/// Appends a part to a pattern: `**` before a slash that isn't quoted takes any number of components, else one or more.
+/// Appends a part to a pattern: `**` before a slash that isn't quoted takes any number of components,
+/// and else one or more.
 fn push_group<A: Allocator>(
     pattern: &mut Vec<Piece<Part<A>>, A>,
     part: Part<A>,
+    deep: bool,
     joined: bool,
 ) -> Result<(), AllocError>
     ensures { IfOk result (λ _. pattern.new.items
-        ≡ pattern.old.items ++ group (is_deep part.pieces.items) joined part) }
+        ≡ pattern.old.items ++ group deep joined part) }
 {
-    if !is_deep(&part.pieces) {
+    if !deep {
         pattern.push(Piece::One(part))?;
         return Ok(());
     }
@@ -142,10 +146,12 @@ pub(crate) fn read_pattern<A: Allocator + Copy>(
     let mut pattern = Vec::new(alloc);
     let mut left = Some(text);
     while let Some(text) = left {
-        let Some((part, after)) = read_part(alloc, text)? else {
+        let Some((pieces, after)) = read_part(alloc, text)? else {
             return Ok(None);
         };
-        push_group(&mut pattern, part, after.is_joined())?;
+        let deep = is_deep(&pieces);
+        let part = Part::new(alloc, pieces)?;
+        push_group(&mut pattern, part, deep, after.is_joined())?;
         left = after.left();
     }
     Ok(Some(pattern))

@@ -5,10 +5,9 @@ ghost use Rattle.os_ignore.specs.Verdicts.{LineMatches, MatchesText, IsBelow, Is
 
 use crate::component::last_component;
 use crate::file::File;
-use crate::item::Piece;
 use crate::line::Line;
-use crate::path::{Part, matches};
 use std::alloc::Allocator;
+use wildcards::{Bytes, Options, Part, Piece, Separators, matches};
 
 /// What ignore files say of a path, and which line of which file.
 #[derive(Clone, Copy, PartialEq, Eq, Debug)]
@@ -53,8 +52,12 @@ fn after_bytes<'a>(bytes: &[u8], text: &'a [u8]) -> Option<&'a [u8]>
 fn matches_text<A: Allocator>(literal: &[u8], pattern: &[Piece<Part<A>>], text: &[u8]) -> bool
     ensures { IsTrue result ↔ MatchesText literal.now pattern.now text.now }
 {
+    let options = Options {
+        separators: Separators::Slash,
+        literal_leading_dot: false,
+    };
     match after_bytes(literal, text) {
-        Some(rest) => matches(pattern, rest),
+        Some(rest) => matches::<Bytes, A>(options, pattern, rest),
         None => false,
     }
 }

@@ -1,42 +1,8 @@
 -- The pieces on both sides of a separator.
-use Rattle.std.proofs.Common.{◌≡◌, ℕ, Bool, true, false, List, [], ◌∷◌, ◌++◌, eq-eqb, nat_eq, refl, sym, ap, ◌∙◌, subst}
-use Rattle.std.proofs.lemmas.List.Splits.{slice_split-cons_yes, slice_split-cons_no, slice_split_none}
-use Rattle.std.specs.List.{slice_split, onto_first}
+use Rattle.std.proofs.Common.{◌≡◌, ℕ, List, [], ◌∷◌, ◌++◌, eq-eqb, nat_eq, refl, ap, ◌∙◌}
+use Rattle.std.proofs.lemmas.List.Splits.{slice_split_none}
+use Rattle.wildcards.proofs.Parts.{split_append}
 use Rattle.os_ignore.specs.Components.{IsPlain, IsCut, pieces}
-
--- a list of parts isn't empty
-data IsSome {X : Type 0} : List X → Type 0 where
-  some : {x : X} {xs : List X} → IsSome (x ∷ xs)
-
-onto_some : {X : Type 0} (x : X) (ps : List (List X)) → IsSome (onto_first x ps)
-onto_some x [] = some
-onto_some x (p ∷ ps) = some
-
-split_some : {X : Type 0} (p : X → Bool) (xs : List X) → IsSome (slice_split p xs)
-split_some p [] = some
-split_some p (x ∷ xs) = cases (p x) refl
-  where
-    cases : (b : Bool) → p x ≡ b → IsSome (slice_split p (x ∷ xs))
-    cases true e = subst IsSome (sym (slice_split-cons_yes p x xs e)) some
-    cases false e = subst IsSome (sym (slice_split-cons_no p x xs e)) (onto_some x (slice_split p xs))
-
-onto_append : {X : Type 0} (x : X) (ps qs : List (List X)) → IsSome ps → onto_first x (ps ++ qs) ≡ onto_first x ps ++ qs
-onto_append x [] qs h = elim h [ ]
-onto_append x (p ∷ ps) qs some = refl
-
--- parts on both sides of a separator
-pub split_append : {X : Type 0} (p : X → Bool) (xs : List X) (y : X) (ys : List X) → p y ≡ true → slice_split p (xs ++ y ∷ ys) ≡ slice_split p xs ++ slice_split p ys
-split_append p [] y ys e = slice_split-cons_yes p y ys e
-split_append p (x ∷ xs) y ys e = cases (p x) refl (split_append p xs y ys e)
-  where
-    cases : (b : Bool) → p x ≡ b → slice_split p (xs ++ y ∷ ys) ≡ slice_split p xs ++ slice_split p ys → slice_split p (x ∷ (xs ++ y ∷ ys)) ≡ slice_split p (x ∷ xs) ++ slice_split p ys
-    cases true f h =
-        slice_split-cons_yes p x (xs ++ y ∷ ys) f ∙ ap (λ z. [] ∷ z) h
-        ∙ ap (λ z. z ++ slice_split p ys) (sym (slice_split-cons_yes p x xs f))
-    cases false f h =
-        slice_split-cons_no p x (xs ++ y ∷ ys) f ∙ ap (onto_first x) h
-        ∙ onto_append x (slice_split p xs) (slice_split p ys) (split_some p xs)
-        ∙ ap (λ z. z ++ slice_split p ys) (sym (slice_split-cons_no p x xs f))
 
 module _ (separator : ℕ) where
   pub one_piece : (s : List ℕ) → IsPlain separator s → pieces separator s ≡ s ∷ []
@@ -46,9 +12,6 @@ module _ (separator : ℕ) where
   first_piece s part rest (c, h) =
       ap (pieces separator) c ∙ split_append (λ b. nat_eq b separator) part separator rest (eq-eqb separator separator refl)
       ∙ ap (λ z. z ++ pieces separator rest) (one_piece part h)
-
-  pub some_piece : (s : List ℕ) → pieces separator s ≡ [] → ⊥
-  some_piece s e = elim (subst IsSome e (split_some (λ b. nat_eq b separator) s)) [ ]
 
   pub last_of_cut : (s front back : List ℕ) → IsCut separator s front back → IsPlain separator back → pieces separator s ≡ pieces separator front ++ back ∷ []
   last_of_cut s front back c h =

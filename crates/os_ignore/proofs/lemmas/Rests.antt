@@ -5,23 +5,23 @@ use Rattle.std.specs.List.{insert}
 use denote.Ref.{Bor}
 use Rattle.std.proofs.lemmas.Bool.Decides.{nat_tests}
 use Rattle.std.proofs.lemmas.List.{same_from_push}
-use Rattle.os_ignore.specs.declared.item.Piece.{Piece}
-use Rattle.os_ignore.specs.declared.path.Part.{Part}
+use Rattle.wildcards.specs.declared.piece.Piece.{Piece}
+use Rattle.wildcards.specs.declared.part.Part.{Part}
+use Rattle.wildcards.specs.Match.{Matches}
 use Rattle.os_ignore.specs.Components.{IsLastComponent}
-use Rattle.os_ignore.specs.Match.{Matches}
 use Rattle.os_ignore.specs.declared.file.File.{File}
 use Rattle.os_ignore.specs.declared.line.Line.{Line}
-use Rattle.os_ignore.specs.Verdicts.{IsBelow, MatchesText, NoneMatches, IsLastMatch, FileIsSilent, FileDecides}
+use Rattle.os_ignore.specs.Verdicts.{IsBelow, IsTarget, LineMatches, by_slashes, MatchesText, NoneMatches, IsLastMatch, FileIsSilent, FileDecides}
 
 pub same_after : (xs ys zs : List ℕ) → xs ++ ys ≡ xs ++ zs → ys ≡ zs
 same_after [] ys zs e = e
 same_after (x ∷ xs) ys zs e = let f : xs ++ ys ≡ xs ++ zs = cc in same_after xs ys zs f
 
 module _ {A : Type 0} where
-  pub text_matches : (literal : List ℕ) (pattern : List (Piece (Part A))) (text rest : List ℕ) → text ≡ literal ++ rest → Matches pattern rest ↔ MatchesText literal pattern text
+  pub text_matches : (literal : List ℕ) (pattern : List (Piece (Part A))) (text rest : List ℕ) → text ≡ literal ++ rest → Matches by_slashes pattern rest ↔ MatchesText literal pattern text
   text_matches literal pattern text rest e = (
     λ m. record { rest = rest; joined = e; matches = m },
-    λ m. subst (Matches pattern) (same_after literal m.rest rest (sym m.joined ∙ e)) m.matches,
+    λ m. subst (Matches by_slashes pattern) (same_after literal m.rest rest (sym m.joined ∙ e)) m.matches,
   )
 
 pub not_below : (d p : List ℕ) → (d ≡ [] → ⊥) → ((rest : List ℕ) → p ≡ d ++ 0x2F ∷ rest → ⊥) → (rest : List ℕ) → IsBelow d p rest → ⊥
@@ -38,6 +38,16 @@ one_rest (x ∷ d) p r s b c = let e : 0x2F ∷ r ≡ 0x2F ∷ s = same_after (x
 
 pub one_last : (path a b : List ℕ) → IsLastComponent path a → IsLastComponent path b → a ≡ b
 one_last path a b k l = (same_from_push k.0 l.0 a b (sym k.1 ∙ l.1)).1
+
+one_target : (anchored : Bool) (path a b : List ℕ) → IsTarget anchored path a → IsTarget anchored path b → a ≡ b
+one_target true path a b k l = k ∙ sym l
+one_target false path a b k l = one_last path a b k l
+
+pub line_matches : {A : Type 0} (line : Line A) (path target : List ℕ) (is_dir : Bool) → (line.directories ≡ true → is_dir ≡ true) → IsTarget line.anchored path target → MatchesText line.literal.items line.pattern.items target ↔ LineMatches line path is_dir
+line_matches line path target is_dir d t = (
+  λ m. record { directories = d; target = target; target_is = t; matches = m },
+  λ m. subst (MatchesText line.literal.items line.pattern.items) (one_target line.anchored path m.target target m.target_is t) m.matches,
+)
 
 pub not_empty : {X : Type 0} (xs : List X) → nat_eq (length xs) 0 ≡ false → xs ≡ [] → ⊥
 not_empty [] e f = let never : true ≡ false = e in cc

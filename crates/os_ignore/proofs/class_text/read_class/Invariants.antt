@@ -1,9 +1,9 @@
 use Rattle.std.proofs.Common.{◌≤◌, length}
-use Rattle.os_ignore.specs.ClassText.{AreMembers}
+use Rattle.os_ignore.proofs.lemmas.Classes.{SoFar}
 use Rattle.os_ignore.proofs.class_text.read_class.Given as goal
 
-abbrev pub invariant-loop-members : goal.invariant-loop-members
-invariant-loop-members g l = AreMembers l.text l.members.items (l.before, l.left) × (length l.left ≤ length l.text)
+abbrev pub invariant-loop-ranges : goal.invariant-loop-ranges
+invariant-loop-ranges g l = SoFar l.text l.ranges.items (l.before, l.left) × (length l.left ≤ length l.text)
 
-abbrev pub decreases-loop-members : goal.decreases-loop-members
-decreases-loop-members g l = length l.left
+abbrev pub decreases-loop-ranges : goal.decreases-loop-ranges
+decreases-loop-ranges g l = length l.left

@@ -1,6 +1,6 @@
 use Rattle.std.proofs.Common.{sym, subst, refl, ◌∙◌}
-use Rattle.os_ignore.specs.declared.item.Item.TheVariants.{OneOf}
-use Rattle.os_ignore.specs.declared.item.Piece.TheVariants.{One}
+use Rattle.wildcards.specs.declared.piece.Item.TheVariants.{OneOf}
+use Rattle.wildcards.specs.declared.piece.Piece.TheVariants.{One}
 use Rattle.os_ignore.specs.PatternText.{PieceAt}
 use Rattle.os_ignore.proofs.pattern.read_piece.Goals as goal
 
