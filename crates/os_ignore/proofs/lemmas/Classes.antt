@@ -1,5 +1,5 @@
 -- The ranges of a class, and what its members permit.
-use Rattle.std.proofs.Common.{◌≡◌, ◌||◌, ℕ, Bool, true, false, not, List, [], ◌∷◌, ◌++◌, refl, sym, ap, ◌∙◌, arith}
+use Rattle.std.proofs.Common.{◌≡◌, ◌||◌, ℕ, Bool, true, false, List, [], ◌∷◌, ◌++◌, refl, sym, ap, ◌∙◌, arith}
 use Rattle.std.proofs.lemmas.Bool.Decides.{nat_tests}
 use Rattle.std.proofs.Math.Bool.{or_assoc}
 use Rattle.wildcards.specs.declared.range.Range.{Range}
@@ -11,7 +11,7 @@ use Rattle.os_ignore.specs.declared.class.Member.{Member}
 use Rattle.os_ignore.specs.declared.class.Member.TheVariants.{Single, Range as From, Named}
 use Rattle.os_ignore.specs.declared.class_text.Before.{Before}
 use Rattle.os_ignore.specs.declared.class_text.Before.TheVariants.{First}
-use Rattle.os_ignore.specs.Class.{is_named, is_member, is_in, permits}
+use Rattle.os_ignore.specs.Class.{is_named, is_member, is_in}
 use Rattle.os_ignore.specs.ClassSteps.{name_ranges, member_ranges}
 use Rattle.os_ignore.specs.ClassText.{IsMember, AreMembers, negation}
 use Rattle.os_ignore.proofs.lemmas.Readings.{more_items}

@@ -4,4 +4,4 @@ use Rattle.os_ignore.proofs.verdict.matches_text.Goals as goal
 pub returns-in-Some : goal.returns-in-Some
 returns-in-Some g c =
     let both = text_matches c.args.literal.now c.args.pattern.now c.args.text.now c.in-Some.rest.now c.in-Some.ensures in
-    (λ e. both.0 (c.matches.ensures.0 e), λ m. c.matches.ensures.1 (both.1 m))
+    (λ e. both.0 (c.matches_rest.ensures.0 e), λ m. c.matches_rest.ensures.1 (both.1 m))
