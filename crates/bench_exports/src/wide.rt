@@ -60,7 +60,8 @@ pub extern "C" fn port_write_wide(bytes: &[u8], out: &mut [u16]) -> usize
 /// Writes the bytes of the units into `out`, truncated, and answers how many they are.
 #[unsafe(no_mangle)]
 pub extern "C" fn port_write_from_wide(units: &[u16], out: &mut [u8]) -> usize
-    ensures { (bytes : List ℕ) × HasUnits bytes units.now × IsTruncated bytes out.old out.new result }
+    ensures { (bytes : List ℕ) × HasUnits bytes units.now
+        × IsTruncated bytes out.old out.new result }
 {
     OsStr::write_from_wide(units, out)
 }

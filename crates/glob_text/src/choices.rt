@@ -50,7 +50,8 @@ fn nothing<A: Allocator + Copy>(alloc: A, room: usize) -> Result<Vec<Chosen<A>, 
 
 /// Adds a mark to each of the choices.
 fn push_mark<A: Allocator>(choices: &mut Vec<Chosen<A>, A>, mark: usize) -> Result<(), AllocError>
-    ensures { OnOk result (indices_of choices.new.items ≡ each (indices_of choices.old.items) mark) }
+    ensures { OnOk result
+        (indices_of choices.new.items ≡ each (indices_of choices.old.items) mark) }
 {
     let mut at = 0;
     while at < choices.len() {

@@ -42,7 +42,10 @@ pub fn print_quoted<'a, E: Platform + 'a, W: fmt::Write>(
     string: OsStr<'a, E>,
     f: &mut fmt::Formatter<W>,
 ) -> fmt::Result
-    ensures { WritesStyledOnOk W.write_str_gives f.old result (filled (spec_fill (formatter_spec f.old)) (spec_align (formatter_spec f.old)) (spec_width (formatter_spec f.old)) (codes "'" ++ (E.lossy (bytes string.entry) ++ codes "'"))) f.new }
+    ensures { WritesStyledOnOk W.write_str_gives f.old result
+        (filled (spec_fill (formatter_spec f.old)) (spec_align (formatter_spec f.old))
+        (spec_width (formatter_spec f.old))
+        (codes "'" ++ (E.lossy (bytes string.entry) ++ codes "'"))) f.new }
 {
     write_filled(&Quoted { string }, f)
 }
