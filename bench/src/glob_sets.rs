@@ -1,6 +1,7 @@
 //! Sets of path patterns over this machine's own paths, and how the cost of patterns grows, beside
 //! globset.
 use crate::globs::{MACHINE, PATHS, Paths, cut};
+use crate::inputs::Random;
 use crate::ours;
 use crate::table::Bench;
 use globset::{GlobBuilder, GlobSet, GlobSetBuilder};
@@ -77,10 +78,14 @@ fn grown(bench: &mut Bench) {
         // each has half of a hundred letters, and the path's letter is in the last
         let ranges: String =
             (0..count).map(|index| format!("{}-{}", han(100 * index), han(100 * index + 50))).collect();
+        let pattern = format!("*[{ranges}]b*");
         let letter = han(100 * (count - 1) + 10);
-        let path = letter.to_string().repeat(LONGEST / letter.len_utf8());
-        let input = format!("`*[..]b*` of {count} ranges on {letter}^{}", LONGEST / letter.len_utf8());
-        one(bench, &input, &format!("*[{ranges}]b*"), &path);
+        let times = LONGEST / letter.len_utf8();
+        let path = letter.to_string().repeat(times);
+        one(bench, &format!("`*[..]b*` of {count} ranges on {letter}^{times}"), &pattern, &path);
+        let mut random = Random(u64::from(count));
+        let path: String = (0..times).map(|_| random.char(0x4E00, 100 * count as usize)).collect();
+        one(bench, &format!("`*[..]b*` of {count} ranges on {times} random letters"), &pattern, &path);
     }
 }
 

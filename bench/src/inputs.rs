@@ -29,7 +29,7 @@ const OPTIONS: [&str; 8] = ["verbose", "output", "config-file", "color", "jobs",
 const ENDINGS: [&str; 4] = [".txt", ".pdf", "-2024", ""];
 
 /// Numbers that look random: splitmix64.
-pub struct Random(u64);
+pub struct Random(pub u64);
 
 impl Random {
     fn next(&mut self) -> u64 {
@@ -53,7 +53,7 @@ impl Random {
         items[self.below(items.len())]
     }
 
-    fn char(&mut self, first: u32, count: usize) -> char {
+    pub fn char(&mut self, first: u32, count: usize) -> char {
         char::from_u32(first + self.below(count) as u32).expect("the range has no surrogate")
     }
 }
