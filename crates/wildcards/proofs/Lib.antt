@@ -15,4 +15,5 @@ pub mod Queries
 pub mod AnyWith
 pub mod Adding
 pub mod Orders
+pub mod PageWords
 pub mod Beginnings

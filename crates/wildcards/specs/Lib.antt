@@ -1,4 +1,5 @@
 pub mod Ranges
+pub mod Pages
 pub mod Classes
 pub mod Components
 pub mod Wild

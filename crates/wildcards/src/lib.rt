@@ -20,6 +20,7 @@ mod key;
 mod letters;
 mod literal;
 mod options;
+mod pages;
 mod part;
 mod path;
 mod pattern;
