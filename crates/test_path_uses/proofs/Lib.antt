@@ -15,3 +15,4 @@ pub mod OtherStyle
 pub mod Stripped
 pub mod Ways
 pub mod MainSeparators
+pub mod OneFile

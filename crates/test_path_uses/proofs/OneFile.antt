@@ -1,0 +1,15 @@
+-- What the one file of a tree decides.
+use Rattle.std.proofs.Common.{◌≡◌, ℕ, Bool, List, [], ◌∷◌, ◌++◌, refl, sym, ◌∙◌, subst}
+use Rattle.std.specs.List.{AllByRecursion}
+use Rattle.os_ignore.specs.declared.file.File.{File}
+use Rattle.os_ignore.specs.Verdicts.{Decides}
+
+-- what holds of each element holds of the one between others
+between : {X : Type 0} (P : X → Type 0) (front : List X) (x : X) (back : List X) → AllByRecursion P (front ++ x ∷ back) → P x
+between P [] x back h = h.0
+between P (y ∷ front) x back h = between P front x back h.1
+
+-- the file that is told is that one
+pub its_number : {A : Type 0} (file : File A) (path : List ℕ) (is_dir takes_in : Bool) (number line : ℕ) → Decides (file ∷ []) path is_dir takes_in number line → number ≡ file.number
+its_number file path is_dir takes_in number line d =
+    sym d.numbers.0 ∙ between (λ z. z.number ≡ file.number) d.front d.file d.back (subst (AllByRecursion (λ z. z.number ≡ file.number)) d.joined (refl, tt))
