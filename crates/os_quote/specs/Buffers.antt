@@ -1,8 +1,8 @@
 -- Escapes in a buffer that may be too short for them, part by part. Only private contracts name these.
-use Rattle.std.specs.Prelude.{◌≡◌, ℕ, ◌+◌, ◌<◌, nat_eq, Bool, if◌then◌else◌, List, ◌++◌, map, length}
-use Rattle.std.specs.Str.{IsUtf8, chars}
+use Rattle.std.specs.Prelude.{◌≡◌, ℕ, ◌+◌, nat_eq, Bool, if◌then◌else◌, List, ◌++◌, map, length}
+use Rattle.std.specs.Str.{chars}
 use Rattle.wtf8_core.specs.Truncated.{IsTruncated}
-use Rattle.os_quote.specs.Item.{Item, Backslash, backslash, item_text, item_texts, unit_item, hidden_item, character_item}
+use Rattle.os_quote.specs.Item.{Item, Backslash, backslash, item_texts, unit_item, hidden_item, character_item}
 
 -- `more` is appended to a text of `count` bytes in a buffer, truncated to the buffer's length, and `len` is the length of both
 abbrev pub Pushes : List ℕ → List ℕ → ℕ → List ℕ → ℕ → Type 0
@@ -19,9 +19,3 @@ part_escape units part = item_texts (map unit_item (units part))
 -- the escape of a text in the form that shows these characters
 abbrev pub text_escape : (ℕ → Bool) → List ℕ → List ℕ
 text_escape shows text = item_texts (map (character_item shows) (chars text))
-
--- the text is cut around the first character that is written as a token
-pub record IsCutAtToken (shows : ℕ → Bool) (text prefix : List ℕ) (character : ℕ) (following : List ℕ) : Type 0 where
-  pub escape : text_escape shows text ≡ (prefix ++ item_text (token_of character)) ++ text_escape shows following
-  pub shorter : length following < length text
-  pub after_text : IsUtf8 following

@@ -1,22 +1,22 @@
--- What of a text is unchanged in its escape on one line, found by its bytes. Only private contracts name these; `IsEscapeBy` says what an escape is.
+-- What of a text is unchanged in its escape, found by its bytes. Only private contracts name these; `IsEscapeBy` says what an escape is.
 use Rattle.std.specs.Prelude.{◌≡◌, ◌≢◌, ℕ, ◌+◌, ◌/◌, ◌≤◌, ◌<◌, nat_eq, not, Bool, true, false, List, ◌++◌, length, slice_index, bit_and, bit_or}
 use Rattle.std.specs.{List.AllByRecursion, Char.encode_utf8}
 use Rattle.std.specs.Str.{IsUtf8, chars}
-use Rattle.os_quote.specs.{Item.backslash, Shown.stays_on_line}
+use Rattle.os_quote.specs.Item.{backslash}
 use Rattle.os_quote.specs.declared.find_tables.TheConstants.{FIRST_HIGH, FIRST_LOW, SECOND_HIGH, SECOND_LOW, THIRD_HIGH, THIRD_LOW, OTHER_HIGH, OTHER_LOW}
 
--- the character is unchanged in the escape
-abbrev pub IsUnchanged : ℕ → Type 0
-IsUnchanged c = (c ≢ backslash) × (stays_on_line c ≡ true)
+-- the character is unchanged in the escape of the form that shows these characters
+abbrev pub IsUnchanged : (ℕ → Bool) → ℕ → Type 0
+IsUnchanged shows c = (c ≢ backslash) × (shows c ≡ true)
 
 -- each character of the text is
-abbrev pub AreUnchanged : List ℕ → Type 0
-AreUnchanged text = AllByRecursion IsUnchanged (chars text)
+abbrev pub AreUnchanged : (ℕ → Bool) → List ℕ → Type 0
+AreUnchanged shows text = AllByRecursion (IsUnchanged shows) (chars text)
 
--- the text is cut round the first character that doesn't
-pub record IsCutAtHidden (text prefix : List ℕ) (character : ℕ) (following : List ℕ) : Type 0 where
-  pub unchanged : AreUnchanged prefix
-  pub hidden : ¬ (IsUnchanged character)
+-- the text is cut around the first character that isn't, which is written as a token
+pub record IsCutAtToken (shows : ℕ → Bool) (text prefix : List ℕ) (character : ℕ) (following : List ℕ) : Type 0 where
+  pub unchanged : AreUnchanged shows prefix
+  pub hidden : ¬ (IsUnchanged shows character)
   pub joined : text ≡ prefix ++ (encode_utf8 character ++ following)
   pub prefix_text : IsUtf8 prefix
   pub after_text : IsUtf8 following

@@ -31,13 +31,6 @@ pub record IsCutAtFirst (bytes prefix following : List ℕ) : Type 0 where
   pub none_before : HasNoBackslash prefix
   pub joined : bytes ≡ prefix ++ backslash ∷ following
 
--- the text is cut at its first backslash, and both sides are text
-pub record IsCutAtBackslash (text prefix following : List ℕ) : Type 0 where
-  pub none_before : HasNoBackslash prefix
-  pub joined : text ≡ prefix ++ backslash ∷ following
-  pub prefix_text : IsUtf8 prefix
-  pub after_text : IsUtf8 following
-
 -- the text begins with items of the form that mean these bytes, and the rest, which is text too, is left
 pub record IsRead (shows : ℕ → Bool) (text bytes rest : List ℕ) : Type 0 where
   pub items : List Item

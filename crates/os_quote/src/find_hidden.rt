@@ -2,8 +2,8 @@
 //! that is written as a token: suspects.
 ghost use Rattle.std.specs.Prelude.{◌≡◌, ◌↔◌, [], take, IsTrue, IfSome, MatchOption, ◌+◌, ◌≤◌, ◌<◌, length, slice_index};
 ghost use Rattle.std.specs.Str.{IsCharBoundary};
-ghost use Rattle.os_quote.specs.Hidden.{IsUnchanged, AreUnchanged, IsCutAtHidden, AllClear, IsNextSuspect, is_suspect};
-ghost use Rattle.os_quote.specs.Shown.{IsOnOneLine};
+ghost use Rattle.os_quote.specs.Hidden.{IsUnchanged, AreUnchanged, IsCutAtToken, AllClear, IsNextSuspect, is_suspect};
+ghost use Rattle.os_quote.specs.Shown.{IsOnOneLine, stays_on_line};
 
 use crate::find_lanes::{BLOCK, clear_len};
 use crate::find_plain::plain_len;
@@ -15,8 +15,8 @@ use wtf8_core::vectors::window::put_in_zeros;
 /// after it.
 #[inline(always)]
 pub(crate) fn split_hidden(text: &str) -> Option<(&str, char, &str)>
-    ensures { MatchOption result (AreUnchanged text.now)
-        (λ parts. IsCutAtHidden text.now parts.0.now parts.1 parts.2.now) }
+    ensures { MatchOption result (AreUnchanged stays_on_line text.now)
+        (λ parts. IsCutAtToken stays_on_line text.now parts.0.now parts.1 parts.2.now) }
 {
     if let Some((character, following)) = hidden_start(text) {
         return Some(("", character, following));
@@ -28,7 +28,7 @@ pub(crate) fn split_hidden(text: &str) -> Option<(&str, char, &str)>
 /// token follows another, no search is begun.
 #[inline(always)]
 fn hidden_start(text: &str) -> Option<(char, &str)>
-    ensures { IfSome result (λ start. IsCutAtHidden text.now [] start.0 start.1.now) }
+    ensures { IfSome result (λ start. IsCutAtToken stays_on_line text.now [] start.0 start.1.now) }
 {
     let mut characters = text.chars();
     let character = characters.next()?;
@@ -41,8 +41,8 @@ fn hidden_start(text: &str) -> Option<(char, &str)>
 /// The same as [`split_hidden`], by a search. Most often the first character that isn't plain is the one
 /// that is searched for.
 fn split_after_plain(text: &str) -> Option<(&str, char, &str)>
-    ensures { MatchOption result (AreUnchanged text.now)
-        (λ parts. IsCutAtHidden text.now parts.0.now parts.1 parts.2.now) }
+    ensures { MatchOption result (AreUnchanged stays_on_line text.now)
+        (λ parts. IsCutAtToken stays_on_line text.now parts.0.now parts.1 parts.2.now) }
 {
     let at = plain_len(text.as_bytes());
     let rest = &text[at..];
@@ -55,9 +55,9 @@ fn split_after_plain(text: &str) -> Option<(&str, char, &str)>
 /// The same, from an index on up to which the characters are shown as they are.
 fn split_at_suspect(text: &str, from: usize) -> Option<(&str, char, &str)>
     requires boundary { IsCharBoundary text.now from }
-    requires unchanged { AreUnchanged (take from text.now) }
-    ensures { MatchOption result (AreUnchanged text.now)
-        (λ parts. IsCutAtHidden text.now parts.0.now parts.1 parts.2.now) }
+    requires unchanged { AreUnchanged stays_on_line (take from text.now) }
+    ensures { MatchOption result (AreUnchanged stays_on_line text.now)
+        (λ parts. IsCutAtToken stays_on_line text.now parts.0.now parts.1 parts.2.now) }
 {
     let mut at = from;
     while let Some(suspect) = first_suspect(text.as_bytes(), at) {
@@ -75,7 +75,7 @@ fn split_at_suspect(text: &str, from: usize) -> Option<(&str, char, &str)>
 /// Whether a character is shown as it is.
 #[inline(always)]
 fn is_unchanged(character: char) -> bool
-    ensures { IsTrue result ↔ IsUnchanged character }
+    ensures { IsTrue result ↔ IsUnchanged stays_on_line character }
 {
     character != '\\' && stays_on_line(character)
 }

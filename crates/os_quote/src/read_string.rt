@@ -9,11 +9,10 @@ ghost use Rattle.wtf8_core.specs.Truncated.{IsTruncated};
 ghost use Rattle.os_quote.specs.Reading.{AreBytesRead, item_bytes, token_item};
 
 use crate::error::QuoteError;
-use crate::find_hidden::split_hidden;
 use crate::form::Form;
-use crate::read_token::{Token, cut_backslash, first_token, split_backslash};
+use crate::read_token::{Token, cut_backslash, first_token};
 use crate::write_token::TokenText;
-use crate::write_walk::{Sink, write_escape_to};
+use crate::write_walk::{Sink, split_at_token, write_escape_to};
 use os_str_bytes::{OsStr, OsStrBytesExt, OsString, Platform, Unix, laws};
 use std::alloc::Allocator;
 use std::fmt;
@@ -51,10 +50,7 @@ pub fn unescape<E: Platform, A: Allocator>(
     ensures fault { IfErr result (λ fault. IsQuoteFault E.well_formed E.units text.now fault) }
     ensures empty { length text.now ≡ 0 → IsOk result }
 {
-    match split_backslash(text) {
-        None => Ok(OsStr::new(text).to_owned(alloc)?),
-        Some(_) => from_items(Form::Text, alloc, text),
-    }
+    unescape_by(Form::Text, alloc, text)
 }
 
 /// Returns the string that has this escape on one line ([`escape_line`](crate::escape_line)).
@@ -83,15 +79,12 @@ pub fn unescape_line<E: Platform, A: Allocator>(
     ensures fault { IfErr result (λ fault. IsLineFault E.well_formed E.units text.now fault) }
     ensures empty { length text.now ≡ 0 → IsOk result }
 {
-    match split_hidden(text) {
-        None => Ok(OsStr::new(text).to_owned(alloc)?),
-        Some(_) => from_items(Form::Line, alloc, text),
-    }
+    unescape_by(Form::Line, alloc, text)
 }
 
-/// The same of a form, token by token: the bytes that the text means are a string with this
-/// escape, or no string has it.
-fn from_items<E: Platform, A: Allocator>(
+/// The same of a form. A text with a token is read token by token: the bytes that it means are a string
+/// with this escape, or no string has it.
+fn unescape_by<E: Platform, A: Allocator>(
     form: Form,
     alloc: A,
     text: &str,
@@ -100,7 +93,11 @@ fn from_items<E: Platform, A: Allocator>(
         (λ string. IsEscapeBy (shown_by form) E.units (string_vec_of string).items text.now) }
     ensures fault { IfErr result
         (λ fault. IsQuoteFaultBy (shown_by form) E.well_formed E.units text.now fault) }
+    ensures empty { length text.now ≡ 0 → IsOk result }
 {
+    let Some(_) = split_at_token(form, text) else {
+        return Ok(OsStr::new(text).to_owned(alloc)?);
+    };
     let mut encoded = vec![in alloc; 0; text.len()]?;
     let count = match read(form, text.as_bytes(), encoded.as_mut_slice()) {
         Ok(count) => count,

@@ -1,9 +1,9 @@
 //! Tokens, and the backslashes that begin them.
-ghost use Rattle.std.specs.Prelude.{◌≡◌, ◌≢◌, ◌<◌, ◌∷◌, ◌++◌, ℕ, List, MatchOption, ◌+◌, ◌*◌, ◌/◌, ◌%◌, ◌≤◌};
+ghost use Rattle.std.specs.Prelude.{◌≡◌, ◌≢◌, ◌<◌, ◌∷◌, ◌++◌, ℕ, List, MatchOption, ◌+◌, ◌*◌, ◌≤◌};
 ghost use Rattle.wtf8_core.specs.FaultText.{upper_hex_digit};
 ghost use Rattle.os_quote.specs.Item.{backslash, byte_digits, wide_digits, item_text, IsItem, long_digits, IsLong};
-ghost use Rattle.os_quote.specs.{Shown.shown_by, Escape.BeginsNoToken};
-ghost use Rattle.os_quote.specs.Reading.{HasNoBackslash, IsCutAtFirst, IsCutAtBackslash, HasNoNumber, token_item, HasNoLong, HasNoFive, HasNoSix, HasNoFour, IsFour, IsFive, IsSix};
+ghost use Rattle.os_quote.specs.{Shown.shown_by, Shown.is_any, Escape.BeginsNoToken, Hidden.AreUnchanged, Hidden.IsCutAtToken};
+ghost use Rattle.os_quote.specs.Reading.{HasNoBackslash, IsCutAtFirst, HasNoNumber, token_item, HasNoLong, HasNoFive, HasNoSix, HasNoFour, IsFour, IsFive, IsSix};
 
 use crate::form::Form;
 use memchr::memchr;
@@ -23,8 +23,8 @@ pub(crate) enum Token {
 
 /// What comes before the first backslash of a text, and what comes after it.
 pub(crate) fn split_backslash(text: &str) -> Option<(&str, &str)>
-    ensures { MatchOption result (HasNoBackslash text.now)
-        (λ parts. IsCutAtBackslash text.now parts.0.now parts.1.now) }
+    ensures { MatchOption result (AreUnchanged is_any text.now)
+        (λ parts. IsCutAtToken is_any text.now parts.0.now backslash parts.1.now) }
 {
     let (prefix, following) = cut_backslash(text.as_bytes())?;
     Some(unsafe {

@@ -1,8 +1,8 @@
 //! Escapes written into a buffer that may be too short for them.
-ghost use Rattle.std.specs.Prelude.{◌≡◌, ◌+◌, ◌*◌, ◌<◌, ◌^◌, ℕ, List, length};
+ghost use Rattle.std.specs.Prelude.{◌*◌, ◌<◌, ◌^◌, ℕ, List, length};
 ghost use Rattle.wtf8_core.specs.Truncated.{IsTruncated};
 ghost use Rattle.platform_str.specs.Strings.{bytes};
-ghost use Rattle.os_quote.specs.{Buffers.Pushes, Escaped.escape_of, Shown.shown_by};
+ghost use Rattle.os_quote.specs.{Escaped.escape_of, Shown.shown_by};
 ghost use Rattle.os_quote.specs.Escape.{IsEscape, IsLineEscape};
 
 use crate::form::Form;
@@ -58,14 +58,17 @@ pub fn write_escape_line<E: Platform>(string: OsStr<'_, E>, buffer: &mut [u8]) -
     push_escape(Form::Line, string, buffer)
 }
 
-/// The same in a form.
+/// The same in a form. A buffer refuses nothing.
 fn push_escape<E: Platform>(form: Form, string: OsStr<'_, E>, buffer: &mut [u8]) -> usize
     requires { 6 * length (bytes string) < 2 ^ 64 }
     ensures { IsTruncated (escape_of (shown_by form) E.units (bytes string.entry)) buffer.old
         buffer.new result }
 {
-    let mut sink = Buffer::new(buffer);
-    sink.push_escape(form, string);
+    let mut sink = Buffer {
+        bytes: buffer,
+        count: 0,
+    };
+    let _ = write_escape_to(form, string, &mut sink);
     sink.count
 }
 
@@ -74,26 +77,6 @@ fn push_escape<E: Platform>(form: Form, string: OsStr<'_, E>, buffer: &mut [u8])
 struct Buffer<'a> {
     bytes: &'a mut [u8],
     count: usize,
-}
-
-impl<'a> Buffer<'a> {
-    fn new(bytes: &'a mut [u8]) -> Buffer<'a>
-        ensures same_reference { result.bytes.ghost_name ≡ bytes.entry.ghost_name }
-        ensures bytes { result.bytes.now ≡ bytes.old }
-        ensures count { result.count ≡ 0 }
-    {
-        Buffer { bytes, count: 0 }
-    }
-
-    /// Appends the escape of a string in a form. A buffer refuses nothing.
-    fn push_escape<E: Platform>(&mut self, form: Form, string: OsStr<'_, E>)
-        requires { self.old.count + 6 * length (bytes string) < 2 ^ 64 }
-        ensures same_reference { self.new.bytes.ghost_name ≡ self.old.bytes.ghost_name }
-        ensures pushes { Pushes (escape_of (shown_by form) E.units (bytes string.entry))
-            self.old.bytes.now self.old.count self.new.bytes.now self.new.count }
-    {
-        let _ = write_escape_to(form, string, self);
-    }
 }
 
 impl<'a> Sink for Buffer<'a> {

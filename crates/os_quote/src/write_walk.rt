@@ -1,12 +1,12 @@
 //! The escape of a string, piece by piece, for whatever takes it.
 ghost use Rattle.os_quote.specs.Sinks.{SinkRules, Takes};
-ghost use Rattle.std.specs.Prelude.{◌≡◌, MatchOption};
+ghost use Rattle.std.specs.Prelude.{MatchOption};
 ghost use Rattle.platform_str.specs.Strings.{bytes};
 ghost use Rattle.os_str_ext.specs.Parts.{part_bytes};
-ghost use Rattle.os_quote.specs.Buffers.{part_escape, text_escape, token_of, IsCutAtToken};
+ghost use Rattle.os_quote.specs.Buffers.{part_escape, text_escape, token_of};
 ghost use Rattle.os_quote.specs.Escaped.{escape_of};
-ghost use Rattle.os_quote.specs.Item.{Backslash, item_text, unit_item, backslash};
-ghost use Rattle.os_quote.specs.Shown.{is_any, shown_by, stays_on_line};
+ghost use Rattle.os_quote.specs.Item.{item_text, unit_item};
+ghost use Rattle.os_quote.specs.{Shown.shown_by, Hidden.AreUnchanged, Hidden.IsCutAtToken};
 
 use crate::find_hidden::split_hidden;
 use crate::find_plain::split_plain;
@@ -93,41 +93,26 @@ fn write_part<'a, E: Platform, S: Sink>(part: NonUnicodeOsStr<'a, E>, sink: &mut
     Ok(())
 }
 
-/// Gives it a text in a form.
+/// Gives it a text in a form. Each form has a loop of its own.
 #[inline(always)]
 fn write_text<S: Sink>(form: Form, text: &str, sink: &mut S) -> fmt::Result
     requires { S.rules.has_room sink.old (text_escape (shown_by form) text.now) }
     ensures { Takes S.rules sink.old (text_escape (shown_by form) text.now) result sink.new }
 {
     match form {
-        Form::Text => write_shown_text(text, sink),
-        Form::Line => write_line_text(text, sink),
+        Form::Text => write_pieces(Form::Text, text, sink),
+        Form::Line => write_pieces(Form::Line, text, sink),
     }
 }
 
-/// Gives it a text in the form that shows every character.
+/// Gives it the same piece by piece: what is shown as it is, and the token after it.
 #[inline(always)]
-fn write_shown_text<S: Sink>(text: &str, sink: &mut S) -> fmt::Result
-    requires { S.rules.has_room sink.old (text_escape is_any text.now) }
-    ensures { Takes S.rules sink.old (text_escape is_any text.now) result sink.new }
+fn write_pieces<S: Sink>(form: Form, text: &str, sink: &mut S) -> fmt::Result
+    requires { S.rules.has_room sink.old (text_escape (shown_by form) text.now) }
+    ensures { Takes S.rules sink.old (text_escape (shown_by form) text.now) result sink.new }
 {
     let mut rest = text;
-    while let Some((prefix, following)) = split_at_backslash(rest) {
-        write_unchanged(prefix, sink)?;
-        write_backslash(sink)?;
-        rest = following;
-    }
-    sink.take(rest)
-}
-
-/// Gives it a text in the form for one line.
-#[inline(always)]
-fn write_line_text<S: Sink>(text: &str, sink: &mut S) -> fmt::Result
-    requires { S.rules.has_room sink.old (text_escape stays_on_line text.now) }
-    ensures { Takes S.rules sink.old (text_escape stays_on_line text.now) result sink.new }
-{
-    let mut rest = text;
-    while let Some((prefix, character, following)) = split_at_hidden(rest) {
+    while let Some((prefix, character, following)) = split_at_token(form, rest) {
         write_unchanged(prefix, sink)?;
         write_character(character, sink)?;
         rest = following;
@@ -169,7 +154,7 @@ fn write_character<S: Sink>(character: char, sink: &mut S) -> fmt::Result
 {
     let number = character as u32;
     if character == '\\' {
-        write_backslash(sink)
+        sink.take_token(TokenText::of_backslash())
     } else if number < 0x1_0000 {
         sink.take_token(TokenText::of_wide(number as u16))
     } else {
@@ -177,36 +162,18 @@ fn write_character<S: Sink>(character: char, sink: &mut S) -> fmt::Result
     }
 }
 
-/// Gives it the token of a backslash.
-#[inline(always)]
-fn write_backslash<S: Sink>(sink: &mut S) -> fmt::Result
-    requires { S.rules.has_room sink.old (item_text Backslash) }
-    ensures { Takes S.rules sink.old (item_text Backslash) result sink.new }
-{
-    sink.take_token(TokenText::of_backslash())
-}
-
-/// What comes before the first backslash of a text, and what comes after it.
-#[inline(always)]
-pub(crate) fn split_at_backslash(text: &str) -> Option<(&str, &str)>
-    ensures { MatchOption result (text_escape is_any text.now ≡ text.now)
-        (λ parts. IsCutAtToken is_any text.now parts.0.now backslash parts.1.now) }
-{
-    let Some((prefix, following)) = split_backslash(text) else {
-        return None;
-    };
-    Some((prefix, following))
-}
-
-/// What comes before the first character of a text that is written as a token on one line, that
+/// What comes before the first character of a text that is written as a token in a form, that
 /// character, and what comes after it.
 #[inline(always)]
-pub(crate) fn split_at_hidden(text: &str) -> Option<(&str, char, &str)>
-    ensures { MatchOption result (text_escape stays_on_line text.now ≡ text.now)
-        (λ parts. IsCutAtToken stays_on_line text.now parts.0.now parts.1 parts.2.now) }
+pub(crate) fn split_at_token(form: Form, text: &str) -> Option<(&str, char, &str)>
+    ensures { MatchOption result (AreUnchanged (shown_by form) text.now)
+        (λ parts. IsCutAtToken (shown_by form) text.now parts.0.now parts.1 parts.2.now) }
 {
-    let Some((prefix, character, following)) = split_hidden(text) else {
-        return None;
-    };
-    Some((prefix, character, following))
+    match form {
+        Form::Text => {
+            let (prefix, following) = split_backslash(text)?;
+            Some((prefix, '\\', following))
+        }
+        Form::Line => split_hidden(text),
+    }
 }

@@ -1,5 +1,5 @@
 -- Characters that are unchanged, between suspects.
-use Rattle.os_quote.proofs.Common.{◌≡◌, ⊎_elim, ℕ, suc, ◌+◌, ◌-◌, ◌<◌, ◌≤◌, true, false, List, [], ◌∷◌, ◌++◌, length, take, drop, get_or, sym, ap, ◌∙◌, subst, arith, append_assoc, take-append-drop, length-append, length-drop, get_or-drop, IsScalar, encode_utf8, AllByRecursion, IsUtf8, IsCharBoundary, chars, all_scalars, encode_utf8_all, and_parts, cases_lt, append_cancel_right, length-take-le, drop_at, take_all, IsCharBoundary-at_seam, IsCharBoundary-end, IsUtf8-between, IsUtf8-take, IsUtf8-drop, IsUtf8-past_char, chars-append, chars_past_char, encodes-chars, scalars-chars, length-encode, len_utf8_bounds, scalar, encode, form_ascii, form_two, form_three, form_past, form_encode, is_suspect, IsUnchanged, AreUnchanged, AllClear, IsNextSuspect}
+use Rattle.os_quote.proofs.Common.{◌≡◌, ⊎_elim, ℕ, suc, ◌+◌, ◌-◌, ◌<◌, ◌≤◌, true, false, List, [], ◌∷◌, ◌++◌, length, take, drop, get_or, sym, ap, ◌∙◌, subst, arith, append_assoc, take-append-drop, length-append, length-drop, get_or-drop, IsScalar, encode_utf8, AllByRecursion, IsUtf8, IsCharBoundary, chars, all_scalars, encode_utf8_all, and_parts, cases_lt, append_cancel_right, length-take-le, drop_at, take_all, IsCharBoundary-at_seam, IsCharBoundary-end, IsUtf8-between, IsUtf8-take, IsUtf8-drop, IsUtf8-past_char, chars-append, chars_past_char, encodes-chars, scalars-chars, length-encode, len_utf8_bounds, scalar, encode, form_ascii, form_two, form_three, form_past, form_encode, is_suspect, IsUnchanged, AreUnchanged, stays_on_line, AllClear, IsNextSuspect}
 use Rattle.std.proofs.Math.Seq.{take-add}
 use Rattle.os_quote.proofs.lemmas.{Escapes.all-append, SuspectTables.one_occurs, SuspectTables.two_occurs, SuspectTables.three_occurs, SuspectTables.four_occurs, SuspectTables.lead_from}
 
@@ -16,7 +16,7 @@ clear_after : (xs ys rest : List ℕ) → ClearIn (xs ++ ys) rest → ClearIn ys
 clear_after [] ys rest h = h
 clear_after (x ∷ xs) ys rest h = clear_after xs ys rest h.1.1
 
-character_unchanged : (c : ℕ) (more rest : List ℕ) → IsScalar c → ClearIn (encode_utf8 c ++ more) rest → IsUnchanged c
+character_unchanged : (c : ℕ) (more rest : List ℕ) → IsScalar c → ClearIn (encode_utf8 c ++ more) rest → IsUnchanged stays_on_line c
 character_unchanged c more rest s h =
     ⊎_elim
     (λ (a : c < 0x80). let f = by (form_ascii c a) in one_occurs c (get_or (more ++ rest) 0 0) (get_or (more ++ rest) 1 0) a f.1.0.0 f.1.0.1 f.0)
@@ -34,20 +34,20 @@ character_unchanged c more rest s h =
     by : {bs : List ℕ} → encode c ≡ bs → ClearIn (bs ++ more) rest
     by e = subst (λ x. ClearIn (x ++ more) rest) (sym (form_encode c) ∙ e) h
 
-characters_unchanged : (cs rest : List ℕ) → all_scalars cs ≡ true → ClearIn (encode_utf8_all cs) rest → AllByRecursion IsUnchanged cs
+characters_unchanged : (cs rest : List ℕ) → all_scalars cs ≡ true → ClearIn (encode_utf8_all cs) rest → AllByRecursion (IsUnchanged stays_on_line) cs
 characters_unchanged [] rest s h = tt
 characters_unchanged (c ∷ cs) rest s h =
     let both = and_parts (scalar c) _ s in
     (character_unchanged c (encode_utf8_all cs) rest both.0 h, characters_unchanged cs rest both.1 (clear_after (encode_utf8 c) (encode_utf8_all cs) rest h))
 
 -- each is unchanged up to an index, and none is a suspect up to another
-pub unchanged_to : (t : List ℕ) (at i : ℕ) → ((k : ℕ) → get_or t k 0 < 256) → IsUtf8 t → IsCharBoundary t at → IsCharBoundary t i → at ≤ i → AreUnchanged (take at t) → AllClear t at i → AreUnchanged (take i t)
+pub unchanged_to : (t : List ℕ) (at i : ℕ) → ((k : ℕ) → get_or t k 0 < 256) → IsUtf8 t → IsCharBoundary t at → IsCharBoundary t i → at ≤ i → AreUnchanged stays_on_line (take at t) → AllClear t at i → AreUnchanged stays_on_line (take i t)
 unchanged_to t at i bytes u b d low unchanged clear =
     let whole = sym (take-append-drop (i - at) (drop at t)) in
     let same : at + (i - at) ≡ i = omega (arith, low) in
-    subst AreUnchanged (ap (λ n. take n t) same)
-    (subst AreUnchanged (sym (take-add at (i - at) t))
-    (subst (AllByRecursion IsUnchanged) (sym (chars-append (take at t) mid (IsUtf8-take t at u b))) (all-append IsUnchanged (chars (take at t)) (chars mid) unchanged
+    subst (AreUnchanged stays_on_line) (ap (λ n. take n t) same)
+    (subst (AreUnchanged stays_on_line) (sym (take-add at (i - at) t))
+    (subst (AllByRecursion (IsUnchanged stays_on_line)) (sym (chars-append (take at t) mid (IsUtf8-take t at u b))) (all-append (IsUnchanged stays_on_line) (chars (take at t)) (chars mid) unchanged
     (characters_unchanged (chars mid) rest (scalars-chars mid text) (subst (λ x. ClearIn x rest) (sym (encodes-chars mid text)) (clear_in mid rest (λ k. subst (λ x. get_or x k 0 < 256) whole (rw (get_or-drop at t k 0) (bytes (at + k)))) (λ k l. subst (λ x. is_suspect (get_or x k 0) (get_or x (suc k) 0) (get_or x (suc (suc k)) 0) ≡ false) whole (from_at k l))))))))
   where
     mid : List ℕ
@@ -71,8 +71,8 @@ unchanged_to t at i bytes u b d low unchanged clear =
         (subst (λ n. is_suspect (get_or t (at + k) 0) (get_or t (1 + (at + k)) 0) (get_or t n 0) ≡ false) third
         (clear (at + k) (omega arith) (omega (arith, l, many, low)))))
 
-pub all_unchanged : (t : List ℕ) (at : ℕ) → ((k : ℕ) → get_or t k 0 < 256) → IsUtf8 t → IsCharBoundary t at → AreUnchanged (take at t) → AllClear t at (length t) → AreUnchanged t
-all_unchanged t at bytes u b unchanged clear = subst AreUnchanged (take_all (length t) t (omega arith)) (unchanged_to t at (length t) bytes u b (IsCharBoundary-end t) b.0 unchanged clear)
+pub all_unchanged : (t : List ℕ) (at : ℕ) → ((k : ℕ) → get_or t k 0 < 256) → IsUtf8 t → IsCharBoundary t at → AreUnchanged stays_on_line (take at t) → AllClear t at (length t) → AreUnchanged stays_on_line t
+all_unchanged t at bytes u b unchanged clear = subst (AreUnchanged stays_on_line) (take_all (length t) t (omega arith)) (unchanged_to t at (length t) bytes u b (IsCharBoundary-end t) b.0 unchanged clear)
 
 -- a suspect begins a character
 pub suspect_begins : (t : List ℕ) (from at : ℕ) → IsNextSuspect t from at → IsCharBoundary t at
@@ -81,10 +81,10 @@ suspect_begins t from at s = (omega (arith, s.within), λ _ high. lead_from (get
 -- each is unchanged up to a character that is, and so up to what follows it
 pub record AreUnchangedUpTo (t : List ℕ) (at : ℕ) : Type 0 where
   pub boundary : IsCharBoundary t at
-  pub unchanged : AreUnchanged (take at t)
+  pub unchanged : AreUnchanged stays_on_line (take at t)
 
-pub unchanged_after : (t rest : List ℕ) (i c at : ℕ) → IsUtf8 t → IsCharBoundary t i → drop i t ≡ encode_utf8 c ++ rest → AreUnchanged (take i t) → IsUnchanged c → at ≡ length t - length rest → AreUnchangedUpTo t at × (i < at)
-unchanged_after t rest i c at u b e unchanged s is = (record { boundary = bound; unchanged = subst (AllByRecursion IsUnchanged) (sym same) (all-append IsUnchanged (chars (take i t)) (c ∷ []) unchanged (s, tt)) }, omega (arith, is, some, size, lengths, length-drop i t, b.0))
+pub unchanged_after : (t rest : List ℕ) (i c at : ℕ) → IsUtf8 t → IsCharBoundary t i → drop i t ≡ encode_utf8 c ++ rest → AreUnchanged stays_on_line (take i t) → IsUnchanged stays_on_line c → at ≡ length t - length rest → AreUnchangedUpTo t at × (i < at)
+unchanged_after t rest i c at u b e unchanged s is = (record { boundary = bound; unchanged = subst (AllByRecursion (IsUnchanged stays_on_line)) (sym same) (all-append (IsUnchanged stays_on_line) (chars (take i t)) (c ∷ []) unchanged (s, tt)) }, omega (arith, is, some, size, lengths, length-drop i t, b.0))
   where
     text : IsUtf8 (drop i t)
     text = IsUtf8-drop t i u b

@@ -1,6 +1,6 @@
 -- That an escape on one line stays there.
-use Rattle.os_quote.proofs.Common.{◌≡◌, ◌≢◌, ⊎_elim, ℕ, ◌/◌, ◌%◌, ◌<◌, true, List, [], ◌∷◌, ◌++◌, map, length, IsTrue, refl, sym, ap, ◌∙◌, subst, arith, append_assoc, append-nil, length-append, encode_utf8, All, AllByRecursion, IsUtf8, chars, encode_utf8_all, cases_lt, cases_eq, cases_Bool, ne_eqb, lt-ltb, le-ltb, All-from_recursion, chars-append, chars-nil, chars_past_char, chars-IsAscii, IsUtf8-encode, IsUtf8-nil, encodes-chars, length-encode, len_utf8_bounds, Chunk, AreChunks, upper_hex_digit, PartLaws, Item, Character, Backslash, ByteUnit, WideUnit, LongCharacter, backslash, wide_digits, long_digits, item_text, item_texts, IsLong, IsItem, unit_item, hidden_item, character_item, stays_on_line, IsUnchanged, AreUnchanged, IsCutAtHidden, chunk_items, items_of, IsLineEscape, IsChunkOf, flat_map-append, map-append}
-use Rattle.os_quote.proofs.lemmas.{Items.digit_low, Items.digit_high, Items.five_digits, Items.six_digits, Shown.ascii_stays, Texts.text_items, Texts.text_escape, Texts.text_after, Escapes.all-append, Escapes.escape_is_items, Readings.ascii_all, Readings.ascii_byte_unit, Readings.ascii_wide_unit, Readings.ascii_long_character, Readings.item_is_text}
+use Rattle.os_quote.proofs.Common.{◌≡◌, ◌≢◌, ⊎_elim, Bool, ℕ, ◌/◌, ◌%◌, ◌<◌, true, List, [], ◌∷◌, ◌++◌, map, length, IsTrue, refl, sym, ap, ◌∙◌, subst, arith, append-nil, length-append, encode_utf8, All, AllByRecursion, IsUtf8, chars, cases_lt, cases_eq, cases_Bool, ne_eqb, lt-ltb, le-ltb, All-from_recursion, chars-append, chars-nil, chars_past_char, chars-IsAscii, IsUtf8-encode, IsUtf8-nil, length-encode, len_utf8_bounds, Chunk, AreChunks, upper_hex_digit, PartLaws, Item, Character, Backslash, ByteUnit, WideUnit, LongCharacter, backslash, wide_digits, long_digits, item_text, item_texts, IsLong, IsItem, unit_item, hidden_item, character_item, stays_on_line, IsUnchanged, AreUnchanged, IsCutAtToken, chunk_items, items_of, IsLineEscape, IsChunkOf}
+use Rattle.os_quote.proofs.lemmas.{Items.digit_low, Items.digit_high, Items.five_digits, Items.six_digits, Shown.ascii_stays, Texts.text_after, Escapes.all-append, Escapes.escape_is_items, Readings.ascii_all, Readings.ascii_byte_unit, Readings.ascii_wide_unit, Readings.ascii_long_character, Readings.item_is_text}
 
 -- the characters stay on the line
 abbrev AllStay : List ℕ → Type 0
@@ -73,38 +73,17 @@ escape_is_on_line well_formed units part_units parts each s text w e =
     let k = escape_is_items stays_on_line well_formed units part_units parts each s text w e in
     All-from_recursion (λ c. stays_on_line c ≡ true) (chars text) (subst (λ x. AllStay (chars x)) (sym e.text_is) (texts_stay items k.0 (chunks_stay units e.chunks)))
 
--- a text of which each character is unchanged
-unchanged_texts : (cs : List ℕ) → AllByRecursion IsUnchanged cs → item_texts (map (character_item stays_on_line) cs) ≡ encode_utf8_all cs
-unchanged_texts [] a = refl
-unchanged_texts (c ∷ cs) a = grind (arith, character_item, stays_on_line, ne_eqb, backslash, item_text, item_texts, unchanged_texts cs a.1)
-
-pub unchanged_text : (t : List ℕ) → IsUtf8 t → AreUnchanged t → text_escape stays_on_line t ≡ t
-unchanged_text t u a = unchanged_texts (chars t) a ∙ encodes-chars t u
-
--- up to a character before which each is unchanged
-pub up_to_hidden : (t prefix : List ℕ) (c : ℕ) (following : List ℕ) → IsUtf8 t → IsCutAtHidden t prefix c following
-    → text_escape stays_on_line t ≡ (prefix ++ item_text (character_item stays_on_line c)) ++ text_escape stays_on_line following
-up_to_hidden t prefix c following u k =
-    let rest = encode_utf8 c ++ following in
-    let text = text_after prefix rest k.prefix_text (subst IsUtf8 k.joined u) in
-    ap (text_escape stays_on_line) k.joined
-    ∙ ap (λ x. item_texts (map (character_item stays_on_line) x)) (chars-append prefix rest k.prefix_text ∙ ap (λ x. chars prefix ++ x) (chars_past_char rest following c text refl))
-    ∙ ap item_texts (map-append (character_item stays_on_line) (chars prefix) (c ∷ chars following))
-    ∙ flat_map-append item_text (text_items stays_on_line prefix) (map (character_item stays_on_line) (c ∷ chars following))
-    ∙ ap (λ x. x ++ (item_text (character_item stays_on_line c) ++ text_escape stays_on_line following)) (unchanged_text prefix k.prefix_text k.unchanged)
-    ∙ sym (append_assoc prefix (item_text (character_item stays_on_line c)) (text_escape stays_on_line following))
-
 -- the first character is written as a token
-pub hidden_first : (t following : List ℕ) (c : ℕ) → ¬ (IsUnchanged c) → t ≡ encode_utf8 c ++ following → IsUtf8 following → IsCutAtHidden t [] c following
-hidden_first t following c h e u = record { unchanged = subst (AllByRecursion IsUnchanged) (sym chars-nil) tt; hidden = h; joined = e; prefix_text = IsUtf8-nil; after_text = u }
+pub hidden_first : (t following : List ℕ) (c : ℕ) → ¬ (IsUnchanged stays_on_line c) → t ≡ encode_utf8 c ++ following → IsUtf8 following → IsCutAtToken stays_on_line t [] c following
+hidden_first t following c h e u = record { unchanged = subst (AllByRecursion (IsUnchanged stays_on_line)) (sym chars-nil) tt; hidden = h; joined = e; prefix_text = IsUtf8-nil; after_text = u }
 
-pub cut_is_shorter : (t prefix : List ℕ) (c : ℕ) (following : List ℕ) → IsCutAtHidden t prefix c following → length following < length t
-cut_is_shorter t prefix c following k =
+pub cut_is_shorter : (shows : ℕ → Bool) (t prefix : List ℕ) (c : ℕ) (following : List ℕ) → IsCutAtToken shows t prefix c following → length following < length t
+cut_is_shorter shows t prefix c following k =
     omega (arith, ap length k.joined, length-append prefix (encode_utf8 c ++ following), length-append (encode_utf8 c) following, length-encode c, (len_utf8_bounds c).0)
 
 -- ---- whether a text stays on the line
 
-all_shown : (cs : List ℕ) → AllByRecursion IsUnchanged cs → AllStay cs
+all_shown : (cs : List ℕ) → AllByRecursion (IsUnchanged stays_on_line) cs → AllStay cs
 all_shown [] a = tt
 all_shown (c ∷ cs) a = (a.0.1, all_shown cs a.1)
 
@@ -112,10 +91,10 @@ all_after : (xs : List ℕ) (c : ℕ) (ys : List ℕ) → AllStay (xs ++ c ∷ y
 all_after [] c ys a = a
 all_after (x ∷ xs) c ys a = all_after xs c ys a.1
 
-pub unchanged_stays : (t : List ℕ) → AreUnchanged t → AllStay (chars t)
+pub unchanged_stays : (t : List ℕ) → AreUnchanged stays_on_line t → AllStay (chars t)
 unchanged_stays t a = all_shown (chars t) a
 
-module _ (t prefix : List ℕ) (c : ℕ) (following : List ℕ) (u : IsUtf8 t) (k : IsCutAtHidden t prefix c following) where
+module _ (t prefix : List ℕ) (c : ℕ) (following : List ℕ) (u : IsUtf8 t) (k : IsCutAtToken stays_on_line t prefix c following) where
   characters : chars t ≡ chars prefix ++ c ∷ chars following
   characters =
       let rest = encode_utf8 c ++ following in

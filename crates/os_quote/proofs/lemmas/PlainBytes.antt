@@ -1,7 +1,7 @@
 -- Plain bytes: texts that both forms show unchanged.
-use Rattle.os_quote.proofs.Common.{◌≡◌, ◌⊎◌, ⊎_elim, ℕ, zero, suc, ◌+◌, ◌-◌, ◌<◌, ◌≤◌, true, List, [], ◌∷◌, ◌++◌, map, length, take, get_or, refl, sym, ap, ◌∙◌, subst, arith, append_assoc, AllByRecursion, IsUtf8, cases_lt, ne_eqb, chars-IsAscii, encode_ascii, IsUtf8-from_ascii, backslash, item_text, item_texts, character_item, shown_by, IsPlain, IsPlainUpTo, IsAfterPlain, AreUnchanged, IsUnchanged}
+use Rattle.os_quote.proofs.Common.{◌≡◌, ◌⊎◌, ⊎_elim, ℕ, zero, suc, ◌+◌, ◌-◌, ◌<◌, ◌≤◌, true, List, [], ◌∷◌, ◌++◌, length, take, get_or, refl, sym, subst, arith, AllByRecursion, IsUtf8, cases_lt, chars-IsAscii, IsUtf8-from_ascii, shown_by, IsPlain, IsPlainUpTo, AreUnchanged, IsUnchanged}
 use Rattle.os_quote.specs.declared.form.Form.{Form, TheVariants.Text, TheVariants.Line}
-use Rattle.os_quote.proofs.lemmas.{Readings.ascii_all, Shown.ascii_stays, Texts.text_escape}
+use Rattle.os_quote.proofs.lemmas.{Readings.ascii_all, Shown.ascii_stays, Texts.text_escape, Texts.unchanged_text}
 
 plain_ascii : (bs : List ℕ) → AllByRecursion IsPlain bs → AllByRecursion (λ b. b < 128) bs
 plain_ascii [] a = tt
@@ -14,20 +14,15 @@ plain_is_shown : (form : Form) (b : ℕ) → IsPlain b → shown_by form b ≡ t
 plain_is_shown Text b p = refl
 plain_is_shown Line b p = let high = p.0.1 in ascii_stays b p.0.0 (omega arith)
 
-own_bytes : (form : Form) (bs : List ℕ) → AllByRecursion IsPlain bs → item_texts (map (character_item (shown_by form)) bs) ≡ bs
-own_bytes form [] a = refl
-own_bytes form (b ∷ bs) a = grind (arith, plain_is_shown, character_item, shown_by, ne_eqb, backslash, item_text, item_texts, encode_ascii, own_bytes form bs a.1)
+each_unchanged : (form : Form) (bs : List ℕ) → AllByRecursion IsPlain bs → AllByRecursion (IsUnchanged (shown_by form)) bs
+each_unchanged form [] a = tt
+each_unchanged form (b ∷ bs) a = ((a.0.1, plain_is_shown form b a.0), each_unchanged form bs a.1)
+
+pub plain_unchanged : (form : Form) (bs : List ℕ) → AllByRecursion IsPlain bs → AreUnchanged (shown_by form) bs
+plain_unchanged form bs a = subst (AllByRecursion (IsUnchanged (shown_by form))) (sym (chars-IsAscii bs (ascii_all bs (plain_ascii bs a)))) (each_unchanged form bs a)
 
 pub plain_is_own : (form : Form) (bs : List ℕ) → AllByRecursion IsPlain bs → text_escape (shown_by form) bs ≡ bs
-plain_is_own form bs a = ap (λ cs. item_texts (map (character_item (shown_by form)) cs)) (chars-IsAscii bs (ascii_all bs (plain_ascii bs a))) ∙ own_bytes form bs a
-
--- each of their characters stays on a line
-each_unchanged : (bs : List ℕ) → AllByRecursion IsPlain bs → AllByRecursion IsUnchanged bs
-each_unchanged [] a = tt
-each_unchanged (b ∷ bs) a = ((a.0.1, plain_is_shown Line b a.0), each_unchanged bs a.1)
-
-pub plain_unchanged : (bs : List ℕ) → AllByRecursion IsPlain bs → AreUnchanged bs
-plain_unchanged bs a = subst (AllByRecursion IsUnchanged) (sym (chars-IsAscii bs (ascii_all bs (plain_ascii bs a)))) (each_unchanged bs a)
+plain_is_own form bs a = unchanged_text (shown_by form) bs (plain_is_text bs a) (plain_unchanged form bs a)
 
 -- by index
 pub plain_prefix : (bs : List ℕ) (n : ℕ) → ((i : ℕ) → i < n → IsPlain (get_or bs i 0)) → AllByRecursion IsPlain (take n bs)

@@ -1,7 +1,6 @@
 -- How far a text has been written into a buffer.
-use Rattle.os_quote.proofs.Common.{◌≡◌, ⊎_elim, true, false, ℕ, ◌+◌, ◌<◌, ◌^◌, List, [], ◌++◌, length, refl, sym, ap, ◌∙◌, subst, arith, append_assoc, append-nil, length-append, cases_Bool, cases_eq, ne_eqb, Pushes, token_of, backslash, character_item, stays_on_line, IsUnchanged, Bool, item_text, text_escape}
-use Rattle.os_quote.specs.{Buffers.IsCutAtToken, Sinks.Takes, BufferSink.BufferTook, BufferSink.buffer_rules, declared.write_buffer.Buffer.Buffer}
-use Rattle.std.proofs.Common.{Result, Ok, Err}
+use Rattle.os_quote.proofs.Common.{◌≡◌, ℕ, ◌+◌, ◌<◌, ◌^◌, List, [], ◌++◌, length, refl, sym, ap, ◌∙◌, subst, arith, append_assoc, append-nil, length-append, Pushes}
+use Rattle.std.proofs.Common.{Result, Ok, Err, MatchResult}
 use Rattle.std.specs.declared.fmt.Error.{Error}
 pub use Rattle.os_quote.specs.BufferSink.{push_nothing, push_both}
 use Rattle.wtf8_core.specs.Truncated.{IsTruncated}
@@ -20,9 +19,9 @@ pub pushed_all : {a old new : List ℕ} {k : ℕ} → Pushes a old 0 new k → I
 pushed_all {a} {old} {new} {k} p = p.0 [] old (none_yet old)
 
 -- a buffer refuses nothing
-pub all_pushed_to : (b c : Buffer) (text : List ℕ) (r : Result (Unit {0}) Error) → Takes buffer_rules b text r c → BufferTook b text c
-all_pushed_to b c text (Ok x) took = took
-all_pushed_to b c text (Err e) never = absurd never
+pub never_refused : {Took : Type 0} (r : Result (Unit {0}) Error) → MatchResult r (λ _. Took) (λ _. ⊥) → Took
+never_refused (Ok x) took = took
+never_refused (Err e) never = absurd never
 
 pub pushed_whole : {text now old new last : List ℕ} {n k : ℕ} → Pushes text now n new k → now ≡ old → n ≡ 0 → last ≡ new → IsTruncated text old last k
 pushed_whole {text} {now} {old} {new} {last} {n} {k} p e z l = subst (λ x. IsTruncated text old x k) (sym l) (pushed_all (subst (λ x. Pushes text x 0 new k) e (subst (λ m. Pushes text now m new k) z p)))
@@ -45,15 +44,3 @@ module _ {old now : List ℕ} {n m : ℕ} {left all : List ℕ} (so_far : Pushes
   pub room_left : (more rest : List ℕ) → n + length all < 2 ^ 64 → left ≡ more ++ rest → m + length more < 2 ^ 64
   room_left more rest room e =
       omega (arith, room, so_far.1.1, ap length so_far.2, length-append so_far.0 left, ap length e, length-append more rest)
-
--- the escape of a text that is cut around a token
-pub cut_escape : {shows : ℕ → Bool} {text prefix : List ℕ} {c : ℕ} {following : List ℕ} → IsCutAtToken shows text prefix c following → text_escape shows text ≡ prefix ++ (item_text (token_of c) ++ text_escape shows following)
-cut_escape {shows} {text} {prefix} {c} {following} k = k.escape ∙ append_assoc prefix (item_text (token_of c)) (text_escape shows following)
-
--- a character that isn't shown on one line is its token
-pub hidden_token : (c : ℕ) → ¬ (IsUnchanged c) → character_item stays_on_line c ≡ token_of c
-hidden_token c h =
-    ⊎_elim
-    (λ (e : c ≡ backslash). subst (λ x. character_item stays_on_line x ≡ token_of x) (sym e) refl)
-    (λ n. rw (ne_eqb c backslash n) (⊎_elim (λ (y : stays_on_line c ≡ true). absurd (h (n, y))) (λ (y : stays_on_line c ≡ false). rw y refl) (cases_Bool (stays_on_line c))))
-    (cases_eq c backslash)

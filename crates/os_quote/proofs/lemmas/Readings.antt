@@ -1,23 +1,24 @@
 -- How far a text has been read.
-use Rattle.os_quote.proofs.Common.{get_or, take_at, encode_ascii, IsUtf8-take, IsCharBoundary-before_ascii, IsCutAtFirst, ◌≡◌, ⊎_elim, inl, inr, ℕ, zero, suc, Bool, ◌-◌, ◌<◌, ◌/◌, ◌%◌, List, [], ◌∷◌, ◌++◌, length, refl, sym, ap, ◌∙◌, subst, arith, append_assoc, append-nil, length-append, AllByRecursion, flat_map, IsUtf8, IsAscii, cases_lt, IsUtf8-nil, IsUtf8-append, IsUtf8-encode, IsUtf8-from_ascii, Chunk, AreChunks, PartLaws, upper_hex_digit, Item, Character, Backslash, ByteUnit, WideUnit, LongCharacter, backslash, wide_digits, long_digits, item_text, item_texts, IsLong, IsItem, is_any, BeginsNoToken, IsBadEscapeBy, IsEscapeBy, items_of, HasNoBackslash, IsCutAtBackslash, IsRead, item_bytes, IsChunkOf, flat_map-append}
+use Rattle.os_quote.proofs.Common.{get_or, take_at, encode_ascii, IsUtf8-take, IsCharBoundary-before_ascii, IsCutAtFirst, ◌≡◌, ⊎_elim, inl, inr, ℕ, zero, suc, Bool, ◌-◌, ◌<◌, ◌/◌, ◌%◌, List, [], ◌∷◌, ◌++◌, length, refl, sym, ap, ◌∙◌, subst, arith, append_assoc, append-nil, length-append, AllByRecursion, flat_map, IsUtf8, IsAscii, cases_lt, IsUtf8-nil, IsUtf8-append, IsUtf8-encode, IsUtf8-from_ascii, Chunk, AreChunks, PartLaws, upper_hex_digit, Item, Character, Backslash, ByteUnit, WideUnit, LongCharacter, backslash, wide_digits, long_digits, item_text, item_texts, IsLong, IsItem, is_any, BeginsNoToken, IsBadEscapeBy, IsEscapeBy, items_of, HasNoBackslash, IsCutAtToken, IsRead, item_bytes, IsChunkOf, flat_map-append}
 use Rattle.std.proofs.Math.Seq.{get_or-append_seam}
-use Rattle.os_quote.proofs.lemmas.{Items.digit_low, Items.digit_high, Items.five_digits, Items.six_digits, Items.some_bytes, Items.same_items, Texts.text_items, Texts.text_is_items, Texts.own_text, Texts.slash_after, Texts.text_after, Escapes.all-append, Escapes.one_reading, Escapes.escape_is_items}
+use Rattle.os_quote.proofs.lemmas.{Items.digit_low, Items.digit_high, Items.five_digits, Items.six_digits, Items.same_items, Texts.text_items, Texts.text_is_items, Texts.shown_unchanged, Texts.unchanged_text, Texts.text_after, Escapes.all-append, Escapes.one_reading, Escapes.escape_is_items}
 
--- the first backslash of a text is between two texts
-pub cut_of_text : (t prefix following : List ℕ) → IsUtf8 t → IsCutAtFirst t prefix following → IsCutAtBackslash t prefix following
-cut_of_text t prefix following u k =
+-- the first backslash of a text is between two texts, and its first token where each character is shown
+pub cut_of_text : {t bytes prefix following : List ℕ} → IsUtf8 t → bytes ≡ t → IsCutAtFirst bytes prefix following → IsCutAtToken is_any t prefix backslash following
+cut_of_text {prefix = prefix} {following = following} u same k =
     let n = length prefix in
     let whole = prefix ++ backslash ∷ following in
-    let v : IsUtf8 whole = subst IsUtf8 k.joined u in
+    let v : IsUtf8 whole = subst IsUtf8 (sym same ∙ k.joined) u in
     let low : n < length whole = omega (arith, length-append prefix (backslash ∷ following)) in
     let ascii : get_or whole n 0 < 128 = omega (arith, get_or-append_seam prefix backslash following 0) in
     let f : IsUtf8 prefix = subst IsUtf8 (take_at prefix (backslash ∷ following) n refl) (IsUtf8-take whole n v (IsCharBoundary-before_ascii whole n low ascii)) in
-    let slash : IsUtf8 (backslash ∷ []) = subst IsUtf8 (encode_ascii backslash (omega arith)) (IsUtf8-encode backslash refl) in
+    let slash = encode_ascii backslash (omega arith) in
     record {
-      none_before = k.none_before;
-      joined = k.joined;
+      unchanged = shown_unchanged prefix f k.none_before;
+      hidden = λ h. h.0 refl;
+      joined = sym same ∙ k.joined ∙ ap (λ x. prefix ++ (x ++ following)) (sym slash);
       prefix_text = f;
-      after_text = text_after (backslash ∷ []) following slash (slash_after prefix following f v);
+      after_text = text_after (backslash ∷ []) following (subst IsUtf8 slash (IsUtf8-encode backslash refl)) (text_after prefix (backslash ∷ following) f v);
     }
 
 -- tokens are ASCII
@@ -67,10 +68,6 @@ module _ (shows : ℕ → Bool) where
   escape_is_text well_formed units part_units parts each s text w e =
       subst IsUtf8 (sym e.text_is) (items_are_text (items_of shows units e.chunks) (escape_is_items shows well_formed units part_units parts each s text w e).0)
 
-  -- nothing has been read
-  pub read_none : (text : List ℕ) → IsUtf8 text → IsRead shows text [] text
-  read_none text u = record { items = []; are = tt; joined = refl; bytes_are = refl; text_left = u }
-
   -- some items more
   read_items : (text out rest : List ℕ) (items : List Item) (after : List ℕ) → IsRead shows text out rest → AllByRecursion (IsItem shows) items → rest ≡ item_texts items ++ after → IsUtf8 after → IsRead shows text (out ++ flat_map item_bytes items) after
   read_items text out rest items after r a e u = grind (arith, all-append, item_texts, append_assoc, flat_map-append, item_text, item_bytes)
@@ -89,13 +86,13 @@ module _ (shows : ℕ → Bool) where
   read_prefix : (text out rest prefix following : List ℕ) → IsRead shows text out rest → IsUtf8 prefix → HasNoBackslash prefix → rest ≡ prefix ++ following → IsRead shows text (out ++ prefix) following
   read_prefix text out rest prefix following r u h e =
       let i = text_is_items is_any prefix u in
-      subst (λ x. IsRead shows text (out ++ x) following) i.1 (read_items text out rest (text_items is_any prefix) following r (shown_items (text_items is_any prefix) i.0) (e ∙ ap (λ x. x ++ following) (sym (own_text prefix u h))) (text_after prefix following u (subst IsUtf8 e r.text_left)))
+      subst (λ x. IsRead shows text (out ++ x) following) i.1 (read_items text out rest (text_items is_any prefix) following r (shown_items (text_items is_any prefix) i.0) (e ∙ ap (λ x. x ++ following) (sym (unchanged_text is_any prefix u (shown_unchanged prefix u h)))) (text_after prefix following u (subst IsUtf8 e r.text_left)))
 
   -- and a token after it
-  pub read_more : (text out rest prefix following : List ℕ) (item : Item) (after more now : List ℕ) → IsRead shows text out rest → IsCutAtBackslash rest prefix following
+  pub read_more : (text out rest prefix following : List ℕ) (item : Item) (after more now : List ℕ) → IsRead shows text out rest → IsCutAtFirst rest prefix following
       → IsItem shows item → backslash ∷ following ≡ item_text item ++ after → more ≡ out ++ prefix → now ≡ more ++ item_bytes item → IsRead shows text now after
   read_more text out rest prefix following item after more now r k i t m n =
-      let f = read_prefix text out rest prefix (backslash ∷ following) r k.prefix_text k.none_before k.joined in
+      let f = read_prefix text out rest prefix (backslash ∷ following) r (cut_of_text r.text_left refl k).prefix_text k.none_before k.joined in
       let all : backslash ∷ following ≡ item_texts (item ∷ []) ++ after = t ∙ ap (λ x. x ++ after) (sym (append-nil (item_text item))) in
       let g = read_items text (out ++ prefix) (backslash ∷ following) (item ∷ []) after f (i, tt) all (text_after (item_text item) after (item_is_text item i) (subst IsUtf8 t f.text_left)) in
       subst (λ x. IsRead shows text x after) (ap (λ x. (out ++ prefix) ++ x) (append-nil (item_bytes item)) ∙ ap (λ x. x ++ item_bytes item) (sym m) ∙ sym n) g
@@ -105,9 +102,9 @@ module _ (shows : ℕ → Bool) where
   read_all text out rest now r h n = subst (λ x. IsRead shows text x []) (sym n) (read_prefix text out rest rest [] r r.text_left h (sym (append-nil rest)))
 
   -- no token begins there
-  pub read_bad : (text out rest prefix following : List ℕ) → IsRead shows text out rest → IsCutAtBackslash rest prefix following → BeginsNoToken shows (backslash ∷ following) → IsBadEscapeBy shows text (length text - length following - 1)
+  pub read_bad : (text out rest prefix following : List ℕ) → IsRead shows text out rest → IsCutAtFirst rest prefix following → BeginsNoToken shows (backslash ∷ following) → IsBadEscapeBy shows text (length text - length following - 1)
   read_bad text out rest prefix following r k b =
-      let f = read_prefix text out rest prefix (backslash ∷ following) r k.prefix_text k.none_before k.joined in
+      let f = read_prefix text out rest prefix (backslash ∷ following) r (cut_of_text r.text_left refl k).prefix_text k.none_before k.joined in
       record { items = f.items; are = f.are; rest = backslash ∷ following; joined = f.joined; index = omega (arith, ap length f.joined, length-append (item_texts f.items) (backslash ∷ following)); bad = b }
 
   -- what has been read whole isn't bad
@@ -127,10 +124,3 @@ module _ (shows : ℕ → Bool) where
         never (subst well_formed same w) (subst (λ x. IsEscapeBy shows units x text) same e),
     λ n. read_no_bad text out n r,
   )
-
-pub read_shorter : (rest prefix following : List ℕ) (item : Item) (after : List ℕ) → IsCutAtFirst rest prefix following → backslash ∷ following ≡ item_text item ++ after → length after < length rest
-read_shorter rest prefix following item after k t =
-    let s = some_bytes item in
-    omega (arith, ap length k.joined, length-append prefix (backslash ∷ following), ap length t, length-append (item_text item) after)
-
-pub ruleset readings = (read_none, read_more, read_shorter, read_all, read_bad)

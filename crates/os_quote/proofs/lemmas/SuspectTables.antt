@@ -1,5 +1,5 @@
 -- The tables have each character that is hidden, and the backslash.
-use Rattle.os_quote.proofs.Common.{◌≡◌, ⊎_elim, ℕ, suc, ◌+◌, ◌-◌, ◌/◌, ◌%◌, ◌<◌, ◌≤◌, Bool, true, false, ◌&&◌, List, [], ◌∷◌, not, eqb, ltb, bit_and, refl, sym, ap, ◌∙◌, subst, arith, true≢false, is_in_range, cases_lt, lt-ltb, le-ltb, all_below, each_below, hidden_ranges, is_in_ranges, IsUnchanged, kind_bits, second_bits, third_bits, kind_bits_of_two, suspect_bits}
+use Rattle.os_quote.proofs.Common.{◌≡◌, ⊎_elim, ℕ, suc, ◌+◌, ◌-◌, ◌/◌, ◌%◌, ◌<◌, ◌≤◌, Bool, true, false, ◌&&◌, List, [], ◌∷◌, not, eqb, ltb, bit_and, refl, sym, ap, ◌∙◌, subst, arith, true≢false, is_in_range, cases_lt, lt-ltb, le-ltb, all_below, each_below, hidden_ranges, is_in_ranges, IsUnchanged, stays_on_line, kind_bits, second_bits, third_bits, kind_bits_of_two, suspect_bits}
 use Rattle.std.specs.Bool.{if◌then◌else◌}
 use Rattle.std.proofs.lemmas.{Bool.and_parts, Bool.cases_Bool, Bool.or_cases, Bool.eqb-true, Bool.not-false, Nat.and_assoc}
 use Rattle.std.specs.Int.Bits.{and_zero_l}
@@ -57,7 +57,7 @@ has_hidden : has_ranges hidden_ranges ≡ true
 has_hidden = refl
 
 -- a character that the tables don't have is unchanged
-is_unchanged : (c : ℕ) → has c ≡ false → IsUnchanged c
+is_unchanged : (c : ℕ) → has c ≡ false → IsUnchanged stays_on_line c
 is_unchanged c none = (λ e. true≢false (sym (ap has e) ∙ none), ap not (⊎_elim (λ t. absurd (true≢false (sym (in_ranges_has hidden_ranges c has_hidden t) ∙ none))) (λ f. f) (cases_Bool (is_in_ranges hidden_ranges c))))
 
 -- whether a table has all of these bits for every byte
@@ -79,23 +79,23 @@ none : (bits : ℕ) → bits ≡ 0 → is_some bits ≡ false
 none bits e = ap is_some e
 
 -- a character is unchanged where its first byte is no suspect
-pub one_occurs : (c y z : ℕ) → c < 0x80 → y < 256 → z < 256 → is_suspect c y z ≡ false → IsUnchanged c
+pub one_occurs : (c y z : ℕ) → c < 0x80 → y < 256 → z < 256 → is_suspect c y z ≡ false → IsUnchanged stays_on_line c
 one_occurs c y z a v w s =
     let pair = none_of_all (kind_bits_of_two c y) (third_bits z) ascii (all_of third_bits ascii z refl w) (no_bits c y z s) in
     let lead : bit_and (kind_bits c) ascii ≡ 0 = ap (bit_and (kind_bits c)) (sym (all_of second_bits ascii y refl v)) ∙ sym (and_assoc ascii (kind_bits c) (second_bits y)) ∙ pair in
     is_unchanged c (rw (lt-ltb c 0x80 a) (none _ lead))
 
-pub two_occurs : (c z : ℕ) → 0x80 ≤ c → c < 0x800 → z < 256 → is_suspect (0xC0 + c / 0x40) (0x80 + c % 0x40) z ≡ false → IsUnchanged c
+pub two_occurs : (c z : ℕ) → 0x80 ≤ c → c < 0x800 → z < 256 → is_suspect (0xC0 + c / 0x40) (0x80 + c % 0x40) z ≡ false → IsUnchanged stays_on_line c
 two_occurs c z l a w s =
     let pair = none_of_all (kind_bits_of_two (0xC0 + c / 0x40) (0x80 + c % 0x40)) (third_bits z) short (all_of third_bits short z refl w) (no_bits (0xC0 + c / 0x40) (0x80 + c % 0x40) z s) in
     is_unchanged c (rw (le-ltb c 0x80 l, lt-ltb c 0x800 a) (none _ pair))
 
-pub three_occurs : (c : ℕ) → 0x800 ≤ c → c < 0x1_0000 → is_suspect (0xE0 + c / 0x1000) (0x80 + (c / 0x40) % 0x40) (0x80 + c % 0x40) ≡ false → IsUnchanged c
+pub three_occurs : (c : ℕ) → 0x800 ≤ c → c < 0x1_0000 → is_suspect (0xE0 + c / 0x1000) (0x80 + (c / 0x40) % 0x40) (0x80 + c % 0x40) ≡ false → IsUnchanged stays_on_line c
 unfolding is_suspect
 three_occurs c l a s =
     is_unchanged c (rw (le-ltb c 0x80 (omega (arith, l)), le-ltb c 0x800 l, lt-ltb c 0x1_0000 a) s)
 
-pub four_occurs : (c : ℕ) → 0x1_0000 ≤ c → is_suspect (0xF0 + c / 0x4_0000) (0x80 + (c / 0x1000) % 0x40) (0x80 + (c / 0x40) % 0x40) ≡ false → IsUnchanged c
+pub four_occurs : (c : ℕ) → 0x1_0000 ≤ c → is_suspect (0xF0 + c / 0x4_0000) (0x80 + (c / 0x1000) % 0x40) (0x80 + (c / 0x40) % 0x40) ≡ false → IsUnchanged stays_on_line c
 unfolding is_suspect
 four_occurs c l s =
     is_unchanged c (rw (le-ltb c 0x80 (omega (arith, l)), le-ltb c 0x800 (omega (arith, l)), le-ltb c 0x1_0000 l) s)

@@ -1,10 +1,10 @@
 -- How far a text has been read into a buffer.
-use Rattle.os_quote.proofs.Common.{◌≡◌, ℕ, ◌+◌, ◌-◌, ◌≤◌, Bool, List, [], ◌∷◌, ◌++◌, length, take, refl, sym, ap, ◌∙◌, arith, append-nil, length-append, AllByRecursion, IsUtf8, Chunk, AreChunks, PartLaws, Item, backslash, item_text, item_texts, IsItem, BeginsNoToken, IsBadEscapeBy, IsEscapeBy, HasNoBackslash, IsCutAtFirst, AreBytesRead, IsRead, item_bytes, IsChunkOf}
+use Rattle.os_quote.proofs.Common.{◌≡◌, ℕ, ◌+◌, ◌-◌, ◌≤◌, Bool, List, [], ◌∷◌, ◌++◌, length, take, refl, sym, ap, ◌∙◌, subst, arith, append-nil, length-append, AllByRecursion, IsUtf8, IsUtf8-nil, AreUnchanged, Chunk, AreChunks, PartLaws, Item, backslash, item_text, item_texts, IsItem, BeginsNoToken, IsBadEscapeBy, IsEscapeBy, HasNoBackslash, IsCutAtFirst, AreBytesRead, IsRead, item_bytes, IsChunkOf}
 use Rattle.std.proofs.Common.{Result, Ok, Err, IfOk, IfErr, MatchResult}
 use Rattle.wtf8_core.specs.Truncated.{IsTruncated}
-use Rattle.wtf8_core.proofs.lemmas.buffers.Truncated.{whole}
+use Rattle.wtf8_core.proofs.lemmas.buffers.Truncated.{whole, none_yet}
 use Rattle.os_quote.specs.Unescaped.{IsUnescapedBy}
-use Rattle.os_quote.proofs.lemmas.{ItemLengths.item_is_short, ItemLengths.items_are_short, Escapes.one_reading, Escapes.one_string, Escapes.never_bad, Readings.cut_of_text, Readings.read_all, Readings.read_bad, Readings.read_more, Readings.read_no_bad}
+use Rattle.os_quote.proofs.lemmas.{ItemLengths.item_is_short, ItemLengths.items_are_short, Escapes.one_reading, Escapes.one_string, Escapes.never_bad, Escapes.own_escape, Texts.unchanged_text, Readings.read_all, Readings.read_bad, Readings.read_more, Readings.read_no_bad}
 
 -- what is known of a result, and two things of each error
 pub with_both : {A B : Type 0} (P : A → Type 0) (Q S : B → Type 0) (r : Result A B) → IfOk r P → IfErr r Q → IfErr r S → MatchResult r P (λ e. Q e × S e)
@@ -32,14 +32,14 @@ module _ (shows : ℕ → Bool) where
       → AreBytesRead shows bytes ((decoded ++ prefix) ++ item_bytes item) after
   more_bytes_read bytes decoded rest prefix following item after r cut i t = record {
     short = omega (arith, room_for_token bytes decoded rest prefix following item after (length decoded) r cut i t refl, r.short, ap length cut.joined, length-append prefix (backslash ∷ following), ap length t, length-append (item_text item) after, (item_is_short shows item i).some, length-append decoded prefix, length-append (decoded ++ prefix) (item_bytes item));
-    read = λ u. let q = r.read u in read_more shows bytes decoded rest prefix following item after (decoded ++ prefix) ((decoded ++ prefix) ++ item_bytes item) q (cut_of_text rest prefix following q.text_left cut) i t refl refl;
+    read = λ u. read_more shows bytes decoded rest prefix following item after (decoded ++ prefix) ((decoded ++ prefix) ++ item_bytes item) (r.read u) cut i t refl refl;
   }
 
   pub all_bytes_read : (bytes decoded rest : List ℕ) → AreBytesRead shows bytes decoded rest → HasNoBackslash rest → AreBytesRead shows bytes (decoded ++ rest) []
   all_bytes_read bytes decoded rest r none = grind (arith, length-append, read_all)
 
   pub bad_bytes_read : (bytes decoded rest prefix following : List ℕ) → AreBytesRead shows bytes decoded rest → IsCutAtFirst rest prefix following → BeginsNoToken shows (backslash ∷ following) → IsUtf8 bytes → IsBadEscapeBy shows bytes (length bytes - length following - 1)
-  bad_bytes_read bytes decoded rest prefix following r cut none u = let q = r.read u in read_bad shows bytes decoded rest prefix following q (cut_of_text rest prefix following q.text_left cut) none
+  bad_bytes_read bytes decoded rest prefix following r cut none u = read_bad shows bytes decoded rest prefix following (r.read u) cut none
 
   -- all that was read is in the buffer where there is room
   pub read_fits : (decoded old new : List ℕ) (count : ℕ) → IsTruncated decoded old new count → count ≤ length new → take count new ≡ decoded
@@ -58,13 +58,18 @@ module _ (shows : ℕ → Bool) where
       tokens = λ n. read_no_bad shows text decoded n r;
     }
 
-    -- a text that is its own escape
-    pub own_unescaped : well_formed text → IsEscapeBy shows units text text → IsTruncated text old new count → IsUnescapedBy shows well_formed units text old new count
-    own_unescaped w own t = record {
-      string = text;
-      written = t;
-      short = omega (arith, t.count_is);
-      escape = λ _. (w, own);
-      only = λ s v e. one_string shows well_formed units part_units parts each s text text v w e own;
-      tokens = λ n. never_bad shows well_formed units part_units parts each text text n w own;
-    }
+    -- a text of which each character is unchanged, written at the start of the buffer
+    pub own_unescaped : {bytes : List ℕ} → ((t : List ℕ) → IsUtf8 t → well_formed t) → IsUtf8 text → AreUnchanged shows text → bytes ≡ text → ((t buffer : List ℕ) → IsTruncated t buffer old 0 → IsTruncated (t ++ bytes) buffer new count)
+        → IsUnescapedBy shows well_formed units text old new count
+    own_unescaped texts u unchanged e written =
+        let w = texts text u in
+        let own = own_escape shows well_formed units part_units parts text (texts [] IsUtf8-nil) u (unchanged_text shows text u unchanged) in
+        let t = subst (λ x. IsTruncated x old new count) e (written [] old (none_yet old)) in
+        record {
+          string = text;
+          written = t;
+          short = omega (arith, t.count_is);
+          escape = λ _. (w, own);
+          only = λ s v e. one_string shows well_formed units part_units parts each s text text v w e own;
+          tokens = λ n. never_bad shows well_formed units part_units parts each text text n w own;
+        }

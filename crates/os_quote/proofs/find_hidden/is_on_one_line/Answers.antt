@@ -16,7 +16,7 @@ loop-character-preserved c =
     )
 
 pub loop-character-smaller : goal.loop-character-smaller
-loop-character-smaller c = cut_is_shorter _ _ _ _ c.in-Some.ensures
+loop-character-smaller c = cut_is_shorter _ _ _ _ _ c.in-Some.ensures
 
 pub returns : goal.returns
 returns c = (λ _. c.loop-character.invariant.1.0 (unchanged_stays _ c.in_default.ensures), λ _. refl)

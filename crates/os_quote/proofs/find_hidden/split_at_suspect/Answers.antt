@@ -1,4 +1,4 @@
-use Rattle.os_quote.proofs.Common.{◌≡◌, ◌++◌, ◌-◌, length, take, drop, refl, sym, ap, ◌∙◌, subst, arith, take-append-drop, sub-zero, true≢false, encode_utf8, AreUnchanged, IsNextSuspect}
+use Rattle.os_quote.proofs.Common.{◌≡◌, ◌++◌, ◌-◌, length, take, drop, refl, sym, ap, ◌∙◌, subst, arith, take-append-drop, sub-zero, true≢false, encode_utf8, AreUnchanged, stays_on_line, IsNextSuspect}
 use Rattle.os_quote.proofs.lemmas.Hidden.{suspect_begins, unchanged_to, unchanged_after, all_unchanged}
 use Rattle.os_quote.proofs.find_hidden.split_at_suspect.Goals as goal
 
@@ -24,7 +24,7 @@ returns-then-not-is_unchanged c =
     let prefix : c.range.result.now ≡ take i text = c.range.ensures.value ∙ ap (λ n. take n text) (sub-zero i) in
     let rest = sym c.range_from.ensures.value ∙ sym c.chars-characters.ensures.rest ∙ c.in_ok-character.ensures.steps.0 ∙ ap (λ x. encode_utf8 c.in_ok-character.character ++ x) (sym c.as_str-rest.ensures) in
     record {
-      unchanged = subst AreUnchanged (sym prefix) unchanged;
+      unchanged = subst (AreUnchanged stays_on_line) (sym prefix) unchanged;
       hidden = λ s. true≢false (sym (c.is_unchanged.ensures.1 s) ∙ c.if-not-is_unchanged.true);
       joined = sym (take-append-drop i text) ∙ ap (λ x. x ++ drop i text) (sym prefix) ∙ ap (λ x. c.range.result.now ++ x) rest;
       prefix_text = c.range.utf8;

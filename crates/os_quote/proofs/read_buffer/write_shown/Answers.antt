@@ -1,9 +1,7 @@
-use Rattle.os_quote.proofs.Common.{◌≢◌, [], subst, IsUtf8, IsUtf8-nil, is_any, stays_on_line, are_chunks_of}
+use Rattle.os_quote.proofs.Common.{◌≢◌, ◌∙◌, subst, IsUtf8, is_any, stays_on_line, are_chunks_of}
 use Rattle.std.proofs.Common.{MatchResult}
-use Rattle.wtf8_core.specs.Truncated.{IsTruncated}
-use Rattle.wtf8_core.proofs.lemmas.buffers.Truncated.{none_yet}
 use Rattle.os_quote.specs.{Escape.IsQuoteFaultBy, Unescaped.IsUnescapedBy, declared.error.QuoteError.TheVariants.Memory}
-use Rattle.os_quote.proofs.lemmas.{Escapes.own_escape, Texts.own_text, Unescaping.own_unescaped, Unescaping.with_both}
+use Rattle.os_quote.proofs.lemmas.{Texts.shown_unchanged, Unescaping.own_unescaped, Unescaping.with_both}
 use Rattle.os_quote.proofs.read_buffer.write_shown.Goals as goal
 
 pub returns-in-Text-clause-read : goal.returns-in-Text-clause-read
@@ -12,10 +10,7 @@ returns-in-Text-clause-read g c =
     let laws = g.met.E.Platform.laws in
     let escape = c.args.escape.now in
     let is_text = subst IsUtf8 c.in-Some.ensures (subst IsUtf8 c.as_bytes.ensures.value c.as_bytes.ensures.utf8) in
-    let own = own_escape is_any P.well_formed P.units P.part_units g.met.E.Platform.parts escape (laws.text [] IsUtf8-nil) is_text (own_text escape is_text c.requires) in
-    let written = c.push_truncated.ensures.written [] c.args.buffer.now (none_yet c.args.buffer.now) in
-    rw c.in-Text.is (own_unescaped is_any P.well_formed P.units P.part_units g.met.E.Platform.parts (are_chunks_of P.well_formed laws.cut_prefix laws.cut_suffix) escape c.args.buffer.now c.push_truncated.new.buffer c.push_truncated.result (laws.text escape is_text) own
-    (subst (λ x. IsTruncated x c.args.buffer.now c.push_truncated.new.buffer c.push_truncated.result) c.in-Some.ensures (subst (λ x. IsTruncated x c.args.buffer.now c.push_truncated.new.buffer c.push_truncated.result) c.as_bytes.ensures.value written)))
+    rw c.in-Text.is (own_unescaped is_any P.well_formed P.units P.part_units g.met.E.Platform.parts (are_chunks_of P.well_formed laws.cut_prefix laws.cut_suffix) _ _ _ _ laws.text is_text (shown_unchanged escape is_text c.requires) (c.as_bytes.ensures.value ∙ c.in-Some.ensures) c.push_truncated.ensures.written)
 
 pub returns-in-Line-clause-read : goal.returns-in-Line-clause-read
 returns-in-Line-clause-read g c =

@@ -1,20 +1,14 @@
-use Rattle.os_quote.proofs.Common.{arith, [], sym, subst, IsUtf8, IsUtf8-nil, stays_on_line, are_chunks_of}
+use Rattle.os_quote.proofs.Common.{arith, sym, subst, IsUtf8, stays_on_line, are_chunks_of}
 use Rattle.std.specs.Prelude.{IfErr}
 use Rattle.os_quote.specs.Escape.{IsQuoteFaultBy}
-use Rattle.wtf8_core.specs.Truncated.{IsTruncated}
-use Rattle.wtf8_core.proofs.lemmas.buffers.Truncated.{none_yet}
-use Rattle.os_quote.proofs.lemmas.{Lines.unchanged_text, Escapes.own_escape, Unescaping.own_unescaped}
+use Rattle.os_quote.proofs.lemmas.Unescaping.{own_unescaped}
 use Rattle.os_quote.proofs.read_buffer.write_unescaped_line.Goals as goal
 
 pub returns-in-None-clause-string : goal.returns-in-None-clause-string
 returns-in-None-clause-string g c =
     let P = g.E.Platform in
     let laws = g.met.E.Platform.laws in
-    let text = c.args.text.now in
-    let own = own_escape stays_on_line P.well_formed P.units P.part_units g.met.E.Platform.parts text (laws.text [] IsUtf8-nil) c.utf8.text (unchanged_text c.args.text.now c.utf8.text c.in-None.ensures) in
-    let written = c.push_truncated.ensures.written [] c.args.buffer.now (none_yet c.args.buffer.now) in
-    own_unescaped stays_on_line P.well_formed P.units P.part_units g.met.E.Platform.parts (are_chunks_of P.well_formed laws.cut_prefix laws.cut_suffix) text c.args.buffer.now c.push_truncated.new.buffer c.push_truncated.result (laws.text text c.utf8.text) own
-    (subst (λ x. IsTruncated x c.args.buffer.now c.push_truncated.new.buffer c.push_truncated.result) c.as_bytes.ensures.value written)
+    own_unescaped stays_on_line P.well_formed P.units P.part_units g.met.E.Platform.parts (are_chunks_of P.well_formed laws.cut_prefix laws.cut_suffix) _ _ _ _ laws.text c.utf8.text c.in-None.ensures c.as_bytes.ensures.value c.push_truncated.ensures.written
 
 pub returns-in-Some-clause-string : goal.returns-in-Some-clause-string
 returns-in-Some-clause-string g c = grind (arith, stays_on_line)

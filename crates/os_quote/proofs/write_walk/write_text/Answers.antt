@@ -1,7 +1,7 @@
 use Rattle.os_quote.proofs.write_walk.write_text.Goals as goal
 
 pub returns-in-Text : goal.returns-in-Text
-returns-in-Text g c = rw c.in-Text.is c.write_shown_text.ensures
+returns-in-Text g c = rw c.in-Text.is c.write_pieces.ensures
 
 pub returns-in-Line : goal.returns-in-Line
-returns-in-Line g c = rw c.in-Line.is c.write_line_text.ensures
+returns-in-Line g c = rw c.in-Line.is c.write_pieces-in-Line.ensures

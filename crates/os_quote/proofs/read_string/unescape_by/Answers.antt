@@ -1,6 +1,6 @@
-use Rattle.os_quote.proofs.Common.{◌≡◌, ◌≤◌, true, false, [], length, take, drop, take_at, sym, ap, ◌∙◌, subst, arith, IsUtf8, shown_by, IsEscapeBy, IsRead, are_chunks_of}
-use Rattle.os_quote.proofs.lemmas.{Readings.no_escape, Unescaping.read_is_short, Unescaping.read_fits}
-use Rattle.os_quote.proofs.read_string.from_items.Goals as goal
+use Rattle.os_quote.proofs.Common.{◌≡◌, ◌≤◌, true, false, [], length, take, drop, take_at, sym, ap, ◌∙◌, subst, arith, IsUtf8, shown_by, IsEscapeBy, IsRead, IsUtf8-nil, are_chunks_of}
+use Rattle.os_quote.proofs.lemmas.{Texts.unchanged_text, Lines.cut_is_shorter, Escapes.own_escape, Readings.no_escape, Unescaping.read_is_short, Unescaping.read_fits}
+use Rattle.os_quote.proofs.read_string.unescape_by.Goals as goal
 
 pub returns-else-is_unescaped-clause-fault : goal.returns-else-is_unescaped-clause-fault
 returns-else-is_unescaped-clause-fault g c =
@@ -22,3 +22,17 @@ returns-else-is_unescaped-clause-fault g c =
     let no : ¬ (false ≡ true) = λ e. cc in
     no_escape shows P.well_formed P.units P.part_units g.met.E.Platform.parts (are_chunks_of P.well_formed laws.cut_prefix laws.cut_suffix) text read.0 items
     (λ w e. no (sym c.if-is_unescaped.false ∙ c.is_unescaped.ensures.1 (subst (λ x. P.well_formed c.deref.result.now × IsEscapeBy shows P.units c.deref.result.now x) (sym c.as_bytes-2.ensures.value) (subst (λ x. P.well_formed x × IsEscapeBy shows P.units x text) (sym same) (w, e)))))
+
+pub returns-in_default-clause-string : goal.returns-in_default-clause-string
+returns-in_default-clause-string g c =
+    let P = g.E.Platform in
+    let shows = shown_by c.args.form in
+    let text = c.args.text.now in
+    let own = own_escape shows P.well_formed P.units P.part_units g.met.E.Platform.parts text (g.met.E.Platform.laws.text [] IsUtf8-nil) c.utf8.text (unchanged_text shows text c.utf8.text c.in_default.ensures) in
+    subst (λ x. IsEscapeBy shows P.units x text) (sym (c.in_ok-to_owned.ensures.bytes ∙ c.new.ensures)) own
+
+pub returns-in_err-encoded-clause-empty : goal.returns-in_err-encoded-clause-empty
+returns-in_err-encoded-clause-empty g c = λ e. let s = cut_is_shorter _ _ _ _ _ c.in-Some.ensures in absurd (omega (arith, e))
+
+pub returns-else-is_unescaped-clause-empty : goal.returns-else-is_unescaped-clause-empty
+returns-else-is_unescaped-clause-empty g c = λ e. let s = cut_is_shorter _ _ _ _ _ c.in-Some.ensures in absurd (omega (arith, e))

@@ -1,0 +1,10 @@
+use Rattle.os_quote.proofs.Common.{length, shadow, Utf8, text_escape, shown_by}
+use Rattle.os_quote.proofs.lemmas.Taking.{TakesRest}
+use Rattle.os_quote.proofs.write_walk.write_pieces.Given as goal
+
+abbrev pub invariant-loop-prefix : goal.invariant-loop-prefix
+invariant-loop-prefix g l =
+    shadow (Utf8 l.rest) × TakesRest g.S.Sink.rules l.fn.sink l.sink (text_escape (shown_by l.form) l.rest) (text_escape (shown_by l.form) l.fn.text)
+
+abbrev pub decreases-loop-prefix : goal.decreases-loop-prefix
+decreases-loop-prefix g l = length l.rest
