@@ -2,6 +2,7 @@ pub mod buffers
 pub mod characters
 pub mod chunks
 pub mod forms
+pub mod Laws
 pub mod reader
 pub mod occurrence
 pub mod table

@@ -1,6 +1,6 @@
 //! Classes of bytes.
-ghost use Rattle.std.specs.Prelude.{◌≡◌, ◌↔◌, ◌≤◌, IsTrue};
-ghost use Rattle.wtf8_core.specs.Byte.{IsContinuation, needed_continuations};
+ghost use Rattle.std.specs.Prelude.{◌↔◌, IsTrue};
+ghost use Rattle.wtf8_core.specs.Byte.{IsContinuation};
 
 /// Whether a byte is a continuation byte: one of 80 to BF (hexadecimal; `UTF8-tail` of RFC 3629,
 /// section 4).
@@ -18,20 +18,4 @@ pub fn is_continuation(byte: u8) -> bool
     ensures { IsTrue result ↔ IsContinuation byte }
 {
     matches!(byte, 0x80..=0xBF)
-}
-
-/// How many continuations a lead needs.
-#[inline(always)]
-pub(crate) fn needed_continuations(lead: u8) -> u8
-    ensures value { result ≡ needed_continuations lead }
-    ensures some { 1 ≤ result }
-    ensures few { result ≤ 3 }
-{
-    if lead < 0xE0 {
-        1
-    } else if lead < 0xF0 {
-        2
-    } else {
-        3
-    }
 }

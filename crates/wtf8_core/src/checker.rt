@@ -1,12 +1,14 @@
 //! Checking bytes that arrive in pieces.
+#![tactic(auto, using(crate::proofs::lemmas::table::Pieces::pieces))]
+
 ghost use Rattle.std.specs.Prelude.{◌≡◌, ℕ, ◌<◌, ◌≤◌, ◌∷◌, ◌++◌, List, [], length, MatchOption, MatchResult};
-ghost use Rattle.wtf8_core.specs.Checker.{IsInState, Describes, IsFaulty, OnlyEnds, HasFirstFault, joined_bits, fault_at, is_between, is_plain, saved_progress};
+ghost use Rattle.wtf8_core.specs.Checker.{IsInState, Describes, IsFaulty, OnlyEnds, HasFirstFault, fault_at, is_between, is_plain, saved_progress};
 ghost use Rattle.wtf8_core.specs.{Wtf8.IsWtf8, EncodedPrefix.IsEncodedPrefix, declared.table.State.TheVariants.Between};
 ghost use Rattle.wtf8_core.specs.declared.vectors.Encoding.TheVariants.{Wtf8};
 
 use crate::byte::is_continuation;
 use crate::fault::EncodingError;
-use crate::table::{State, class_at, next_at, state_at, state_index};
+use crate::table::{State, class_at, next_at, state_at};
 use crate::utf8::is_short_utf8;
 use crate::vectors::Encoding;
 use crate::vectors::scan::{ends_with_high_surrogate, scan};
@@ -121,7 +123,6 @@ impl Checker {
     /// assert_eq!(rt; checker.feed(b"\xE2\x82"), Ok(()));
     /// assert_eq!(rt; checker.finish(), Err(EncodingError::End));
     /// ```
-    #[tactic(auto, using(crate::proofs::lemmas::table::Pieces::finished))]
     pub fn finish(self) -> Result<(), EncodingError>
         ensures { (fed : List ℕ) → Describes self fed
             → MatchResult result (λ _. IsWtf8 fed) (λ fault. HasFirstFault fed fault) }
@@ -148,13 +149,12 @@ impl Checker {
     ///     assert_eq!(rt; restored.feed(b"A"), Err(EncodingError::Byte(0x41)));
     /// }
     /// ```
-    #[tactic(auto, using(crate::proofs::lemmas::table::Entries::at_index))]
     pub fn save(&self) -> SavedChecker
         ensures saved { saved_progress result ≡ self.now }
         ensures state { result.state < 16 }
     {
         SavedChecker {
-            state: state_index(self.state) as u8,
+            state: self.state as u8,
             bits: self.bits,
             fault: self.fault,
         }
@@ -181,14 +181,6 @@ impl Checker {
             fault: saved.fault,
         })
     }
-}
-
-/// The low 26 of the bits, followed by the low six bits of a byte.
-#[inline(always)]
-fn joined_bits(bits: u32, byte: u8) -> u32
-    ensures { result ≡ joined_bits bits byte }
-{
-    bits % 0x400_0000 * 0x40 + u32::from(byte % 0x40)
 }
 
 /// The fault of a byte that the table refuses in this state.
@@ -223,7 +215,6 @@ fn is_plain(state: State) -> bool
 }
 
 /// The state and the bits after one more byte, or its fault.
-#[tactic(auto, using(crate::proofs::lemmas::table::Pieces::read_on))]
 #[inline(always)]
 fn read_byte(state: State, bits: u32, byte: u8) -> Result<(State, u32), EncodingError>
     ensures { (fed : List ℕ) → IsInState state bits fed
@@ -231,7 +222,8 @@ fn read_byte(state: State, bits: u32, byte: u8) -> Result<(State, u32), Encoding
         (λ fault. IsFaulty (fed ++ byte ∷ []) fault) }
 {
     let next = next_at(state, class_at(byte));
-    let joined = joined_bits(bits, byte);
+    // The low 26 of the bits, followed by the low six of the byte.
+    let joined = bits % 0x400_0000 * 0x40 + u32::from(byte % 0x40);
     if let State::Refused = next {
         return Err(fault_at(state, joined, byte));
     }

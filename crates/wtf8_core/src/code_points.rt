@@ -1,10 +1,12 @@
 //! The code points that bytes encode.
+#![tactic(auto, using(crate::proofs::lemmas::reader::Reading::reading))]
+
 ghost use Rattle.std.specs.Prelude.{◌≡◌, ℕ, suc, ◌∷◌, ◌+◌, ◌*◌, ◌<◌, ◌≤◌, ◌^◌, [], Ok, Err, drop, IfOk, IfSome, MatchOption, MatchResult};
 ghost use Rattle.wtf8_core.specs.{Byte.needed_continuations, Items.AreItems, Surrogate.is_high};
 ghost use Rattle.std.specs.Iterator.{YieldsFirst, item_count};
 ghost use Rattle.wtf8_core.specs.Reader.{with_continuations, continuations, after_item, first_item, is_high_item, IsFirstItem};
 
-use crate::byte::{is_continuation, needed_continuations};
+use crate::byte::is_continuation;
 use crate::fault::EncodingError;
 use crate::surrogate::{is_high, is_low};
 use std::marker::Model;
@@ -74,7 +76,6 @@ impl<'a> Iterator for CodePoints<'a> {
 
     ghost remaining = { item_count (λ rest. rest) };
 
-    #[tactic(auto, using(crate::proofs::lemmas::reader::Reading::items_of_first))]
     #[inline(always)]
     fn next(&mut self) -> Option<Result<u32, EncodingError>> {
         let (item, after_high, rest) = next_item(self.after_high, self.rest)?;
@@ -86,7 +87,6 @@ impl<'a> Iterator for CodePoints<'a> {
 
 /// The first item of bytes, whether it is a high surrogate, and the bytes after it; `None` if the
 /// bytes are empty.
-#[tactic(auto, using(crate::proofs::lemmas::reader::Reading::reading))]
 #[inline(always)]
 pub(crate) fn next_item(
     after_high: bool,
@@ -114,14 +114,15 @@ pub(crate) fn next_item(
 fn after_refused(first: u8, after: &[u8]) -> &[u8]
     ensures { result.now ≡ drop (after_item first after.now) after.now }
 {
-    if first < 0xC2 {
-        return after;
+    match first {
+        0..=0xC1 => after,
+        0xC2..=0xDF => after_continuations(1, after),
+        0xE0..=0xEF => after_continuations(2, after),
+        _ => after_continuations(3, after),
     }
-    after_continuations(needed_continuations(first), after)
 }
 
 /// The bytes after the continuations at the start, at most `limit` of them.
-#[tactic(auto, using(crate::proofs::lemmas::reader::Reading::counting))]
 fn after_continuations(limit: u8, bytes: &[u8]) -> &[u8]
     ensures { result.now ≡ drop (continuations limit bytes.now) bytes.now }
 {
@@ -207,7 +208,6 @@ fn first_continuation(bytes: &[u8]) -> Result<(u32, &[u8]), EncodingError>
 }
 
 /// The value with the bits of one continuation appended, and the bytes after that continuation.
-#[tactic(auto, using(crate::proofs::lemmas::reader::Reading::reading))]
 #[inline(always)]
 fn with_one(value: u32, bytes: &[u8]) -> Result<(u32, &[u8]), EncodingError>
     requires room { value < 2 ^ 16 }
@@ -223,7 +223,6 @@ fn with_one(value: u32, bytes: &[u8]) -> Result<(u32, &[u8]), EncodingError>
 }
 
 /// The value with the bits of two continuations appended, and the bytes after them.
-#[tactic(auto, using(crate::proofs::lemmas::reader::Reading::reading))]
 #[inline(always)]
 fn with_two(value: u32, bytes: &[u8]) -> Result<(u32, &[u8]), EncodingError>
     requires room { value < 2 ^ 10 }
@@ -239,7 +238,6 @@ fn with_two(value: u32, bytes: &[u8]) -> Result<(u32, &[u8]), EncodingError>
 }
 
 /// The value with the bits of three continuations appended, and the bytes after them.
-#[tactic(auto, using(crate::proofs::lemmas::reader::Reading::reading))]
 #[inline(always)]
 fn with_three(value: u32, bytes: &[u8]) -> Result<(u32, &[u8]), EncodingError>
     requires room { value < 2 ^ 4 }

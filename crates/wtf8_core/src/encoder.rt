@@ -74,10 +74,8 @@ fn first_unit(item: Result<u32, EncodingError>) -> (Result<u16, EncodingError>, 
 {
     match item {
         Err(fault) => (Err(fault), None),
+        Ok(c) if c < 0x1_0000 => (Ok(c as u16), None),
         Ok(c) => {
-            if c < 0x1_0000 {
-                return (Ok(c as u16), None);
-            }
             let (high, low) = pair_units(c);
             (Ok(high), Some(low))
         }

@@ -1,4 +1,6 @@
 //! Prefixes, suffixes and joins of WTF-8 by units, where half of a surrogate pair counts.
+#![tactic(auto, using(std::proofs::lemmas::Bool::Decides::nat_tests))]
+
 ghost use Rattle.std.specs.Prelude.{◌≡◌, ◌∷◌, ◌++◌, ◌≤◌, ◌↔◌, ℕ, List, [], IsTrue, MatchOption};
 ghost use Rattle.wtf8_core.specs.Surrogate.{IsHigh, IsLow, IsSurrogate};
 ghost use Rattle.wtf8_core.specs.{CodePoint.encode, Wtf8.IsWtf8, UnitsOf.units_of, Join.IsPairBetween};
@@ -72,7 +74,6 @@ pub fn ends_with(string: &[u8], suffix: &[u8]) -> bool
 /// assert_eq!(rt; pair_between(b"a\xED\xA0\xBD", b"\xED\xB8\x80"), Some(0x1F600));
 /// assert_eq!(rt; pair_between(b"a", b"\xED\xB8\x80"), None);
 /// ```
-#[tactic(auto, using(std::proofs::lemmas::Bool::Decides::nat_tests))]
 pub fn pair_between(string: &[u8], more: &[u8]) -> Option<u32>
     ensures { MatchOption result ((c : ℕ) → ¬ (IsPairBetween string.now more.now c))
         (λ c. IsPairBetween string.now more.now c) }
@@ -106,7 +107,6 @@ fn split_last_surrogate(string: &[u8]) -> Option<(&[u8], u16)>
 }
 
 /// Splits off the high surrogate with which the bytes end: the bytes before it, and the surrogate.
-#[tactic(auto, using(std::proofs::lemmas::Bool::Decides::nat_tests))]
 fn split_last_high(string: &[u8]) -> Option<(&[u8], u16)>
     ensures { MatchOption result
         ((prefix : List ℕ) → (c : ℕ) → IsHigh c → string.now ≡ prefix ++ encode c → ⊥)
@@ -121,7 +121,6 @@ fn split_last_high(string: &[u8]) -> Option<(&[u8], u16)>
 }
 
 /// Splits off the low surrogate with which the bytes begin: the surrogate, and the bytes after it.
-#[tactic(auto, using(std::proofs::lemmas::Bool::Decides::nat_tests))]
 fn split_first_low(string: &[u8]) -> Option<(u16, &[u8])>
     ensures { MatchOption result
         ((c : ℕ) → (rest : List ℕ) → IsLow c → string.now ≡ encode c ++ rest → ⊥)

@@ -3,6 +3,8 @@
 //! A caller that needs a law calls its function, for example `laws::encoding()`, which makes the
 //! law known there. The laws are about lists of numbers: bytes, code points (`cs`, `ds`) and units
 //! (`us`, `vs`). Indices count bytes.
+#![tactic(auto, using(crate::proofs::lemmas::Laws::laws))]
+
 ghost use Rattle.std.specs.Prelude.{◌≡◌, ◌↔◌, ◌⊎◌, ◌+◌, ◌-◌, ◌<◌, ◌≤◌, ◌^◌, ◌++◌, length, take, drop, map, ℕ, List, Option, Result, IsTrue};
 ghost use Rattle.std.specs.{List.All, Char.encode_utf8, Ordering.nat_cmp, Cmp.Lexicographic.slice_cmp};
 ghost use Rattle.std.specs.Str.{IsUtf8, IsCharBoundary};
@@ -44,7 +46,6 @@ pub fn one_fault_index()
 
 /// A first fault other than `End` stays the first fault, whatever bytes come next. So a [`Checker`]
 /// that has returned a fault returns it forever.
-#[tactic(auto, using(crate::proofs::lemmas::table::Pieces::extends))]
 pub fn fault_stays()
     ensures { (bytes : List ℕ) → (more : List ℕ) → (f : EncodingError) → IsFaulty bytes f
         → IsFaulty (bytes ++ more) f }
@@ -64,7 +65,6 @@ pub fn encoded_or_faulty()
 {}
 
 /// Bytes have at most one list of items.
-#[tactic(auto, using(crate::proofs::lemmas::reader::Complete::one_list_of_items))]
 pub fn one_list_of_items()
     ensures { (bytes : List ℕ) → (xs : List (Result ℕ EncodingError))
         → (ys : List (Result ℕ EncodingError)) → AreItems bytes xs → AreItems bytes ys → xs ≡ ys }
@@ -83,7 +83,6 @@ pub fn encoding()
 
 /// The order of bytes, as lists, is the order of the code points that they encode, and so not that
 /// of their units.
-#[tactic(auto, using(crate::proofs::lemmas::forms::Order::order_of_encoded))]
 pub fn order()
     ensures { (bytes : List ℕ) → (others : List ℕ) → (cs : List ℕ) → (ds : List ℕ)
         → Encodes bytes cs → Encodes others ds
@@ -100,7 +99,6 @@ pub fn functions()
 
 /// Any bytes have exactly one lossy text, with a U+FFFD for each maximal ill-formed part: that of
 /// std's `String::from_utf8_lossy`. It is UTF-8, and so is the lossy text of WTF-8 bytes.
-#[tactic(auto, using(crate::proofs::lemmas::texts::AreWtf8::lossy_texts))]
 pub fn lossy_text()
     ensures is_std { (bytes : List ℕ) → IsLossyText bytes (utf8_lossy bytes) }
     ensures only_std { (bytes : List ℕ) → (text : List ℕ) → IsLossyText bytes text
@@ -111,7 +109,6 @@ pub fn lossy_text()
 
 /// Any bytes have exactly one lossy reading, which is WTF-8: the forms of their items joined, with
 /// that of FFFD (hexadecimal) for each fault. WTF-8 bytes are their own lossy reading.
-#[tactic(auto, using(crate::proofs::lemmas::reader::LossyReadings::readings))]
 pub fn lossy_reading()
     ensures some { (bytes : List ℕ) → All IsByte bytes
         → (reading : List ℕ) × IsLossyReading bytes reading }
@@ -125,14 +122,12 @@ pub fn lossy_reading()
 {}
 
 /// Bytes have at most one UTF-8 fault.
-#[tactic(auto, using(crate::proofs::lemmas::texts::LossyTexts::one_utf8_fault))]
 pub fn one_utf8_fault()
     ensures { (bytes : List ℕ) → (n : ℕ) → (m : ℕ) → (l : Option ℕ) → (k : Option ℕ)
         → IsUtf8Fault bytes n l → IsUtf8Fault bytes m k → (n ≡ m) × (l ≡ k) }
 {}
 
 /// The form of a code point is what std's `char::encode_utf8` writes (RFC 3629, section 3).
-#[tactic(auto, using(crate::proofs::lemmas::forms::ByStd::form_encode))]
 pub fn forms()
     ensures { (c : ℕ) → encode c ≡ encode_utf8 c }
 {}
@@ -183,14 +178,12 @@ pub fn ill_formed_parts()
 /// The laws of occurrences and of joins: a nonempty text occurs in WTF-8 bytes exactly where its
 /// units occur in their units, and what comes before it and after it is WTF-8 again. For any two
 /// strings there are WTF-8 bytes whose units are those of both, joined.
-#[tactic(auto, using(crate::proofs::lemmas::occurrence::Wtf8::wtf8_occurrence))]
 pub fn occurrence()
     ensures { OccurrenceLaws IsWtf8 units_of }
 {}
 
 /// A string has exactly one list of chunks. If it is WTF-8, its chunks are the bytes of the maximal
 /// runs of surrogates among the code points that it encodes, each with the scalar values after it.
-#[tactic(auto, using(crate::proofs::lemmas::chunks::OneList::one_list_of_chunks))]
 pub fn chunks()
     ensures some { (s : List ℕ) → (chunks : List Chunk) × AreChunks s chunks }
     ensures once { (s : List ℕ) → (chunks : List Chunk) → (others : List Chunk) → AreChunks s chunks

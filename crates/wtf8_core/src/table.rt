@@ -1,7 +1,7 @@
 //! The table by which bytes are checked: from the state before a byte and the class of the byte to
 //! the state after it.
-ghost use Rattle.std.specs.Prelude.{◌≡◌, ◌<◌, ◌≤◌, MatchOption};
-ghost use Rattle.wtf8_core.specs.Table.{state_index, state_at, class_index, class_at, next_at};
+ghost use Rattle.std.specs.Prelude.{◌≡◌, ◌≤◌, MatchOption};
+ghost use Rattle.wtf8_core.specs.Table.{state_at, class_at, next_at};
 
 use Class::*;
 use State::*;
@@ -64,15 +64,6 @@ pub(crate) enum Class {
     LeadF5,
 }
 
-/// The index of a state in the table.
-#[inline(always)]
-pub(crate) fn state_index(state: State) -> usize
-    ensures value { result ≡ state_index state }
-    ensures within { result < 16 }
-{
-    state as usize
-}
-
 /// The state with an index in the table, or `None` if there is none.
 #[tactic(auto, unfolding(crate::specs::Table::state_at))]
 pub(crate) fn state_at(index: u8) -> Option<State>
@@ -84,15 +75,6 @@ pub(crate) fn state_at(index: u8) -> Option<State>
     } else {
         None
     }
-}
-
-/// The index of a class in a row of the table.
-#[inline(always)]
-fn class_index(class: Class) -> usize
-    ensures value { result ≡ class_index class }
-    ensures within { result < 16 }
-{
-    class as usize
 }
 
 /// The class of a byte.
@@ -110,7 +92,7 @@ pub(crate) fn class_at(byte: u8) -> Class
 pub(crate) fn next_at(state: State, class: Class) -> State
     ensures { result ≡ next_at state class }
 {
-    NEXT[state_index(state)][class_index(class)]
+    NEXT[state as usize][class as usize]
 }
 
 /// The states in the order of their indices.

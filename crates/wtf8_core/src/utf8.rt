@@ -1,4 +1,6 @@
 //! The first fault of bytes that aren't UTF-8.
+#![tactic(auto, using(crate::proofs::lemmas::vectors::Windows::texts))]
+
 ghost use Rattle.std.specs.Prelude.{◌≡◌, ◌+◌, ◌≤◌, ◌<◌, ◌↔◌, ℕ, MatchOption, MatchResult, IfOk, IsTrue, Some, length, slice_index, take};
 ghost use Rattle.std.specs.Str.{IsUtf8};
 ghost use Rattle.wtf8_core.specs.{EncodedPrefix.KeepsPattern, declared.vectors.Encoding.TheVariants.Utf8, Wtf8.IsWtf8};
@@ -38,7 +40,6 @@ const FEW: usize = 3;
 /// assert_eq!(rt; utf8_fault(b"a\xE2\x82"), Some((1, None)));
 /// assert_eq!(rt; utf8_fault(b"\xC3\xA9"), None);
 /// ```
-#[tactic(auto, using(crate::proofs::lemmas::vectors::Windows::texts))]
 #[inline(always)]
 pub fn utf8_fault(bytes: &[u8]) -> Option<(usize, Option<u8>)>
     ensures { MatchOption result (IsUtf8 bytes.now)
@@ -74,13 +75,7 @@ pub fn is_utf8(bytes: &[u8]) -> bool
     if bytes.len() > SHORT {
         return is_long_utf8(bytes);
     }
-    if is_short_utf8(bytes) {
-        return true;
-    }
-    match fault_by_std(bytes) {
-        None => true,
-        Some(_) => false,
-    }
+    is_short_utf8(bytes) || fault_by_std(bytes).is_none()
 }
 
 /// The first fault of WTF-8 that isn't UTF-8, `None` for UTF-8: the same as [`utf8_fault`] of the
@@ -133,7 +128,6 @@ fn fault_in_short(bytes: &[u8]) -> Option<(usize, Option<u8>)>
 }
 
 /// The first fault of few bytes whose first `at` bytes are UTF-8, by steps.
-#[tactic(auto, using(crate::proofs::lemmas::vectors::Windows::texts))]
 #[inline(always)]
 fn fault_by_short_steps(bytes: &[u8], at: usize) -> Option<(usize, Option<u8>)>
     requires within { at ≤ length bytes.now }
@@ -152,7 +146,6 @@ fn fault_by_short_steps(bytes: &[u8], at: usize) -> Option<(usize, Option<u8>)>
 }
 
 /// Whether the bytes are found to be UTF-8 at once, or by steps. That isn't found of more than 128.
-#[tactic(auto, using(crate::proofs::lemmas::vectors::Windows::texts))]
 #[inline(always)]
 pub(crate) fn is_short_utf8(bytes: &[u8]) -> bool
     ensures { IsTrue result → IsUtf8 bytes.now }
@@ -162,18 +155,11 @@ pub(crate) fn is_short_utf8(bytes: &[u8]) -> bool
 }
 
 /// The same as [`is_utf8`], by blocks.
-#[tactic(auto, using(crate::proofs::lemmas::vectors::Windows::texts))]
 fn is_long_utf8(bytes: &[u8]) -> bool
     ensures { IsTrue result ↔ IsUtf8 bytes.now }
 {
     let prefix = scan(bytes, Encoding::Utf8);
-    if prefix == bytes.len() {
-        return true;
-    }
-    match fault_in_rest(bytes, prefix) {
-        None => true,
-        Some(_) => false,
-    }
+    prefix == bytes.len() || fault_in_rest(bytes, prefix).is_none()
 }
 
 /// Whether the bytes are at most 128 and ASCII. It isn't found of fewer than 4.
@@ -181,16 +167,10 @@ fn is_long_utf8(bytes: &[u8]) -> bool
 fn is_short_ascii(bytes: &[u8]) -> bool
     ensures { IsTrue result → IsUtf8 bytes.now }
 {
-    if bytes.len() > SHORT {
+    if bytes.len() > SHORT || !is_ascii_to_end(bytes) {
         return false;
     }
-    if !is_ascii_to_end(bytes) {
-        return false;
-    }
-    if bytes.len() <= BLOCK {
-        return true;
-    }
-    is_ascii_at::<BLOCK>(bytes, 0)
+    bytes.len() <= BLOCK || is_ascii_at::<BLOCK>(bytes, 0)
 }
 
 /// How many of 16 to 128 bytes are ASCII before the first that isn't; it isn't found of fewer or more.
@@ -254,7 +234,6 @@ fn after_characters(bytes: &[u8], from: usize, most: usize) -> Result<usize, (us
 }
 
 /// The first fault of bytes whose first `at` bytes are UTF-8, which is near in most of them.
-#[tactic(auto, using(crate::proofs::lemmas::vectors::Windows::texts))]
 #[inline(always)]
 fn fault_by_steps(bytes: &[u8], at: usize) -> Option<(usize, Option<u8>)>
     requires within { at ≤ length bytes.now }
@@ -272,7 +251,6 @@ fn fault_by_steps(bytes: &[u8], at: usize) -> Option<(usize, Option<u8>)>
 }
 
 /// The first fault of bytes that keep to the pattern of UTF-8 up to index `at`.
-#[tactic(auto, using(crate::proofs::lemmas::vectors::Windows::texts))]
 fn fault_by_blocks(bytes: &[u8], at: usize) -> Option<(usize, Option<u8>)>
     requires within { at ≤ length bytes.now }
     requires kept { KeepsPattern Utf8 bytes.now at }

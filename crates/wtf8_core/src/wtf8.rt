@@ -1,4 +1,6 @@
 //! The first fault of bytes that aren't WTF-8, and how many bytes are refused with it.
+#![tactic(auto, using(crate::proofs::lemmas::reader::FaultIndices::read_more))]
+
 ghost use Rattle.std.specs.Prelude.{MatchOption};
 ghost use Rattle.wtf8_core.specs.{Wtf8.IsWtf8, Fault.IsFaultAt, EncodedPrefix.IsReadUpTo};
 
@@ -25,7 +27,6 @@ use crate::vectors::scan::{ends_with_high_surrogate, scan};
 /// assert_eq!(rt; wtf8_fault(b"\xED\xA0\x80\xED\xB0\x80"), Some((3, 3)));
 /// assert_eq!(rt; wtf8_fault(b"\xED\xA0\x80"), None);
 /// ```
-#[tactic(auto, using(crate::proofs::lemmas::reader::FaultIndices::read_more))]
 pub fn wtf8_fault(bytes: &[u8]) -> Option<(usize, usize)>
     ensures { MatchOption result (IsWtf8 bytes.now) (λ fault. IsFaultAt bytes.now fault.0 fault.1) }
 {
@@ -52,7 +53,6 @@ const NEAR: u32 = 32;
 
 /// The same where the bytes before `rest` have been read; `after_high` says whether they end with a
 /// high surrogate.
-#[tactic(auto, using(crate::proofs::lemmas::reader::FaultIndices::read_more))]
 fn fault_in_rest(bytes: &[u8], after_high: bool, rest: &[u8]) -> Option<(usize, usize)>
     requires { IsReadUpTo bytes.now after_high rest.now }
     ensures { MatchOption result (IsWtf8 bytes.now) (λ fault. IsFaultAt bytes.now fault.0 fault.1) }

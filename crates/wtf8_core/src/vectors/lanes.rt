@@ -1,4 +1,6 @@
 //! Operations on the lanes of a vector, each once.
+#![tactic(auto, using(crate::proofs::lemmas::vectors::Lanes::lane_with, crate::proofs::lemmas::vectors::Lanes::no_bit_of_both))]
+
 ghost use Rattle.std.specs.Prelude.{◌≡◌, ◌≢◌, ℕ, ◌+◌, ◌-◌, ◌*◌, ◌/◌, ◌≤◌, ◌<◌, length, IsTrue, slice_index, nat_eq, bit_and, bit_or, bit_xor};
 
 use std::simd::prelude::*;
@@ -13,7 +15,6 @@ pub fn load<const N: usize>(bytes: &[u8], from: usize) -> Simd<u8, N>
 }
 
 /// Each lane's high half.
-#[tactic(auto, using(crate::proofs::lemmas::vectors::Lanes::lane_with))]
 #[inline(always)]
 pub fn high_halves<const N: usize>(bytes: Simd<u8, N>) -> Simd<u8, N>
     ensures { (i : ℕ) → i < N → slice_index result i ≡ slice_index bytes.entry i / 16 }
@@ -22,7 +23,6 @@ pub fn high_halves<const N: usize>(bytes: Simd<u8, N>) -> Simd<u8, N>
 }
 
 /// The bits of each lane that the mask has.
-#[tactic(auto, using(crate::proofs::lemmas::vectors::Lanes::lane_with))]
 #[inline(always)]
 pub fn masked<const N: usize>(bytes: Simd<u8, N>, mask: u8) -> Simd<u8, N>
     ensures { (i : ℕ) → i < N → slice_index result i ≡ bit_and (slice_index bytes.entry i) mask }
@@ -31,7 +31,6 @@ pub fn masked<const N: usize>(bytes: Simd<u8, N>, mask: u8) -> Simd<u8, N>
 }
 
 /// Each lane, xor a value.
-#[tactic(auto, using(crate::proofs::lemmas::vectors::Lanes::lane_with))]
 #[inline(always)]
 pub fn xor_with<const N: usize>(bytes: Simd<u8, N>, value: u8) -> Simd<u8, N>
     ensures { (i : ℕ) → i < N → slice_index result i ≡ bit_xor (slice_index bytes.entry i) value }
@@ -103,7 +102,6 @@ pub fn entries_of_16(table: [u8; 64], indices: u8x16) -> u8x16
 }
 
 /// Whether all lanes are 0. It tests both halves together, so that no mask of 64 bits is made.
-#[tactic(auto, using(crate::proofs::lemmas::vectors::Lanes::no_bit_of_both))]
 #[inline(always)]
 pub fn are_zero(lanes: u8x64) -> bool
     ensures { IsTrue result → (i : ℕ) → i < 64 → slice_index lanes i ≡ 0 }

@@ -2,6 +2,8 @@
 //!
 //! The prefix that is found is always well formed. It may be shorter than the longest one; callers
 //! must not rely on its length.
+#![tactic(auto, using(crate::proofs::lemmas::vectors::Windows::scanning))]
+
 ghost use Rattle.std.specs.Prelude.{◌≡◌, ◌∷◌, ℕ, suc, ◌+◌, ◌-◌, ◌≤◌, ◌<◌, length, IsTrue, MatchResult, slice_index};
 ghost use Rattle.std.specs.Int.{is_in_range};
 ghost use Rattle.wtf8_core.specs.{Wtf8.last_or, Surrogate.is_high, declared.vectors.Encoding.Encoding};
@@ -17,7 +19,6 @@ use crate::vectors::{BEFORE, BLOCK, Encoding, STEP};
 
 /// The length of a prefix that is of this encoding: all the bytes, or some that end where the next
 /// code point begins.
-#[tactic(auto, using(crate::proofs::lemmas::vectors::Windows::no_pattern))]
 #[inline(always)]
 pub(crate) fn scan(bytes: &[u8], encoding: Encoding) -> usize
     ensures within { result ≤ length bytes.now }
@@ -114,7 +115,6 @@ pub(crate) fn scan_steps(bytes: &[u8], at: usize) -> Result<usize, usize>
 }
 
 /// How many of the next 16 bytes keep to the pattern of UTF-8, up to the first that doesn't.
-#[tactic(auto, using(crate::proofs::lemmas::vectors::Windows::inside))]
 #[inline(always)]
 fn step_len(bytes: &[u8], at: usize) -> usize
     requires from { 4 ≤ at }
@@ -165,13 +165,8 @@ pub(crate) fn scan_short(bytes: &[u8], at: usize) -> usize
         scan_steps(bytes, at)
     };
     match read {
-        Ok(end) => {
-            if ends_by_step(bytes, end) {
-                bytes.len()
-            } else {
-                start_before(bytes, end)
-            }
-        }
+        Ok(end) if ends_by_step(bytes, end) => bytes.len(),
+        Ok(end) => start_before(bytes, end),
         Err(prefix) => prefix,
     }
 }
@@ -226,7 +221,6 @@ fn ends_closed(bytes: &[u8]) -> bool
 }
 
 /// Whether the first `at` bytes, if they are such a prefix of WTF-8, end with a high surrogate.
-#[tactic(auto, using(crate::proofs::lemmas::vectors::Windows::high_edges))]
 #[inline(always)]
 pub(crate) fn ends_with_high_surrogate(bytes: &[u8], at: usize) -> bool
     requires { at ≤ length bytes.now }
@@ -282,7 +276,6 @@ fn is_amid_ascii(bytes: &[u8], at: usize) -> bool
 }
 
 /// How many of the next 64 bytes keep to the pattern, up to the first that doesn't.
-#[tactic(auto, using(crate::proofs::lemmas::vectors::Windows::inside))]
 #[inline(always)]
 fn block_len(bytes: &[u8], at: usize, encoding: Encoding) -> usize
     requires from { 4 ≤ at }
@@ -315,7 +308,6 @@ fn scan_tail(bytes: &[u8], at: usize, encoding: Encoding) -> usize
 
 /// The last index before `end` at which a code point begins, if the bytes keep to the pattern up to
 /// `end`.
-#[tactic(auto, using(crate::proofs::lemmas::vectors::Windows::no_prefix))]
 #[inline(always)]
 fn start_before(bytes: &[u8], end: usize) -> usize
     requires { end ≤ length bytes.now }

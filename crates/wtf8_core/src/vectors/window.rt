@@ -1,11 +1,12 @@
 //! A few bytes with zeros around them, so that vectors read them whole.
+#![tactic(auto, using(crate::proofs::lemmas::vectors::Windows::copies))]
+
 ghost use Rattle.std.specs.Prelude.{◌≡◌, ◌+◌, ◌≤◌, ◌<◌, ℕ, length, slice_index};
 
 /// Copies the bytes into zeros, from index `from` on.
 ///
 /// Few bytes are copied by their two ends, which may overlap: vectors that read the copy at once wait
 /// for fewer stores than a call of `memcpy` makes.
-#[tactic(auto, using(crate::proofs::lemmas::vectors::Windows::all_copied))]
 #[inline(always)]
 pub fn put_in_zeros(bytes: &[u8], window: &mut [u8], from: usize)
     requires zeros { (i : ℕ) → slice_index window.old i ≡ 0 }
@@ -27,7 +28,6 @@ pub fn put_in_zeros(bytes: &[u8], window: &mut [u8], from: usize)
 }
 
 /// The same of N bytes or more, and at most twice as many.
-#[tactic(auto, using(crate::proofs::lemmas::vectors::Windows::copies))]
 #[inline(always)]
 fn put_ends<const N: usize>(bytes: &[u8], window: &mut [u8], from: usize)
     requires zeros { (i : ℕ) → slice_index window.old i ≡ 0 }

@@ -76,16 +76,12 @@ unfolding continuations
 continuations-cons zero x bs h = absurd (omega arith)
 continuations-cons (suc n) x bs h = rw sub-one refl
 
-pub ruleset counting = (no_continuations, continuations_of_none, continuations-cons)
-
 -- the same for the first item
 pub first-ascii : (h : Bool) (b : ℕ) (bs : List ℕ) → b < 0x80 → IsFirstItem h (b ∷ bs) (Ok b) bs
 first-ascii h b bs l = record { first = b; after = bs; is = refl; item_is = first_ascii h b bs l; rest_is = sym (ap (λ n. drop n bs) (after_ascii b bs l)) }
 
 pub first-code_point : (h : Bool) (b c : ℕ) (bs rest : List ℕ) → 0x80 ≤ b → first_item h b bs ≡ Ok c → rest ≡ drop (needed_continuations b) bs → IsFirstItem h (b ∷ bs) (Ok c) rest
 first-code_point h b c bs rest l e d = record { first = b; after = bs; is = refl; item_is = e; rest_is = d ∙ sym (ap (λ n. drop n bs) (after_code_point h b c bs l e)) }
-
-pub ruleset reading = (first-ascii, first-code_point, with_continuations-none)
 
 -- how bytes are split by their first
 pub split-ascii : (h : Bool) (b : ℕ) (bs : List ℕ) → b < 0x80 → first_split h (b ∷ bs) ≡ (Ok b, bs)
@@ -133,4 +129,4 @@ split_of_first h bs rest item i = grind (arith, nat_tests, common_steps)
 pub items_of_step : (h t : Bool) (bs rest : List ℕ) (item : Result ℕ EncodingError) → IsFirstItem h bs item rest → t ≡ is_high_item item → items_skipping 0 h bs ≡ item ∷ items_skipping 0 t rest
 items_of_step h t bs rest item i e = grind (arith, nat_tests, common_steps, items-split, split_of_first)
 
-pub ruleset items_of_first = (items_of_step, items-nil)
+pub ruleset reading = (no_continuations, continuations_of_none, continuations-cons, first-ascii, first-code_point, with_continuations-none, items_of_step, items-nil)

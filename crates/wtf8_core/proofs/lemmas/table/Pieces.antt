@@ -1,7 +1,7 @@
 -- Pieces, one after the other.
 use Rattle.wtf8_core.proofs.Common.{arith, nat_tests, common_steps, ◌≡◌, ◌≢◌, inl, inr, ⊎_elim, ℕ, ◌+◌, ◌<◌, Bool, true, false, List, [], ◌∷◌, ◌++◌, map, length, take, drop, get_or, take-append-drop, Option, None, Some, Ok, refl, sym, ap, ◌∙◌, subst, append_assoc, append-nil, All, All-from_recursion, IsByte, IsCodePoint, encode, IsWtf8, last_or, IsRefused, AreItems, items_after, items_from, class_at, next_at, Gives, Row, needed, SomeRow, IsOpen, rows, IsInState, IsFaulty, OnlyEnds, HasFirstFault, joined_bits, fault_at, Progress, progress, Describes, is_between, is_high, IsEncodedPrefix, EncodingError, Byte, CodePoint, End, Utf8, State, Between, AfterHigh, Refused, Class, cases_Bool}
 use Rattle.std.proofs.lemmas.List.{take_more}
-use Rattle.wtf8_core.proofs.lemmas.{forms.Appending.all_flat_map, forms.Shapes.form_bytes, reader.Complete.never_both, reader.Complete.one_fault, reader.Complete.items_of_encoded, reader.Complete.after_zero, reader.FirstErr.items_all_ok, reader.Reading.items-nil, reader.Reading.within-end, reader.Sound.items_of_bytes, table.Steps.items_now, table.Steps.gives_more, table.Steps.first_fault, table.Steps.goes}
+use Rattle.wtf8_core.proofs.lemmas.{forms.Appending.all_flat_map, table.Entries.at_index, forms.Shapes.form_bytes, reader.Complete.never_both, reader.Complete.one_fault, reader.Complete.items_of_encoded, reader.Complete.after_zero, reader.FirstErr.items_all_ok, reader.Reading.items-nil, reader.Reading.within-end, reader.Sound.items_of_bytes, table.Steps.items_now, table.Steps.gives_more, table.Steps.first_fault, table.Steps.goes}
 use Rattle.wtf8_core.specs.declared.vectors.Encoding.TheVariants.{Wtf8}
 
 refused_extends : (last : ℕ) (refused rest p : List ℕ) (f : EncodingError) → f ≢ End → IsRefused last refused rest f → IsRefused last refused (rest ++ p) f
@@ -100,10 +100,4 @@ prefix_read b piece at f g =
 pub open_progress : (s : State) (bits : ℕ) (f : Option EncodingError) (p : Progress) (b : List ℕ) → progress s bits f ≡ p → f ≡ None → Describes p b → IsInState s bits b
 open_progress s bits f p b e n h = subst (λ z. Describes (progress s bits z) b) n (subst (λ z. Describes z b) (sym e) h)
 
-pub faulted_progress : (s : State) (bits : ℕ) (f : Option EncodingError) (p : Progress) (b : List ℕ) (e : EncodingError) → progress s bits f ≡ p → f ≡ Some e → Describes p b → IsFaulty b e
-faulted_progress s bits f p b e q n h = subst (λ z. Describes (progress s bits z) b) n (subst (λ z. Describes z b) (sym q) h)
-
-pub faulted_stays : (s : State) (bits : ℕ) (f : Option EncodingError) (p : Progress) (b more : List ℕ) (e : EncodingError) → progress s bits f ≡ p → f ≡ Some e → Describes p b → Describes p (b ++ more)
-faulted_stays s bits f p b more e q n h = grind (arith, nat_tests, common_steps, extends, faulted_progress)
-
-pub ruleset finished = (whole, ends, open_progress)
+pub ruleset pieces = (whole, ends, open_progress, read_on, at_index)

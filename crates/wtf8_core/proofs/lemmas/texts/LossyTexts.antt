@@ -1,11 +1,18 @@
 -- One fault, and lossy texts.
-use Rattle.wtf8_core.proofs.Common.{◌≡◌, inl, inr, ⊎_elim, ℕ, ◌+◌, ◌<◌, ◌≤◌, true, false, List, [], ◌∷◌, ◌++◌, length, take, drop, map, Option, Some, None, refl, sym, ap, ◌∙◌, subst, arith, take-append-drop, MatchOption, unwrap_or, flat_map, IsUtf8, IsValidUpTo, all_scalars, utf8_lossy, utf8_error_len, utf8_invalid_len, take-length, cases_lt, cases_Bool, and_parts, cond-true, cond-false, map-append, flat_map-append, utf8_lossy_step, utf8_lossy-IsUtf8, utf8_valid_len-IsValidUpTo, is_surrogate, encode, Encodes, IsWtf8, IsProperPrefix, IsIllFormed, IsUtf8Fault, IsIllFormedPart, wtf8_lossy, replacement, IsLossyText, without_surrogate, scalar, ◌-◌, take-add, length-drop, take-take, drop-drop, drop-take, IsUtf8-append}
+use Rattle.wtf8_core.proofs.Common.{◌≡◌, inl, inr, ⊎_elim, ℕ, ◌+◌, ◌<◌, ◌≤◌, true, false, List, [], ◌∷◌, ◌++◌, length, take, drop, map, Option, Some, None, refl, sym, ap, ◌∙◌, subst, arith, take-append-drop, MatchOption, unwrap_or, flat_map, IsUtf8, IsValidUpTo, all_scalars, utf8_lossy, utf8_error_len, utf8_invalid_len, take-length, cases_lt, cases_Bool, and_parts, cond-true, cond-false, map-append, flat_map-append, utf8_lossy_step, utf8_lossy-IsUtf8, utf8_valid_len-IsValidUpTo, is_surrogate, encode, Encodes, IsWtf8, IsProperPrefix, IsIllFormed, IsUtf8Fault, IsIllFormedPart, wtf8_lossy, replacement, IsLossyText, without_surrogate, scalar, ◌-◌, take-add, length-drop, take-take, drop-drop, drop-take, IsUtf8-append, Bool, not, ◌↔◌, IsTrue}
+use Rattle.std.specs.Prelude.{is_some}
 use Rattle.wtf8_core.specs.Lossy.IsLossyText.{text, replaced}
-use Rattle.wtf8_core.proofs.lemmas.{characters.AtIndices.NoChar, characters.AtIndices.none_at, characters.AtIndices.scalar_no_surrogate, forms.ByStd.forms_encode, forms.ByStd.forms_prefix, forms.Cuts.encodes_parts, forms.Cuts.utf8_after, forms.Ranges.in_range, units.AsFunction.code_points_in-encoded, chunks.PartUnits.begins_surrogate, texts.StdFaults.fault_is}
+use Rattle.wtf8_core.proofs.lemmas.{characters.AtIndices.NoChar, characters.AtIndices.none_at, characters.AtIndices.scalar_no_surrogate, forms.ByStd.forms_encode, forms.ByStd.forms_prefix, forms.Cuts.encodes_parts, forms.Cuts.utf8_after, forms.Ranges.in_range, units.AsFunction.code_points_in-encoded, units.PrefixTests.never, chunks.PartUnits.begins_surrogate, texts.StdFaults.fault_is}
 
 -- bytes with a fault are no text
 pub no_text : (b : List ℕ) (n : ℕ) → IsValidUpTo b n → IsUtf8 b → ⊥
 no_text b n v u = v.longest (length b) v.short (subst IsUtf8 (sym (take-length b)) u)
+
+-- an answer is none exactly for a text
+pub none_exactly : (b : List ℕ) (r : Option (ℕ × Option ℕ)) (none : Bool) → MatchOption r (IsUtf8 b) (λ f. IsUtf8Fault b f.0 f.1) → is_some r ≡ not none → IsTrue none ↔ IsUtf8 b
+none_exactly b None true h e = (λ _. h, λ _. refl)
+none_exactly b (Some f) false h e = never _ (no_text b f.0 h.valid)
+none_exactly b r none h e = cc
 
 -- bytes have one longest prefix that is UTF-8
 pub one_valid : (b : List ℕ) (n m : ℕ) → IsValidUpTo b n → IsValidUpTo b m → n ≡ m

@@ -42,10 +42,8 @@ prefix_is_utf8 encoding bytes n e f = (f.code_points, (all_scalars f.code_points
 pub text_of_prefix : (bytes : List ℕ) (n : ℕ) → IsEncodedPrefix Utf8 bytes n → IsUtf8 (take n bytes)
 text_of_prefix bytes n f = prefix_is_utf8 Utf8 bytes n refl f
 
-pub whole_text : (bytes : List ℕ) (n : ℕ) → n ≡ length bytes → IsEncodedPrefix Utf8 bytes n → IsUtf8 bytes
-whole_text bytes n e f = subst IsUtf8 (take_all n bytes (omega (arith, e))) (text_of_prefix bytes n f)
-
-pub ruleset texts = (text_of_prefix, whole_text, text_keeps, no_pattern)
+pub whole_text : (bytes : List ℕ) → IsEncodedPrefix Utf8 bytes (length bytes) → IsUtf8 bytes
+whole_text bytes f = subst IsUtf8 (take-length bytes) (text_of_prefix bytes (length bytes) f)
 
 -- bytes from index m on, with the four before them
 four_before : (a b c d : ℕ) (l : List ℕ) (m : ℕ) → m ≤ length l
@@ -202,8 +200,6 @@ module _ (encoding : Encoding) (bytes : List ℕ) where
             zero_follows encoding _ _ _ _ _ (record { fourth = omega (arith, x, closed.fourth); third = omega (arith, y, closed.third); second = omega (arith, z, closed.second) }) b) (cases_lt i (length bytes - k.from));
       }
 
-pub ruleset ends = (past_end, ascii_to_end)
-
 -- ASCII at the start is a text
 pub ascii_is_utf8 : (bytes : List ℕ) (n : ℕ) → ((i : ℕ) → i < n → get_or bytes i 0 < 0x80) → n ≤ length bytes → IsUtf8 (take n bytes)
 ascii_is_utf8 bytes n low h =
@@ -327,12 +323,14 @@ module _ (bytes : List ℕ) (at : ℕ) (f : IsEncodedPrefix Wtf8 bytes at) where
   pub by_second : 3 ≤ at → get_or bytes (at - 3) 0 ≡ 0xED → is_in_range 0xA0 0xAF (get_or bytes (at - 2) 0) ≡ is_high (last_or 0 f.code_points)
   by_second l e = ap (λ y. is_in_range 0xA0 0xAF y) (sym (second_before l)) ∙ edge_high _ _ _ _ edge (third_before l ∙ e)
 
-pub ruleset high_edges = (near_start, other_lead, by_second)
+pub ruleset texts = (text_of_prefix, whole_text, text_keeps, no_pattern)
 
-pub ruleset copies = (ends_copied, take_rest)
+pub ruleset scanning = (no_pattern, no_prefix, more_inside, take_rest, near_start, other_lead, by_second)
 
-pub ruleset inside = (more_inside, take_rest)
+pub ruleset ends = (past_end, ascii_to_end)
 
 pub ruleset first_ascii = (no_prefix, prefix_keeps, more_ascii)
+
+pub ruleset copies = (ends_copied, all_copied, take_rest)
 
 pub ruleset whole_prefixes = (text_prefix, take-length)
