@@ -51,6 +51,7 @@ impl<'a> DecodeWide<'a> {
     /// assert_eq!(rt; bytes.next(), Some(0xA9));
     /// assert_eq!(rt; bytes.next(), None);
     /// ```
+    #[tactic(auto, using(crate::proofs::lemmas::units::OneToOne::decoded))]
     #[inline(always)]
     pub fn new(units: &'a [u16]) -> DecodeWide<'a>
         ensures { HasUnits result units.now }

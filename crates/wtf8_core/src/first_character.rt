@@ -132,6 +132,7 @@ pub(crate) fn first_char_len(bytes: &[u8]) -> Option<usize>
 /// (`Err`), by the first four bytes; `None` if there are fewer.
 ///
 /// A length needs no code point, and by ranges of bytes it is found faster.
+#[tactic(auto, using(crate::proofs::lemmas::characters::Lengths::lengths))]
 #[inline(always)]
 pub(crate) fn len_or_fault(bytes: &[u8]) -> Option<Result<usize, u8>>
     ensures { IfSome result (BeginsWith bytes.now) }

@@ -148,6 +148,7 @@ fn begins_with_unit(string: &[u8], unit: u16) -> bool
 }
 
 /// The low surrogate of the pair with which a string ends.
+#[tactic(auto, using(std::proofs::lemmas::Bool::Decides::nat_tests, crate::proofs::lemmas::units::FirstAndLast::no_past_form, crate::proofs::lemmas::units::FirstAndLast::half_of))]
 fn last_half(string: &[u8]) -> Option<u16>
     requires { IsWtf8 string.now }
     ensures { MatchOption result

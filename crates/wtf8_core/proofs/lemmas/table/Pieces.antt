@@ -1,5 +1,5 @@
 -- Pieces, one after the other.
-use Rattle.wtf8_core.proofs.Common.{arith, nat_tests, common_steps, ◌≡◌, ◌≢◌, inl, inr, ⊎_elim, ℕ, ◌+◌, ◌<◌, Bool, true, false, List, [], ◌∷◌, ◌++◌, map, length, take, drop, get_or, take-append-drop, Option, None, Some, Ok, refl, sym, ap, ◌∙◌, subst, append_assoc, append-nil, All, All-from_recursion, IsByte, IsCodePoint, encode, IsWtf8, last_or, IsRefused, AreItems, items_after, items_from, class_at, next_at, Gives, Row, needed, SomeRow, IsOpen, rows, IsInState, IsFaulty, OnlyEnds, HasFirstFault, joined_bits, fault_at, Progress, progress, Describes, is_between, is_high, IsEncodedPrefix, EncodingError, Byte, CodePoint, End, Utf8, State, Between, AfterHigh, Refused, Class, cases_Bool}
+use Rattle.wtf8_core.proofs.Common.{◌≡◌, ◌≢◌, inl, inr, ⊎_elim, ℕ, ◌+◌, ◌<◌, Bool, true, false, List, [], ◌∷◌, ◌++◌, map, length, take, drop, get_or, take-append-drop, Option, None, Ok, refl, sym, ap, ◌∙◌, subst, append_assoc, append-nil, All, All-from_recursion, IsByte, IsCodePoint, encode, IsWtf8, last_or, IsRefused, AreItems, items_after, items_from, class_at, next_at, Gives, Row, needed, SomeRow, IsOpen, rows, IsInState, IsFaulty, OnlyEnds, HasFirstFault, joined_bits, fault_at, Progress, progress, Describes, is_between, is_high, IsEncodedPrefix, EncodingError, Byte, CodePoint, End, Utf8, State, Between, AfterHigh, Refused, Class, cases_Bool}
 use Rattle.std.proofs.lemmas.List.{take_more}
 use Rattle.wtf8_core.proofs.lemmas.{forms.Appending.all_flat_map, table.Entries.at_index, forms.Shapes.form_bytes, reader.Complete.never_both, reader.Complete.one_fault, reader.Complete.items_of_encoded, reader.Complete.after_zero, reader.FirstErr.items_all_ok, reader.Reading.items-nil, reader.Reading.within-end, reader.Sound.items_of_bytes, table.Steps.items_now, table.Steps.gives_more, table.Steps.first_fault, table.Steps.goes}
 use Rattle.wtf8_core.specs.declared.vectors.Encoding.TheVariants.{Wtf8}
