@@ -1,8 +1,8 @@
 //! The cuts of a string at one index.
-ghost use Rattle.std.specs.Prelude.{IfOk, length, drop};
+ghost use Rattle.std.specs.Prelude.{IfOk, drop};
 ghost use Rattle.wtf8_core.specs.Boundary.{IsBoundary};
 ghost use Rattle.os_str_bytes.specs.Raw.{raw_bytes, raw_vec_of};
-ghost use Rattle.os_str_bytes.specs.Cuts.{AreBothParts, IsPart};
+ghost use Rattle.os_str_bytes.specs.Cuts.{AreBothParts};
 
 use crate::raw_str::RawOsStr;
 use crate::raw_string::RawOsString;
@@ -21,41 +21,6 @@ pub struct Cuts<'a, E: Platform + 'a, A: Allocator> {
     pub split_off: Result<(RawOsString<E, A>, RawOsString<E, A>), AllocError>,
     /// What is left of a copy of the string.
     pub truncate: Result<RawOsString<E, A>, AllocError>,
-}
-
-/// Calls `split_at`.
-pub(crate) fn both_parts<'a, E: Platform>(
-    string: RawOsStr<'a, E>,
-    at: usize,
-) -> (RawOsStr<'a, E>, RawOsStr<'a, E>)
-    requires { IsBoundary (raw_bytes string) at }
-    ensures { AreBothParts string.entry at (raw_bytes result.0) (raw_bytes result.1) }
-{
-    string.split_at(at)
-}
-
-/// Calls `index` with the ranges before an index and from it on.
-pub(crate) fn indexed<'a, E: Platform>(
-    string: RawOsStr<'a, E>,
-    at: usize,
-) -> (RawOsStr<'a, E>, RawOsStr<'a, E>)
-    requires { IsBoundary (raw_bytes string) at }
-    ensures prefix { IsPart string.entry 0 at (raw_bytes result.0) }
-    ensures suffix { IsPart string.entry at (length (raw_bytes string.entry)) (raw_bytes result.1) }
-{
-    (string.index(..at), string.index(at..))
-}
-
-/// Calls `get_unchecked` with the same ranges.
-pub(crate) fn indexed_unchecked<'a, E: Platform>(
-    string: RawOsStr<'a, E>,
-    at: usize,
-) -> (RawOsStr<'a, E>, RawOsStr<'a, E>)
-    requires { IsBoundary (raw_bytes string) at }
-    ensures prefix { IsPart string.entry 0 at (raw_bytes result.0) }
-    ensures suffix { IsPart string.entry at (length (raw_bytes string.entry)) (raw_bytes result.1) }
-{
-    (string.get_unchecked(..at), string.get_unchecked(at..))
 }
 
 /// Calls `split_off` on a copy: what is left of the copy, and what was split off it.

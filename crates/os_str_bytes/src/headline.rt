@@ -13,7 +13,7 @@ ghost use Rattle.os_str_bytes.specs.RawCow.{raw_cow_bytes};
 ghost use Rattle.os_str_bytes.specs.Headline.{AreOneToOne, AcceptsOrRefuses, CutsAt, SplitsUnlessEmpty};
 
 pub use crate::cuts::Cuts;
-use crate::cuts::{both_parts, indexed, indexed_unchecked, split_copy, truncated_copy};
+use crate::cuts::{split_copy, truncated_copy};
 use crate::iter::{RawRSplit, RawSplit};
 use crate::raw_cow::CowRawOsStr;
 use crate::raw_str::RawOsStr;
@@ -320,9 +320,9 @@ fn cuts<'a, E: Platform, A: Allocator>(
         return None;
     }
     Some(Cuts {
-        split_at: both_parts(string, at),
-        index: indexed(string, at),
-        get_unchecked: indexed_unchecked(string, at),
+        split_at: string.split_at(at),
+        index: (string.index(..at), string.index(at..)),
+        get_unchecked: (string.get_unchecked(..at), string.get_unchecked(at..)),
         split_off: split_copy(alloc, string, at),
         truncate: truncated_copy(alloc, string, at),
     })

@@ -333,10 +333,8 @@ impl<'a, E: Platform> RawOsStr<'a, E> {
         ensures units { SplitsOnce IsFirstIndex raw_units (E.units (P.text pattern))
             (raw_units self.entry) result }
     {
-        match self.string.split_once(pattern) {
-            Some((prefix, suffix)) => Some((RawOsStr::new(prefix), RawOsStr::new(suffix))),
-            None => None,
-        }
+        let (prefix, suffix) = self.string.split_once(pattern)?;
+        Some((RawOsStr { string: prefix }, RawOsStr { string: suffix }))
     }
 
     /// The parts before and after the last occurrence of the pattern, or `None` if it doesn't
@@ -355,10 +353,8 @@ impl<'a, E: Platform> RawOsStr<'a, E> {
         ensures units { SplitsOnce IsLastIndex raw_units (E.units (P.text pattern))
             (raw_units self.entry) result }
     {
-        match self.string.rsplit_once(pattern) {
-            Some((prefix, suffix)) => Some((RawOsStr::new(prefix), RawOsStr::new(suffix))),
-            None => None,
-        }
+        let (prefix, suffix) = self.string.rsplit_once(pattern)?;
+        Some((RawOsStr { string: prefix }, RawOsStr { string: suffix }))
     }
 
     /// The pieces between occurrences of the pattern, each cut at the first one in what is left.

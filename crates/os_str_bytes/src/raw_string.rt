@@ -430,10 +430,9 @@ impl<E: Platform, A: Allocator> RawOsString<E, A> {
         ensures cases { MatchResult result (λ _. IsUtf8 (raw_vec_of self).items)
             (λ _. ¬ (IsUtf8 (raw_vec_of self).items)) }
     {
-        match self.into_os_string().into_string() {
-            Ok(text) => Ok(text),
-            Err(string) => Err(RawOsString::new(string)),
-        }
+        self.into_os_string()
+            .into_string()
+            .map_err(RawOsString::new)
     }
 
     /// Whether the string equals this text (own call; `==` between the types in the Rust crate).
