@@ -79,15 +79,6 @@ fn goes_on_in_ascii(units: &[u16]) -> bool
             == 0
 }
 
-/// The bytes of 16 ASCII units.
-#[inline(always)]
-fn narrowed(block: [u16; 16]) -> [u8; 16]
-    requires { All (λ u. u < 0x80) block }
-    ensures { result ≡ block }
-{
-    u16x16::from_array(block).cast::<u8>().to_array()
-}
-
 /// Writes 16 ASCII units from index `at` on.
 #[inline(always)]
 fn put_ascii(bytes: &mut [u8], at: usize, block: [u16; 16])
@@ -96,7 +87,9 @@ fn put_ascii(bytes: &mut [u8], at: usize, block: [u16; 16])
     ensures written { take (at + 16) bytes.new ≡ take at bytes.old ++ block }
     ensures len { length bytes.new ≡ length bytes.old }
 {
-    u8x16::from_array(narrowed(block)).copy_to_slice(&mut bytes[at..]);
+    u16x16::from_array(block)
+        .cast::<u8>()
+        .copy_to_slice(&mut bytes[at..]);
 }
 
 /// The bytes that each of 16 units after the first gives, as a word: the first byte in its lowest
@@ -212,14 +205,16 @@ fn unit_or_zero(units: &[u16], at: usize) -> u16
     if at < units.len() { units[at] } else { 0 }
 }
 
-/// Writes what the units after the first give from index `at` on.
-fn write_after_first(bytes: &mut [u8], at: usize, units: &[u16])
-    requires some { 0 < length units.now }
-    requires room { at + length (bytes_after_first units.now) ≡ length bytes.old }
-    ensures { bytes.new ≡ take at bytes.old ++ bytes_after_first units.now }
+/// Writes the bytes of units over others of the same number.
+pub(crate) fn write_wtf8(units: &[u16], bytes: &mut [u8])
+    requires { (string : List ℕ) → HasUnits string units.now → length bytes.old ≡ length string }
+    ensures { HasUnits bytes.new units.now }
 {
+    if units.is_empty() {
+        return;
+    }
+    let mut end = put_unit(bytes, 0, 0, units[0], unit_or_zero(units, 1));
     let mut rest = units;
-    let mut end = at;
     while rest.len() > 1 {
         if goes_on_in_ascii(rest) {
             put_ascii(bytes, end, u16x16::from_slice(&rest[1..]).to_array());
@@ -233,18 +228,6 @@ fn write_after_first(bytes: &mut [u8], at: usize, units: &[u16])
             rest = rest.split_at(1).1;
         }
     }
-}
-
-/// Writes the bytes of units over others of the same number.
-pub(crate) fn write_wtf8(units: &[u16], bytes: &mut [u8])
-    requires { (string : List ℕ) → HasUnits string units.now → length bytes.old ≡ length string }
-    ensures { HasUnits bytes.new units.now }
-{
-    if units.is_empty() {
-        return;
-    }
-    let at = put_unit(bytes, 0, 0, units[0], unit_or_zero(units, 1));
-    write_after_first(bytes, at, units);
 }
 
 /// Writes the first bytes of units over others of the same number.

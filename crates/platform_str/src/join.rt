@@ -1,6 +1,5 @@
-//! Joining strings: appending bytes, and Windows strings.
-ghost use Rattle.std.specs.Prelude.{◌≡◌, ◌++◌, ◌+◌, ◌<◌, ◌≤◌, take, drop, length, OnOk, OnErr, vec_capacity, vec_len};
-ghost use Rattle.wtf8_core.specs.CodePoint.{IsCodePoint, encode};
+//! Joining Windows strings.
+ghost use Rattle.std.specs.Prelude.{◌≡◌, ◌++◌, ◌+◌, ◌<◌, length, OnOk, OnErr, vec_capacity, vec_len};
 ghost use Rattle.wtf8_core.specs.Wtf8.{IsWtf8};
 ghost use Rattle.wtf8_core.specs.UnitsOf.{units_of};
 
@@ -25,31 +24,11 @@ pub(crate) fn push_wtf8<A: Allocator>(
 {
     let bytes = string.as_slice();
     let Some(pair) = pair_between(bytes, more) else {
-        return append(string, more);
+        return string.extend_from_slice(more);
     };
     let at = bytes.len() - 3;
     let (_, after) = more.split_at(2);
-    append(string, after)?;
-    write_form_at(string, at, pair);
+    string.extend_from_slice(after)?;
+    write_form(string.as_mut_slice(), at, pair);
     Ok(())
-}
-
-/// Appends bytes to others.
-pub(crate) fn append<A: Allocator>(bytes: &mut Vec<u8, A>, more: &[u8]) -> Result<(), AllocError>
-    ensures ok { OnOk result (bytes.new.items ≡ bytes.old.items ++ more.now) }
-    ensures err { OnErr result (bytes.new.items ≡ bytes.old.items) }
-    ensures full { OnErr result (vec_capacity bytes.old < vec_len bytes.old + length more.now) }
-{
-    bytes.extend_from_slice(more)
-}
-
-/// Writes the form of a code point past FFFF (hexadecimal) over the four bytes from index `at` on.
-fn write_form_at<A: Allocator>(bytes: &mut Vec<u8, A>, at: usize, c: u32)
-    requires room { at + 4 ≤ length bytes.old.items }
-    requires past { 0x1_0000 ≤ c }
-    requires code_point { IsCodePoint c }
-    ensures { bytes.new.items
-        ≡ take at bytes.old.items ++ (encode c ++ drop (at + 4) bytes.old.items) }
-{
-    write_form(bytes.as_mut_slice(), at, c);
 }

@@ -153,29 +153,6 @@ fn push_chosen<A: Allocator>(
     Ok(())
 }
 
-/// Appends what up to 16 bytes after the first add, where fewer than 19 are left.
-#[inline(always)]
-fn push_end<A: Allocator>(
-    units: &mut Vec<u16, A>,
-    bytes: &[u8],
-    count: usize,
-    pairs: &mut bool,
-) -> Result<(), AllocError>
-    requires few { length bytes.now ≤ 19 }
-    requires count { count ≤ 16 }
-    requires within { count < length bytes.now }
-    ensures ok { OnOk result (units.new.items ++ units_after_first (drop count bytes.now)
-        ≡ units.old.items ++ units_after_first bytes.now) }
-    ensures room { vec_len units.old + count ≤ vec_capacity units.old → IsOk result }
-    ensures capacity { vec_capacity units.old ≤ vec_capacity units.new }
-    ensures len { vec_len units.new ≤ vec_len units.old + count }
-{
-    let window = padded(bytes);
-    let lanes = unit_lanes(&window, pairs);
-    let marks = unit_marks(&window);
-    push_chosen(units, &lanes[..count], &marks[..count])
-}
-
 /// Appends what the next bytes after the first add: 16, or up to 16 where fewer than 19 are left. It
 /// is kept out of the loop over ASCII, which is faster without it.
 #[inline(never)]
@@ -197,7 +174,10 @@ fn push_next<A: Allocator>(
     if bytes.len() >= 19 {
         return push_chosen(units, &unit_lanes(bytes, pairs), &unit_marks(bytes));
     }
-    push_end(units, bytes, count, pairs)
+    let window = padded(bytes);
+    let lanes = unit_lanes(&window, pairs);
+    let marks = unit_marks(&window);
+    push_chosen(units, &lanes[..count], &marks[..count])
 }
 
 /// The byte at an index, or 0 if there is none.

@@ -6,7 +6,6 @@ ghost use Rattle.wtf8_core.specs.Utf8.{IsIllFormedPart};
 ghost use Rattle.platform_str.specs.PlatformWords.{itself};
 ghost use Rattle.platform_str.specs.platforms.Unix.{IsNoFault, AreAboveAscii, IsSame, bytes_prop, unix_laws, unix_parts, unix_readings, unix_occurrence};
 
-use crate::join::append;
 use crate::platform::{Platform, Unix};
 use std::alloc::{AllocError, Allocator, Global};
 use wtf8_core::{EncodingError, utf8_fault};
@@ -93,7 +92,7 @@ impl Platform for Unix {
     }
 
     fn push_bytes<A: Allocator>(string: &mut Vec<u8, A>, more: &[u8]) -> Result<(), AllocError> {
-        append(string, more)
+        string.extend_from_slice(more)
     }
 
     fn read_lossy<A: Allocator>(alloc: A, bytes: &[u8]) -> Result<Vec<u8, A>, AllocError> {

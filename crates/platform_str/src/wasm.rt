@@ -5,7 +5,6 @@ ghost use Rattle.platform_str.specs.PlatformWords.{itself, IsThree};
 ghost use Rattle.platform_str.specs.platforms.Wasm.{IsTextFault, AreNone, wasm_laws, wasm_parts, wasm_readings, wasm_occurrence};
 ghost use Rattle.wtf8_core.specs.Lossy.{IsLossyText};
 
-use crate::join::append;
 use crate::lossy;
 use crate::platform::{Platform, Unix, Wasm};
 use std::alloc::{AllocError, Allocator, Global};
@@ -91,7 +90,7 @@ impl Platform for Wasm {
     }
 
     fn push_bytes<A: Allocator>(string: &mut Vec<u8, A>, more: &[u8]) -> Result<(), AllocError> {
-        append(string, more)
+        string.extend_from_slice(more)
     }
 
     fn read_lossy<A: Allocator>(alloc: A, bytes: &[u8]) -> Result<Vec<u8, A>, AllocError> {

@@ -13,8 +13,9 @@ ghost use Rattle.wtf8_core.specs.LossyReading.{IsLossyReading};
 use crate::join::push_wtf8;
 use crate::platform::{Platform, Windows};
 use crate::reading::read_wtf8;
+use crate::to_wide;
 use std::alloc::{AllocError, Allocator, Global};
-use wtf8_core::{Checker, EncodingError, encode_wide, is_utf8, surrogate_fault};
+use wtf8_core::{Checker, EncodingError, is_utf8, surrogate_fault};
 
 /// A borrowed string of Windows.
 pub type OsStr<'a> = crate::OsStr<'a, Windows>;
@@ -86,11 +87,7 @@ impl Platform for Windows {
     }
 
     fn first_unit(bytes: &[u8]) -> (u16, usize) {
-        match encode_wide(bytes).next() {
-            Some(Ok(unit)) => (unit, SURROGATE_LEN),
-            Some(Err(_)) => unreachable!(),
-            None => unreachable!(),
-        }
+        (to_wide::first_unit(bytes), SURROGATE_LEN)
     }
 
     fn starts_with_os(string: &[u8], prefix: &[u8]) -> bool {

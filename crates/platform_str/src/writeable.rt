@@ -1,5 +1,5 @@
 //! Texts that are written piece by piece, filled to the width of a formatter.
-ghost use Rattle.std.specs.Prelude.{◌≡◌, ◌-◌, ◌≤◌, ℕ, List, length, IfOk};
+ghost use Rattle.std.specs.Prelude.{◌≡◌, ◌-◌, ◌≤◌, ℕ, List, IfOk};
 ghost use Rattle.std.specs.Char.{encode_utf8};
 ghost use Rattle.std.specs.List.{repeat};
 ghost use Rattle.std.specs.Fmt.{WritesOnOk, WritesStyledOnOk, char_count, formatter_spec, is_char_start, spec_align, spec_fill, spec_width};
@@ -98,7 +98,13 @@ impl fmt::Write for Shortfall {
     ghost write_str_gives = { λ before text after. after.left ≡ before.left - char_count text };
 
     fn write_str(&mut self, text: &str) -> fmt::Result {
-        self.left = self.left.saturating_sub(chars(text.as_bytes()));
+        let mut rest = text.as_bytes();
+        while let Some((first, after)) = rest.split_first() {
+            if is_char_start(*first) {
+                self.left = self.left.saturating_sub(1);
+            }
+            rest = after;
+        }
         Ok(())
     }
 }
@@ -124,22 +130,6 @@ fn write_fill<W: fmt::Write>(count: usize, f: &mut fmt::Formatter<W>) -> fmt::Re
     let mut buffer = [0; 4];
     let fill = f.fill().encode_utf8(&mut buffer);
     f.write_repeated(fill, count)
-}
-
-/// The number of characters of a text.
-fn chars(text: &[u8]) -> usize
-    ensures value { result ≡ char_count text.now }
-    ensures few { result ≤ length text.now }
-{
-    let mut count = 0;
-    let mut rest = text;
-    while let Some((first, after)) = rest.split_first() {
-        if is_char_start(*first) {
-            count += 1;
-        }
-        rest = after;
-    }
-    count
 }
 
 /// Whether a byte of a text begins a character.

@@ -1,5 +1,5 @@
 -- Characters of lossy texts, and texts that are filled.
-use Rattle.std.proofs.Common.{◌≡◌, ℕ, ◌+◌, ◌-◌, ◌≤◌, List, [], ◌∷◌, ◌++◌, length, cond, Option, Some, refl, sym, ap, ◌∙◌, arith, append_assoc, unwrap_or}
+use Rattle.std.proofs.Common.{◌≡◌, ℕ, ◌+◌, ◌-◌, List, [], ◌∷◌, ◌++◌, length, cond, Option, Some, refl, sym, ap, ◌∙◌, arith, append_assoc, unwrap_or}
 use Rattle.std.specs.{Char.encode_utf8, List.repeat, Fmt.is_char_start, Fmt.char_count, List.FoldsTo, List.concat}
 use Rattle.std.specs.declared.fmt.Alignment.{Alignment}
 use Rattle.platform_str.specs.{Lossy.IsFirstText, Display.fill_before, Display.filled}
@@ -15,18 +15,12 @@ count_more : (x : ℕ) (text : List ℕ) → char_count (x ∷ text) ≡ cond (i
 unfolding char_count
 count_more x text = refl
 
--- one more byte is counted, or isn't
-pub counted : (count n : ℕ) (all rest after : List ℕ) (x : ℕ) → rest ≡ x ∷ after → n ≡ count + cond (is_char_start x) 1 0 → n ≤ count + 1
-    → (count + char_count rest ≡ char_count all) × (count + length rest ≤ length all) → (n + char_count after ≡ char_count all) × (n + length after ≤ length all)
-counted count n all rest after x e k m i =
-    let c = ap char_count e ∙ count_more x after in
-    let l = ap length e in
-    let total = i.0 in
-    let room = i.1 in
-    (omega arith, omega arith)
+-- one more byte begins a character, or doesn't
+pub counted : (left n all x : ℕ) (rest after : List ℕ) → rest ≡ x ∷ after → n ≡ left - cond (is_char_start x) 1 0 → left - char_count rest ≡ all → n - char_count after ≡ all
+counted left n all x rest after e k i = let first = ap char_count e ∙ count_more x after in omega (arith, first, k, i)
 
-pub all_counted : (count : ℕ) (all rest : List ℕ) → length rest ≡ 0 → count + char_count rest ≡ char_count all → count ≡ char_count all
-all_counted count all rest e i = let c = count_none rest e in omega arith
+pub none_counted : (left all : ℕ) (rest : List ℕ) → length rest ≡ 0 → left - char_count rest ≡ all → left ≡ all
+none_counted left all rest e i = let none = count_none rest e in omega (arith, none, i)
 
 pub count_append : (a b : List ℕ) → char_count (a ++ b) ≡ char_count a + char_count b
 unfolding char_count

@@ -81,9 +81,9 @@ pub has_none : (us : List ℕ) → us ≡ [] → HasUnits [] us
 has_none us e = subst (HasUnits []) (sym e) (string_given [] tt)
 
 -- the first unit gives its part
-pub first_gives : (us : List ℕ) → 0 < length us → bytes_after_first (0 ∷ us) ≡ bytes_by_neighbours 0 (get_or us 0 0) (get_or us 1 0) ++ bytes_after_first us
-first_gives [] h = absurd (omega (arith, h))
-first_gives (u ∷ us) h = refl
+pub first_gives : (us : List ℕ) (v : ℕ) → 0 < length us → v ≡ get_or us 1 0 → bytes_after_first (0 ∷ us) ≡ bytes_by_neighbours 0 (get_or us 0 0) v ++ bytes_after_first us
+first_gives [] v h e = absurd (omega (arith, h))
+first_gives (u ∷ us) v h e = ap (λ after. bytes_by_neighbours 0 u after ++ bytes_after_first (u ∷ us)) (sym e)
 
 -- nothing comes after one unit
 pub none_after : (w : List ℕ) → length w ≤ 1 → bytes_after_first w ≡ []

@@ -1,30 +1,50 @@
-use Rattle.platform_str.proofs.Common.{rules, ◌++◌, length, length-append, slice_index, ap, sym, subst, ◌∙◌, arith, HasUnits}
+use Rattle.platform_str.proofs.Common.{rules, ◌++◌, ◌<◌, [], length, length-append, length-take-le, length-drop, take, drop, slice_index, ap, ◌∙◌, sym, subst, arith, take_all, append-nil, recursion_from_All, HasUnits}
 use Rattle.platform_str.specs.FromWide.{bytes_by_neighbours, bytes_after_first}
-use Rattle.platform_str.proofs.lemmas.FromWide.{are_units, string_given, first_gives}
+use Rattle.platform_str.proofs.lemmas.{ToWide.appended, FromWide.are_units, FromWide.string_given, FromWide.first_gives, FromWide.block_ascii, FromWide.none_after}
 use Rattle.platform_str.proofs.from_wide.write_wtf8.Goals as goal
 
-pub put_unit-at-requires : goal.put_unit-at-requires
-put_unit-at-requires c =
+pub put_unit-end-requires : goal.put_unit-end-requires
+put_unit-end-requires c =
     let us = c.args.units.now in
-    let gives = first_gives us (search rules) ∙ ap (λ v. bytes_by_neighbours 0 (slice_index us 0) v ++ bytes_after_first us) (sym c.unit_or_zero.ensures) in
+    let gives = first_gives us c.unit_or_zero.result (search rules) c.unit_or_zero.ensures in
     omega (arith, c.requires _ (string_given us (are_units us c.type_inv.units)), ap length gives, length-append (bytes_by_neighbours 0 (slice_index us 0) c.unit_or_zero.result) (bytes_after_first us))
 
-pub write_after_first-requires-clause-room : goal.write_after_first-requires-clause-room
-write_after_first-requires-clause-room c =
+pub loop-rest-init : goal.loop-rest-init
+loop-rest-init c =
     let us = c.args.units.now in
-    let gives = first_gives us (search rules) ∙ ap (λ v. bytes_by_neighbours 0 (slice_index us 0) v ++ bytes_after_first us) (sym c.unit_or_zero.ensures) in
-    omega (
-      arith,
-      c.requires _ (string_given us (are_units us c.type_inv.units)),
-      c.put_unit-at.ensures.end,
-      c.put_unit-at.ensures.len,
-      ap length gives,
-      length-append (bytes_by_neighbours 0 (slice_index us 0) c.unit_or_zero.result) (bytes_after_first us),
+    let gives = first_gives us c.unit_or_zero.result (search rules) c.unit_or_zero.ensures in
+    let written = ap (λ x. x ++ bytes_after_first us) c.put_unit-end.ensures.written ∙ sym gives in
+    let room = c.requires _ (string_given us (are_units us c.type_inv.units)) in
+    (search rules, written, omega (arith, room, c.put_unit-end.ensures.end, c.put_unit-end.ensures.len, ap length gives, length-append (bytes_by_neighbours 0 (slice_index us 0) c.unit_or_zero.result) (bytes_after_first us)))
+
+pub put_ascii-requires-clause-ascii : goal.put_ascii-requires-clause-ascii
+put_ascii-requires-clause-ascii c = c.goes_on_in_ascii.ensures.ascii c.if-goes_on_in_ascii.true
+
+pub put_ascii-requires-clause-room : goal.put_ascii-requires-clause-room
+put_ascii-requires-clause-room c =
+    let rest = c.loop-rest.rest.now in
+    let block = take 16 (drop 1 rest) in
+    let room = c.goes_on_in_ascii.ensures.room c.if-goes_on_in_ascii.true in
+    let gives = block_ascii 16 rest room (recursion_from_All (λ u. u < 0x80) _ (c.goes_on_in_ascii.ensures.ascii c.if-goes_on_in_ascii.true)) in
+    omega (arith, c.loop-rest.invariant.2, room, ap length gives, length-append block (bytes_after_first (drop 16 rest)), length-take-le 16 (drop 1 rest) (omega (arith, room, length-drop 1 rest)))
+
+pub loop-rest-preserved-then-goes_on_in_ascii : goal.loop-rest-preserved-then-goes_on_in_ascii
+loop-rest-preserved-then-goes_on_in_ascii c =
+    let rest = c.loop-rest.rest.now in
+    let block = take 16 (drop 1 rest) in
+    let room = c.goes_on_in_ascii.ensures.room c.if-goes_on_in_ascii.true in
+    let ascii = recursion_from_All (λ u. u < 0x80) _ (c.goes_on_in_ascii.ensures.ascii c.if-goes_on_in_ascii.true) in
+    let gives = block_ascii 16 rest room ascii ∙ ap (λ r. block ++ bytes_after_first r) (sym c.split_at.ensures.back) in (
+      omega (arith, room, c.split_at.ensures.back_len),
+      appended _ (take c.loop-rest.end c.loop-rest.bytes) block _ _ c.put_ascii.ensures.written gives ∙ c.loop-rest.invariant.1,
+      omega (arith, c.loop-rest.invariant.2, c.put_ascii.ensures.len, ap length gives, length-append block (bytes_after_first c.split_at.result.1.now), length-take-le 16 (drop 1 rest) (omega (arith, room, length-drop 1 rest))),
     )
 
 pub returns : goal.returns
 returns c =
     let us = c.args.units.now in
-    let gives = first_gives us (search rules) ∙ ap (λ v. bytes_by_neighbours 0 (slice_index us 0) v ++ bytes_after_first us) (sym c.unit_or_zero.ensures) in
-    let written = c.write_after_first.ensures ∙ ap (λ x. x ++ bytes_after_first us) c.put_unit-at.ensures.written ∙ sym gives in
-    subst (λ b. HasUnits b us) (sym written) (string_given us (are_units us c.type_inv.units))
+    let bytes = c.loop-rest.bytes in
+    let none = none_after c.loop-rest.rest.now (omega (arith, c.loop-rest-test.false)) in
+    let all = take_all c.loop-rest.end bytes (omega (arith, c.loop-rest.invariant.2, ap length none)) in
+    let same = sym (append-nil bytes) ∙ ap (λ x. x ++ []) (sym all) ∙ ap (λ x. take c.loop-rest.end bytes ++ x) (sym none) ∙ c.loop-rest.invariant.1 in
+    subst (λ b. HasUnits b us) (sym same) (string_given us (are_units us c.type_inv.units))
