@@ -31,20 +31,12 @@ fn are_same_few(a: &[u8], b: &[u8]) -> bool
     if 4 <= a.len() {
         return are_same_by_four(a, b);
     }
-    a.is_empty() || are_same_by_one(a, b)
-}
-
-/// The same for one to three bytes: the first, the middle one and the last.
-#[inline(always)]
-fn are_same_by_one(a: &[u8], b: &[u8]) -> bool
-    requires lengths { length a.now ≡ length b.now }
-    requires at_least { 1 ≤ length a.now }
-    requires at_most { length a.now ≤ 3 }
-    ensures { IsTrue result ↔ (a.now ≡ b.now) }
-{
-    let middle = a.len() / 2;
-    let last = a.len() - 1;
-    (a[0] == b[0]) & (a[middle] == b[middle]) & (a[last] == b[last])
+    match (a, b) {
+        ([x], [u]) => x == u,
+        ([x, y], [u, v]) => (x == u) & (y == v),
+        ([x, y, z], [u, v, w]) => (x == u) & (y == v) & (z == w),
+        _ => true,
+    }
 }
 
 /// The same for four to eight bytes.
