@@ -1,7 +1,7 @@
 //! Splits on Unix. Each pattern is UTF-8 and isn't empty.
 ghost use Rattle.std.specs.Prelude.{◌≡◌, ◌<◌, ◌+◌, ℕ, List, length};
 ghost use Rattle.std.specs.Str.{IsUtf8};
-ghost use Rattle.wtf8_core.specs.Pieces.{IsSplit, IsRSplit};
+ghost use Rattle.os_str_ext.specs.Pieces.{IsSplit, IsRSplit};
 
 use crate::strings::{text, unix};
 use os_str_ext::OsStrBytesExt;

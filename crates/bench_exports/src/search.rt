@@ -2,7 +2,7 @@
 ghost use Rattle.std.specs.Prelude.{◌≡◌, ◌<◌, ◌↔◌, ◌++◌, ℕ, List, IsTrue, length};
 ghost use Rattle.std.specs.Str.{IsUtf8};
 ghost use Rattle.wtf8_core.specs.Occurrence.{OccursNowhere, IsFirstIndex, IsLastIndex, IsPrefix, IsSuffix};
-ghost use Rattle.wtf8_core.specs.Pieces.{IsTrim, OccursSomewhere};
+ghost use Rattle.os_str_ext.specs.Pieces.{IsTrim, OccursSomewhere};
 ghost use Rattle.bench_exports.specs.Answers.{AnswersOr};
 
 use crate::strings::{text, unix};

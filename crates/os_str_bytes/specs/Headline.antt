@@ -1,6 +1,7 @@
 -- The words of the headline.
 use Rattle.std.specs.Prelude.{◌≡◌, ◌↔◌, ◌<◌, ℕ, List, length, drop, Option, MatchOption, Result, MatchResult, IfOk}
-use Rattle.wtf8_core.specs.{Boundary.IsBoundary, Pieces.Splits, declared.fault.EncodingError.EncodingError}
+use Rattle.wtf8_core.specs.{Boundary.IsBoundary, declared.fault.EncodingError.EncodingError}
+use Rattle.os_str_ext.specs.Pieces.{Splits}
 use Rattle.platform_str.specs.declared.platform.Platform.{Ghosts}
 use Rattle.os_str_bytes.specs.declared.{raw_str.RawOsStr.RawOsStr, cuts.Cuts.Cuts}
 use Rattle.os_str_bytes.specs.{Raw.raw_bytes, Raw.raw_vec_of, Cuts.AreBothParts, Cuts.IsPart}

@@ -16,7 +16,7 @@ pub use Rattle.wtf8_core.specs.Join
 pub use Rattle.wtf8_core.specs.Lossy
 pub use Rattle.wtf8_core.specs.LossyReading
 pub use Rattle.wtf8_core.specs.PartUnits
-pub use Rattle.wtf8_core.specs.Pieces
+pub use Rattle.os_str_ext.specs.Pieces
 pub use Rattle.wtf8_core.specs.Runs
 pub use Rattle.wtf8_core.specs.Occurrence
 pub use Rattle.wtf8_core.specs.OccurrenceLaws

@@ -32,6 +32,6 @@ pub use Rattle.wtf8_core.specs.Character.{IsFirstChar, WholeCharacter}
 pub use Rattle.wtf8_core.specs.Chunks.{AreChunks, Chunk, joined}
 pub use Rattle.wtf8_core.specs.CodePoint.{encode}
 pub use Rattle.wtf8_core.specs.Covered.{HasNoCharacter, IsCovered, StartsWithNoCharacter}
-pub use Rattle.wtf8_core.specs.Pieces.{SplitsAt}
+pub use Rattle.os_str_ext.specs.Pieces.{SplitsAt}
 pub use Rattle.wtf8_core.specs.Occurrence.{IsFirstIndex, IsLastIndex, IsPrefix, IsSuffix, OccursAt, OccursNowhere}
 pub use Rattle.wtf8_core.specs.OccurrenceLaws.{OccurrenceLaws}

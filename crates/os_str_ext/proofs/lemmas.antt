@@ -4,6 +4,7 @@ pub mod UncoveredStart
 pub mod OneByte
 pub mod Indices
 pub mod Searches
+pub mod Pieces
 pub mod Splits
 pub mod FirstChunk
 pub mod EachChunk

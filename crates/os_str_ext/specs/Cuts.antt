@@ -1,6 +1,7 @@
 -- How a string is cut into pieces, from its start and from its end: what one cut is, and the pieces that are left.
 use Rattle.std.specs.Prelude.{◌≡◌, ℕ, ◌<◌, List, [], length, Option, None, Some, MatchOption}
-use Rattle.wtf8_core.specs.{Occurrence.OccursNowhere, Occurrence.IsFirstIndex, Occurrence.IsLastIndex, Pieces.SplitsAt, Pieces.SplitsInto}
+use Rattle.wtf8_core.specs.{Occurrence.OccursNowhere, Occurrence.IsFirstIndex, Occurrence.IsLastIndex}
+use Rattle.os_str_ext.specs.Pieces.{SplitsAt, SplitsInto}
 
 -- a cut of s at the first occurrence of p: the piece that it takes off, and the rest
 abbrev pub FirstCut : List ℕ → List ℕ → List ℕ → List ℕ → Type 0

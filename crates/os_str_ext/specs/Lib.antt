@@ -1,5 +1,6 @@
 pub mod Range
 pub mod Patterns
+pub mod Pieces
 pub mod Cuts
 pub mod SomePieces
 pub mod Chunks

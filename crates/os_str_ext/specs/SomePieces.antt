@@ -3,7 +3,7 @@ use Rattle.std.proofs.Common.{◌≡◌, ℕ, zero, suc, ◌<◌, ◌≤◌, Lis
 use Rattle.std.proofs.lemmas.{Bool.cases_eq, Bool.cases_lt, List.append_cancel_left, List.take_at, List.drop_at}
 use Rattle.std.specs.Prelude.{take, drop}
 use Rattle.wtf8_core.specs.Occurrence.{OccursAt, OccursNowhere, IsPrefix}
-use Rattle.wtf8_core.specs.Pieces.SplitsInto.{whole, cut}
+use Rattle.os_str_ext.specs.Pieces.SplitsInto.{whole, cut}
 use Rattle.os_str_ext.specs.Cuts.{FirstCut, LastCut, ArePieces, PiecesOf, CutLaws}
 
 -- p is a prefix of s, or it isn't

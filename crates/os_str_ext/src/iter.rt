@@ -3,7 +3,7 @@ ghost use Rattle.std.specs.Prelude.{◌≡◌, ◌<◌, ℕ, List, MatchOption, 
 ghost use Rattle.std.specs.Iterator.{YieldsFirstBy, item_count};
 ghost use Rattle.std.specs.{Option.option_map, Str.IsUtf8};
 ghost use Rattle.wtf8_core.specs.Occurrence.{OccursNowhere};
-ghost use Rattle.wtf8_core.specs.Pieces.{IsSplit, IsRSplit, Splits};
+ghost use Rattle.os_str_ext.specs.Pieces.{IsSplit, IsRSplit, Splits};
 ghost use Rattle.platform_str.specs.Strings.{bytes};
 ghost use Rattle.os_str_ext.specs.Cuts.{FirstCut, LastCut, ArePieces, AreOfRest, PiecesOf, CutLaws, pieces_left};
 ghost use Rattle.os_str_ext.specs.SomePieces.{pieces_from_start, pieces_from_end, cuts_from_start, cuts_from_end};

@@ -2,7 +2,7 @@
 ghost use Rattle.std.specs.Prelude.{◌≡◌, ◌<◌, ◌↔◌, IsTrue, length, take, drop};
 ghost use Rattle.wtf8_core.specs.Occurrence.{IsFirstIndex, IsLastIndex, IsPrefix};
 ghost use Rattle.wtf8_core.specs.Boundary.{IsBoundary};
-ghost use Rattle.wtf8_core.specs.Pieces.{StripsPrefix, StripsSuffix, SplitsOnce, IsStartTrim, IsEndTrim};
+ghost use Rattle.os_str_ext.specs.Pieces.{StripsPrefix, StripsSuffix, SplitsOnce, IsStartTrim, IsEndTrim};
 ghost use Rattle.platform_str.specs.Strings.{bytes};
 
 use crate::boundary::split_at;

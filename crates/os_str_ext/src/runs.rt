@@ -1,6 +1,6 @@
 //! Runs of a text: how often it is repeated at the start or at the end of bytes.
 ghost use Rattle.std.specs.Prelude.{◌<◌, ◌≤◌, length, take, drop};
-ghost use Rattle.wtf8_core.specs.Pieces.{IsStartTrim, IsEndTrim};
+ghost use Rattle.os_str_ext.specs.Pieces.{IsStartTrim, IsEndTrim};
 
 use crate::needle::{ends_at, occurs_at};
 

@@ -1,7 +1,8 @@
 //! Where a text occurs in bytes.
 ghost use Rattle.std.specs.Prelude.{◌+◌, ◌-◌, ◌^◌, ◌↔◌, ◌<◌, ◌≤◌, IsTrue, IfSome, length};
 ghost use Rattle.wtf8_core.specs.Occurrence.{Finds, IsFirstIndex, IsLastIndex, IsPrefix, IsSuffix};
-ghost use Rattle.wtf8_core.specs.{Boundary.IsBoundary, Pieces.MayBeCutAround};
+ghost use Rattle.wtf8_core.specs.Boundary.{IsBoundary};
+ghost use Rattle.os_str_ext.specs.Pieces.{MayBeCutAround};
 
 use crate::compare::are_same;
 use crate::needle::{first_of, last_of};

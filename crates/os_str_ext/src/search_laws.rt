@@ -4,7 +4,8 @@
 //! bytes and of units.
 ghost use Rattle.std.specs.Prelude.{◌≡◌, ◌<◌, [], ◌∷◌, ℕ, List, length};
 ghost use Rattle.std.specs.{Char.encode_utf8, String.string_bytes};
-ghost use Rattle.wtf8_core.specs.{CodePoint.encode, Pieces.SplitsAt};
+ghost use Rattle.wtf8_core.specs.CodePoint.{encode};
+ghost use Rattle.os_str_ext.specs.Pieces.{SplitsAt};
 ghost use Rattle.wtf8_core.specs.Occurrence.{OccursNowhere, IsFirstIndex, IsLastIndex};
 
 use crate::pattern::Pattern;

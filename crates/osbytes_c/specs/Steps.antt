@@ -2,7 +2,7 @@
 use Rattle.std.specs.Prelude.{◌≡◌, ◌⊎◌, ◌+◌, ℕ, zero, suc, ◌≤◌, ◌<◌, true, false, List, [], ◌∷◌, length, take, drop}
 use Rattle.std.specs.Str.{IsUtf8}
 use Rattle.wtf8_core.specs.Occurrence.{OccursNowhere, IsFirstIndex, IsLastIndex}
-use Rattle.wtf8_core.specs.Pieces.{SplitsAt}
+use Rattle.os_str_ext.specs.Pieces.{SplitsAt}
 use Rattle.wtf8_core.specs.Chunks.{Chunk, AreChunks}
 use Rattle.osbytes_c.specs.declared.split.Piece.{Piece}
 use Rattle.wtf8_core.specs.UnitsOf.{units_of}

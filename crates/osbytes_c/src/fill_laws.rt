@@ -2,7 +2,7 @@
 //! nothing.
 ghost use Rattle.std.specs.Prelude.{◌++◌, ℕ, Bool, List, drop, map, take};
 ghost use Rattle.wtf8_core.specs.Chunks.{Chunk, AreChunks};
-ghost use Rattle.wtf8_core.specs.Pieces.{IsSplit, IsRSplit};
+ghost use Rattle.os_str_ext.specs.Pieces.{IsSplit, IsRSplit};
 ghost use Rattle.os_str_ext.specs.Symbols.{AreSymbols};
 ghost use Rattle.os_str_ext.specs.declared.symbols.Symbol.{Symbol};
 ghost use Rattle.osbytes_c.specs.ChunkFills.{ChunkViews, viewed_chunk};

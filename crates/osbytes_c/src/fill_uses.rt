@@ -1,7 +1,7 @@
 //! For trying: what a caller concludes from the contracts of the calls that fill arrays.
 ghost use Rattle.std.specs.Prelude.{◌++◌, IfSome, map, take};
 ghost use Rattle.wtf8_core.specs.Chunks.{AreChunks};
-ghost use Rattle.wtf8_core.specs.Pieces.{IsSplit, IsRSplit};
+ghost use Rattle.os_str_ext.specs.Pieces.{IsSplit, IsRSplit};
 ghost use Rattle.osbytes_c.specs.ChunkFills.{viewed_chunk};
 ghost use Rattle.osbytes_c.specs.Fills.{viewed};
 ghost use Rattle.osbytes_c.specs.SymbolFills.{AreSymbolsOf};

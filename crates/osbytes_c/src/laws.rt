@@ -1,7 +1,7 @@
 //! The laws of whole walks. Each is the contract of a function that does nothing.
 ghost use Rattle.std.specs.Prelude.{ℕ, List, length, ◌++◌};
 ghost use Rattle.wtf8_core.specs.Chunks.{Chunk, AreChunks};
-ghost use Rattle.wtf8_core.specs.Pieces.{IsSplit, IsRSplit};
+ghost use Rattle.os_str_ext.specs.Pieces.{IsSplit, IsRSplit};
 ghost use Rattle.os_str_ext.specs.Symbols.{AreSymbols};
 ghost use Rattle.os_str_ext.specs.declared.symbols.Symbol.{Symbol};
 ghost use Rattle.os_command_line.specs.Windows.{IsCommandLine, quote};

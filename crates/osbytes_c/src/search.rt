@@ -2,7 +2,7 @@
 ghost use Rattle.std.specs.Prelude.{◌≡◌, ◌↔◌, ◌⊎◌};
 ghost use Rattle.std.specs.Str.{IsUtf8};
 ghost use Rattle.wtf8_core.specs.Occurrence.{OccursNowhere, IsFirstIndex, IsLastIndex, IsPrefix, IsSuffix};
-ghost use Rattle.wtf8_core.specs.Pieces.{OccursSomewhere};
+ghost use Rattle.os_str_ext.specs.Pieces.{OccursSomewhere};
 
 use crate::status::{DONE, NO_PATTERN, NONE};
 use crate::strings::{text, unix};

@@ -5,7 +5,7 @@ ghost use Rattle.std.specs.Ordering.{nat_cmp};
 ghost use Rattle.std.specs.Str.{IsUtf8};
 ghost use Rattle.wtf8_core.specs.Boundary.{IsBoundary};
 ghost use Rattle.wtf8_core.specs.Occurrence.{IsFirstIndex, IsLastIndex, IsPrefix, IsSuffix, OccursNowhere};
-ghost use Rattle.wtf8_core.specs.Pieces.{OccursSomewhere};
+ghost use Rattle.os_str_ext.specs.Pieces.{OccursSomewhere};
 ghost use Rattle.wtf8_core.specs.Wtf8.{HasUnits, IsWtf8};
 ghost use Rattle.wtf8_core.specs.declared.fault.EncodingError.{EncodingError};
 ghost use Rattle.os_quote.specs.Escape.{IsEscape, IsLineEscape};

@@ -1,7 +1,7 @@
 //! For trying: what a caller of one step concludes from its contract and the laws of whole walks.
 ghost use Rattle.std.specs.Prelude.{◌≡◌, ◌<◌, ◌≤◌, true, [], ◌∷◌, drop, length, IfSome};
 ghost use Rattle.wtf8_core.specs.Chunks.{Chunk, AreChunks};
-ghost use Rattle.wtf8_core.specs.Pieces.{IsSplit, IsRSplit};
+ghost use Rattle.os_str_ext.specs.Pieces.{IsSplit, IsRSplit};
 ghost use Rattle.os_str_ext.specs.Symbols.{AreSymbols};
 ghost use Rattle.os_str_ext.specs.declared.symbols.Symbol.{Symbol};
 ghost use Rattle.osbytes_c.specs.Faults.{IsString};

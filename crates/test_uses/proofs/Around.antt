@@ -1,7 +1,7 @@
 -- What two cuts around a match in a list leave.
 use Rattle.std.proofs.Common.{◌≡◌, ℕ, ◌+◌, List, ◌++◌, length, take, drop, sym, ap, ◌∙◌}
 use Rattle.std.proofs.Math.Seq.{take-append_seam, drop-append-add, drop-append_seam}
-use Rattle.wtf8_core.specs.Pieces.{SplitsAt}
+use Rattle.os_str_ext.specs.Pieces.{SplitsAt}
 use Rattle.wtf8_core.specs.Occurrence.{OccursAt}
 
 module _ (Is : List ℕ → List ℕ → ℕ → Type 0) (p s prefix suffix : List ℕ) (i : ℕ) where

@@ -2,7 +2,7 @@
 use Rattle.std.proofs.Common.{◌≡◌, ℕ, ◌+◌, ◌<◌, List, [], ◌++◌, length, refl, sym, ap, ◌∙◌, arith, append_assoc, length-append}
 use Rattle.std.proofs.lemmas.List.Elements.{All-nil, All-cons}
 use Rattle.std.specs.List.{All}
-use Rattle.wtf8_core.specs.Pieces.{SplitsAt, IsSplit, IsRSplit, whole, cut}
+use Rattle.os_str_ext.specs.Pieces.{SplitsAt, IsSplit, IsRSplit, whole, cut}
 use Rattle.wtf8_core.specs.Occurrence.{OccursAt, OccursNowhere, IsFirstIndex, IsLastIndex}
 
 module _ (p : List ℕ) (some : 0 < length p) where

@@ -1,7 +1,7 @@
 -- What falls into pieces.
 use Rattle.std.proofs.Common.{◌≡◌, ◌∙◌, ◌↔◌, ◌<◌, ℕ, List, [], ◌∷◌, length, Option, None, Some, IsSome, IsSomeAnd, refl, sym, ap, arith}
 use Rattle.std.proofs.lemmas.Bool.{false≢true}
-use Rattle.wtf8_core.specs.Pieces.{SplitsInto, whole, cut}
+use Rattle.os_str_ext.specs.Pieces.{SplitsInto, whole, cut}
 use Rattle.os_str_ext.specs.Cuts.{AreOfRest}
 
 -- where there is no cut, the whole is the one piece

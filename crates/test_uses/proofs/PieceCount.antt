@@ -1,6 +1,6 @@
 -- The pieces of a list are one more than the matches between them.
 use Rattle.std.proofs.Common.{◌≡◌, ℕ, ◌+◌, ◌-◌, ◌<◌, ◌≤◌, List, [], ◌∷◌, ◌++◌, length, refl, sym, ap, ◌∙◌, subst, arith, append_assoc, length-append}
-use Rattle.wtf8_core.specs.Pieces.{IsSplit, whole, cut}
+use Rattle.os_str_ext.specs.Pieces.{IsSplit, whole, cut}
 use Rattle.wtf8_core.specs.Occurrence.{OccursAt}
 use Rattle.test_uses.specs.Matches.{IsNextMatch, AreMatches, none, next}
 use Rattle.test_uses.proofs.PiecesFromBothEnds.{in_second}

@@ -4,7 +4,7 @@ use Rattle.std.proofs.lemmas.List.{append-nil, append_cancel_left, length-drop, 
 use Rattle.std.proofs.lemmas.List.Elements.{All-head, All-tail, All-push, All-same}
 use Rattle.std.proofs.Math.Seq.{take-append_seam, drop-append_seam}
 use Rattle.std.specs.List.{All, join_by}
-use Rattle.wtf8_core.specs.Pieces.{SplitsAt, IsSplit, IsRSplit, whole, cut}
+use Rattle.os_str_ext.specs.Pieces.{SplitsAt, IsSplit, IsRSplit, whole, cut}
 use Rattle.wtf8_core.specs.Occurrence.{OccursAt, OccursNowhere, IsLastIndex}
 use Rattle.test_uses.proofs.NoMatch.{in_no_piece}
 use Rattle.test_uses.proofs.PiecesJoined.{pieces_joined, with_last}

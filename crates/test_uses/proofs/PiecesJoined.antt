@@ -3,7 +3,7 @@ use Rattle.std.proofs.Common.{◌≡◌, ℕ, ◌<◌, List, [], ◌∷◌, ◌+
 use Rattle.std.specs.List.{flat_map, join_by}
 use Rattle.std.proofs.lemmas.Grind.{flat_map-append}
 use Rattle.std.proofs.lemmas.List.{append-nil, length-reverse, reverse-append}
-use Rattle.wtf8_core.specs.Pieces.{SplitsInto, whole, cut}
+use Rattle.os_str_ext.specs.Pieces.{SplitsInto, whole, cut}
 
 module _ (p : List ℕ) where
   -- the pieces with p between them

@@ -2,7 +2,7 @@
 use Rattle.std.proofs.Common.{◌≡◌, ℕ, zero, suc, List, ◌++◌, sym, ap, subst, ◌∙◌, append_assoc}
 use Rattle.std.proofs.lemmas.List.{append-nil}
 use Rattle.std.specs.List.{repeat}
-use Rattle.wtf8_core.specs.Pieces.{IsStartTrim, IsEndTrim, IsTrim}
+use Rattle.os_str_ext.specs.Pieces.{IsStartTrim, IsEndTrim, IsTrim}
 use Rattle.wtf8_core.specs.Occurrence.{IsPrefix, IsSuffix}
 
 module _ (p : List ℕ) where

@@ -1,7 +1,7 @@
 //! The headline's call: each answer that could be mistaken for another.
 ghost use Rattle.std.specs.Prelude.{◌≡◌, IfOk};
 ghost use Rattle.wtf8_core.specs.Chunks.{AreChunks};
-ghost use Rattle.wtf8_core.specs.Pieces.{IsRSplit, SplitsOnce};
+ghost use Rattle.os_str_ext.specs.Pieces.{IsRSplit, SplitsOnce};
 ghost use Rattle.wtf8_core.specs.Occurrence.{IsLastIndex};
 ghost use Rattle.os_str_bytes.specs.Headline.{SplitsUnlessEmpty};
 ghost use Rattle.os_str_bytes.specs.Raw.{raw_bytes, raw_units};

@@ -3,7 +3,7 @@ ghost use Rattle.std.specs.Prelude.{◌≡◌, ◌↔◌, [], ◌∷◌, ◌+◌
 ghost use Rattle.std.specs.Prelude.{IsSomeAnd, IsTrue, Some};
 ghost use Rattle.std.specs.List.{All, join_by};
 ghost use Rattle.std.specs.Option.{option_map};
-ghost use Rattle.wtf8_core.specs.Pieces.{IsRSplit, IsSplit, Splits};
+ghost use Rattle.os_str_ext.specs.Pieces.{IsRSplit, IsSplit, Splits};
 ghost use Rattle.wtf8_core.specs.Occurrence.{OccursNowhere};
 ghost use Rattle.platform_str.specs.Strings.{bytes};
 ghost use Rattle.test_uses.specs.Matches.{AreMatches};

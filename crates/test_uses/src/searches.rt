@@ -1,6 +1,6 @@
 //! Searches: a string may be cut at what they find, and after it.
 ghost use Rattle.std.specs.Prelude.{◌≡◌, ◌<◌, ◌∷◌, IfSome, length};
-ghost use Rattle.wtf8_core.specs.Pieces.{SplitsOnce};
+ghost use Rattle.os_str_ext.specs.Pieces.{SplitsOnce};
 ghost use Rattle.wtf8_core.specs.Occurrence.{IsFirstIndex, IsLastIndex, OccursNowhere};
 ghost use Rattle.platform_str.specs.Strings.{bytes};
 ghost use Rattle.os_str_bytes.specs.Raw.{raw_bytes};

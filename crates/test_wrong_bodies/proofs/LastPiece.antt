@@ -1,7 +1,7 @@
 -- The first piece of a split from the end.
 use Rattle.std.proofs.Common.{◌≡◌, ℕ, ◌+◌, ◌<◌, List, ◌∷◌, ◌++◌, length, drop, sym, ap, ◌∙◌, arith}
 use Rattle.std.proofs.Math.Seq.{drop-append-add, drop-append_seam}
-use Rattle.wtf8_core.specs.Pieces.{IsRSplit, cut, whole}
+use Rattle.os_str_ext.specs.Pieces.{IsRSplit, cut, whole}
 use Rattle.wtf8_core.specs.Occurrence.{IsLastIndex}
 
 -- there is one last index

@@ -1,6 +1,6 @@
 //! Searches.
 ghost use Rattle.std.specs.Prelude.{◌↔◌, IsTrue};
-ghost use Rattle.wtf8_core.specs.Pieces.{SplitsOnce};
+ghost use Rattle.os_str_ext.specs.Pieces.{SplitsOnce};
 ghost use Rattle.wtf8_core.specs.Occurrence.{Finds, IsLastIndex, IsFirstIndex, IsPrefix};
 ghost use Rattle.wtf8_core.specs.UnitIndex.{FindsInUnits};
 ghost use Rattle.platform_str.specs.Strings.{bytes};

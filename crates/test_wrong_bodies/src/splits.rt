@@ -1,7 +1,7 @@
 //! Pieces.
 ghost use Rattle.std.specs.Prelude.{◌≡◌, ◌+◌, ◌∷◌, ◌<◌, ℕ, List, IfSome, MatchOption, Some, drop, length};
 ghost use Rattle.std.specs.Option.{option_map};
-ghost use Rattle.wtf8_core.specs.Pieces.{IsSplit};
+ghost use Rattle.os_str_ext.specs.Pieces.{IsSplit};
 ghost use Rattle.wtf8_core.specs.Occurrence.{IsLastIndex};
 ghost use Rattle.platform_str.specs.Strings.{bytes};
 

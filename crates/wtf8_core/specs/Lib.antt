@@ -17,7 +17,6 @@ pub mod Covered
 pub mod Chunks
 pub mod Runs
 pub mod Boundary
-pub mod Pieces
 pub mod Table
 pub mod Neighbours
 pub mod PairBits

@@ -1,8 +1,8 @@
 -- A split has at most one piece more than its string has bytes.
 use Rattle.std.proofs.Common.{ℕ, ◌+◌, ◌<◌, ◌≤◌, List, ◌++◌, length, ap, ◌∙◌, arith}
 use Rattle.std.proofs.lemmas.List.{length-append}
-use Rattle.wtf8_core.specs.Pieces.{SplitsAt, SplitsInto, IsSplit, IsRSplit}
-use Rattle.wtf8_core.specs.Pieces.SplitsInto.{whole, cut}
+use Rattle.os_str_ext.specs.Pieces.{SplitsAt, SplitsInto, IsSplit, IsRSplit}
+use Rattle.os_str_ext.specs.Pieces.SplitsInto.{whole, cut}
 use Rattle.wtf8_core.specs.Occurrence.{IsFirstIndex, IsLastIndex}
 
 few_pieces : (Cuts : List ℕ → List ℕ → List ℕ → Type 0) (Whole : List ℕ → Type 0) (shorter : (s piece rest : List ℕ) → Cuts s piece rest → length rest < length s)

@@ -2,7 +2,7 @@
 use Rattle.std.proofs.Common.{◌≡◌, inr, ℕ, ◌<◌, List, ◌++◌, take, drop, length, sym, ap, ◌∙◌, subst, arith}
 use Rattle.std.proofs.lemmas.List.{take-append-drop}
 use Rattle.std.proofs.Math.Seq.{take-append_seam, drop-append_seam}
-use Rattle.wtf8_core.specs.Pieces.{SplitsAt}
+use Rattle.os_str_ext.specs.Pieces.{SplitsAt}
 use Rattle.wtf8_core.specs.Occurrence.{OccursNowhere, IsFirstIndex}
 use Rattle.os_args.specs.Word.{equals, IsName}
 

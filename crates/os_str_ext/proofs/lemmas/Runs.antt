@@ -1,6 +1,6 @@
 -- Runs of a text: lists that are the text repeated.
 use Rattle.os_str_ext.proofs.Common.{◌≡◌, ℕ, zero, suc, ◌+◌, ◌-◌, ◌<◌, ◌≤◌, List, ◌++◌, length, take, drop, refl, sym, ap, subst, ◌∙◌, arith, inl, inr, append_assoc, length-append, length-drop, take-append-drop, append-nil, length-take-le, drop-drop, take-add, repeat, IsUtf8, NeedleOccursAt, OccursAt-part, OccursAt-from_part, OccursAt, IsBoundary}
-use Rattle.wtf8_core.specs.Pieces.{IsStartTrim, IsEndTrim}
+use Rattle.os_str_ext.specs.Pieces.{IsStartTrim, IsEndTrim}
 use Rattle.os_str_ext.proofs.lemmas.{Comparing.take_from_prefix, Comparing.prefix_fits, Searches.EdgesOfTexts, Searches.needle_from_occurs}
 
 -- one more repetition at the start is one more at the end

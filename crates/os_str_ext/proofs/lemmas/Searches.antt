@@ -2,7 +2,8 @@
 use Rattle.os_str_ext.proofs.Common.{◌≡◌, ℕ, ◌+◌, ◌-◌, ◌<◌, ◌≤◌, true, List, [], ◌++◌, length, take, drop, Option, Some, None, refl, sym, ap, subst, ◌∙◌, arith, inl, inr, ⊎_elim, length-append, take-append-drop, append-nil, length-take-le, drop_at, nil_from_length, cases_eq, false≢true, is_some, IsUtf8, NeedleOccursAt, FindsNeedle, FindsLastNeedle, OccursAt, IsFirstIndex, IsLastIndex, IsPrefix, IsSuffix, IsBoundary, SplitsAt}
 use Rattle.std.proofs.lemmas.List.Prefix.{at_from_reads, at_reads}
 use Rattle.std.specs.Option.{IfSome}
-use Rattle.wtf8_core.specs.{Occurrence.Finds, Pieces.OccursSomewhere, Pieces.MayBeCutAround}
+use Rattle.wtf8_core.specs.Occurrence.{Finds}
+use Rattle.os_str_ext.specs.Pieces.{OccursSomewhere, MayBeCutAround}
 
 -- a string may be cut before and after a text that occurs in it (`laws::boundaries`)
 abbrev pub EdgesOfTexts : Type 0

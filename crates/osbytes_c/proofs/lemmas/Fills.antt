@@ -6,7 +6,7 @@ use Rattle.osbytes_c.specs.declared.split.Piece.{Piece}
 use Rattle.osbytes_c.specs.Fills.{IsFilled, IsLeft, IsView, viewed, GiveInOrder, PieceViews, LastPieceViews}
 use Rattle.osbytes_c.specs.Steps.{IsFirstPiece, IsLastPiece}
 use Rattle.osbytes_c.proofs.lemmas.Walks.{split_step, rsplit_step}
-use Rattle.wtf8_core.specs.Pieces.{IsSplit, IsRSplit}
+use Rattle.os_str_ext.specs.Pieces.{IsSplit, IsRSplit}
 
 pub none_filled : {A : Type 0} (old : List A) → IsFilled [] old old 0
 none_filled old = record { same_length = refl; count_is = refl; prefix = refl; after = refl }

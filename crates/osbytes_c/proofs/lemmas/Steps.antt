@@ -3,7 +3,7 @@ use Rattle.std.proofs.Common.{◌≡◌, ℕ, ◌+◌, ◌-◌, ◌≤◌, List,
 use Rattle.std.proofs.lemmas.List.{drop-take, drop-drop, length-drop, length-append, length-take-le, drop-append-le, drop_all}
 use Rattle.std.proofs.Math.Seq.{take-append_seam}
 use Rattle.wtf8_core.specs.Chunks.{Chunk, AreChunks}
-use Rattle.wtf8_core.specs.Pieces.{SplitsAt}
+use Rattle.os_str_ext.specs.Pieces.{SplitsAt}
 use Rattle.wtf8_core.specs.Occurrence.{IsFirstIndex, IsLastIndex}
 use Rattle.os_str_ext.proofs.lemmas.Searches.{parts_around}
 use Rattle.osbytes_c.specs.Steps.{part, IsChunkAt}

@@ -2,8 +2,8 @@
 use Rattle.std.proofs.Common.{◌≡◌, ℕ, Bool, true, false, List, [], ◌∷◌, length, take, drop, refl, sym, ap, ◌∙◌, subst, arith}
 use Rattle.std.proofs.lemmas.List.{take_all, drop_all}
 use Rattle.wtf8_core.specs.Chunks.{Chunk, AreChunks}
-use Rattle.wtf8_core.specs.Pieces.{SplitsAt, IsSplit, IsRSplit}
-use Rattle.wtf8_core.specs.Pieces.SplitsInto.{whole, cut}
+use Rattle.os_str_ext.specs.Pieces.{SplitsAt, IsSplit, IsRSplit}
+use Rattle.os_str_ext.specs.Pieces.SplitsInto.{whole, cut}
 use Rattle.wtf8_core.specs.Occurrence.{IsFirstIndex, IsLastIndex}
 use Rattle.wtf8_core.proofs.lemmas.chunks.OneList.{some_chunks, chunks_once}
 use Rattle.os_str_ext.specs.Symbols.{AreSymbols}

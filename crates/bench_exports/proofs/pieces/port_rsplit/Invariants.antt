@@ -1,5 +1,5 @@
 use Rattle.std.proofs.Common.{◌≡◌, ℕ, ◌+◌, List, length}
-use Rattle.wtf8_core.specs.Pieces.{IsRSplit}
+use Rattle.os_str_ext.specs.Pieces.{IsRSplit}
 use Rattle.bench_exports.proofs.pieces.port_rsplit.Given as goal
 
 -- the pieces so far and those left are all

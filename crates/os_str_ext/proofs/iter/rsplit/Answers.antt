@@ -1,5 +1,5 @@
 use Rattle.os_str_ext.proofs.Common.{bytes}
-use Rattle.wtf8_core.proofs.lemmas.occurrence.Pieces.{rsplit_in_units}
+use Rattle.os_str_ext.proofs.lemmas.Pieces.{rsplit_in_units}
 use Rattle.os_str_ext.proofs.iter.rsplit.Goals as goal
 
 pub returns : goal.returns

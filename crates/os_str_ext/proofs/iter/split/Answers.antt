@@ -1,5 +1,5 @@
 use Rattle.os_str_ext.proofs.Common.{bytes}
-use Rattle.wtf8_core.proofs.lemmas.occurrence.Pieces.{split_in_units}
+use Rattle.os_str_ext.proofs.lemmas.Pieces.{split_in_units}
 use Rattle.os_str_ext.proofs.iter.split.Goals as goal
 
 pub returns : goal.returns

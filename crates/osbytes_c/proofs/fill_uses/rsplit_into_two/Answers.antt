@@ -1,6 +1,6 @@
 use Rattle.std.proofs.Common.{[], ◌++◌, length, take, map, refl, sym, subst, append-nil, arith}
 use Rattle.std.proofs.lemmas.List.{take_all}
-use Rattle.wtf8_core.specs.Pieces.{IsRSplit}
+use Rattle.os_str_ext.specs.Pieces.{IsRSplit}
 use Rattle.osbytes_c.specs.Fills.{IsLeft, viewed}
 use Rattle.osbytes_c.proofs.fill_uses.rsplit_into_two.Goals as goal
 

@@ -1,5 +1,5 @@
 use Rattle.std.proofs.Common.{[], ◌++◌, take, drop, map, refl, sym, subst, append-nil}
-use Rattle.wtf8_core.specs.Pieces.{IsSplit}
+use Rattle.os_str_ext.specs.Pieces.{IsSplit}
 use Rattle.osbytes_c.specs.Fills.{IsLeft, viewed}
 use Rattle.osbytes_c.proofs.fill_uses.split_into_two.Goals as goal
 

@@ -1,6 +1,6 @@
 use Rattle.std.proofs.Common.{length, subst, arith}
 use Rattle.std.proofs.lemmas.List.{take_all}
-use Rattle.wtf8_core.specs.Pieces.{IsRSplit}
+use Rattle.os_str_ext.specs.Pieces.{IsRSplit}
 use Rattle.osbytes_c.proofs.lemmas.Walks.{split_walk, rsplit_walk}
 use Rattle.osbytes_c.proofs.laws.split_walks.Goals as goal
 

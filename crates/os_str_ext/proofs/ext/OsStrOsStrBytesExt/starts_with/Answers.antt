@@ -1,5 +1,5 @@
 use Rattle.os_str_ext.proofs.Common.{subst, IsUtf8, bytes}
-use Rattle.wtf8_core.proofs.lemmas.occurrence.Pieces.{prefix_alike}
+use Rattle.os_str_ext.proofs.lemmas.Pieces.{prefix_alike}
 use Rattle.os_str_ext.proofs.ext.OsStrOsStrBytesExt.starts_with.Goals as goal
 
 pub returns-clause-units : goal.returns-clause-units

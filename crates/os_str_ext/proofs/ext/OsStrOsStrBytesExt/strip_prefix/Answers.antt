@@ -1,5 +1,5 @@
 use Rattle.os_str_ext.proofs.Common.{subst, IsUtf8, bytes}
-use Rattle.wtf8_core.proofs.lemmas.occurrence.Pieces.{strip_prefix_in_units}
+use Rattle.os_str_ext.proofs.lemmas.Pieces.{strip_prefix_in_units}
 use Rattle.os_str_ext.proofs.ext.OsStrOsStrBytesExt.strip_prefix.Goals as goal
 
 pub returns-clause-units : goal.returns-clause-units

@@ -1,7 +1,7 @@
 -- From the laws of occurrences alone: pieces, strips and trims in units.
 use Rattle.wtf8_core.proofs.Common.{nat_tests, common_steps, ◌≡◌, ℕ, zero, suc, ◌<◌, List, [], ◌∷◌, ◌++◌, length, map, Option, Some, None, refl, sym, ap, ◌∙◌, subst, arith, append_assoc, append-nil, length-append, append_cancel_left, nil_from_length, repeat, IsUtf8, IsFirstIndex, IsLastIndex, IsPrefix, IsSuffix, IsUnitIndexOf, OccurrenceLaws}
 use Rattle.wtf8_core.proofs.lemmas.{forms.Appending.append_same, occurrence.Indices.no_units, occurrence.Indices.nothing, occurrence.Indices.around, occurrence.Indices.least, occurrence.Indices.greatest, occurrence.Indices.nowhere, occurrence.Indices.nowhere_in_units, occurrence.Indices.none_first, occurrence.Indices.none_last, occurrence.Indices.no_units_first, occurrence.Indices.no_units_last}
-use Rattle.wtf8_core.specs.Pieces.{SplitsAt, IsSplit, IsRSplit, IsStartTrim, IsEndTrim, IsTrim, StripsPrefix, StripsSuffix, SplitsOnce, SplitsInto.whole, SplitsInto.cut}
+use Rattle.os_str_ext.specs.Pieces.{SplitsAt, IsSplit, IsRSplit, IsStartTrim, IsEndTrim, IsTrim, StripsPrefix, StripsSuffix, SplitsOnce, SplitsInto.whole, SplitsInto.cut}
 
 module _ (wf : List ℕ → Type 0) (units : List ℕ → List ℕ) (laws : OccurrenceLaws wf units) where
   -- one cut
