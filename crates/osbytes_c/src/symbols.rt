@@ -11,7 +11,6 @@ use crate::status::{DONE, ENDED, FAULTY, NO_INDEX, NO_PLATFORM};
 use crate::strings::unix;
 use os_str_ext::OsStrBytesExt;
 use platform_str::{Platform, Windows};
-use wtf8_core::encode_wide;
 
 /// A symbol, and where it ends.
 #[repr(C)]
@@ -144,9 +143,6 @@ fn first_surrogate(bytes: &[u8]) -> Option<u32>
     let Ok(()) = Windows::check(prefix) else {
         return None;
     };
-    match encode_wide(prefix).next() {
-        Some(Ok(unit)) => Some(u32::from(unit)),
-        Some(Err(_)) => None,
-        None => None,
-    }
+    let (unit, _) = Windows::first_unit(prefix);
+    Some(u32::from(unit))
 }
