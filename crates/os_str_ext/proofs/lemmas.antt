@@ -10,7 +10,6 @@ pub mod FirstChunk
 pub mod EachChunk
 pub mod ChunkUnits
 pub mod AroundIndices
-pub mod PartUnits
 pub mod Repeats
 pub mod Runs
 pub mod CutUnits

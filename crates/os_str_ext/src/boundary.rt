@@ -30,6 +30,7 @@ pub(crate) fn is_boundary(bytes: &[u8], at: usize) -> bool
 
 /// Whether the byte at index `at` is ASCII, which is a whole character.
 #[inline(always)]
+#[tactic(auto, using(crate::proofs::lemmas::Indices::ascii_at))]
 fn is_ascii_at(bytes: &[u8], at: usize) -> bool
     requires { at < length bytes.now }
     ensures { IsTrue result → WholeCharacter bytes.now at (at + 1) }

@@ -23,6 +23,7 @@ pub fn chunk_units<E: Platform>()
 {}
 
 /// Bytes are UTF-8 exactly where each part of their chunks is empty.
+#[tactic(auto, using(crate::proofs::lemmas::ChunkUnits::text_without_parts))]
 pub fn text_without_parts()
     ensures { (s : List ℕ) → (chunks : List Chunk) → AreChunks s chunks
         → (IsUtf8 s ↔ All (λ c. c.0 ≡ []) chunks) }

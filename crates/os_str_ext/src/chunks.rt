@@ -91,6 +91,7 @@ impl<'a, E: Platform> Iterator for Utf8Chunks<'a, E> {
 
     ghost remaining = { item_count (λ left. left) };
 
+    #[tactic(auto, using(crate::proofs::lemmas::FirstChunk::no_chunks))]
     fn next(&mut self) -> Option<(NonUnicodeOsStr<'a, E>, &'a str)> {
         if self.rest.is_empty() {
             return None;

@@ -19,6 +19,7 @@ const SHORT_FOR_TWO: usize = 1024;
 
 /// The index of the first occurrence of a needle; a needle of one byte is searched for as a byte.
 #[inline(always)]
+#[tactic(auto, using(crate::proofs::lemmas::OneByte::first_byte_of_needle))]
 pub(crate) fn first_of(bytes: &[u8], needle: &[u8]) -> Option<usize>
     ensures { FindsNeedle bytes.now needle.now 0 result }
 {
@@ -30,6 +31,7 @@ pub(crate) fn first_of(bytes: &[u8], needle: &[u8]) -> Option<usize>
 
 /// The index of the last occurrence of a needle; a needle of one byte is searched for as a byte.
 #[inline(always)]
+#[tactic(auto, using(crate::proofs::lemmas::OneByte::last_byte_of_needle))]
 pub(crate) fn last_of(bytes: &[u8], needle: &[u8]) -> Option<usize>
     ensures { FindsLastNeedle bytes.now needle.now result }
 {
@@ -66,6 +68,7 @@ pub(crate) fn ends_at(bytes: &[u8], needle: &[u8], at: usize) -> bool
 
 /// The index of the first occurrence of a byte. The iterator is faster if that index is small.
 #[inline(never)]
+#[tactic(auto, using(crate::proofs::lemmas::Needles::first_taken))]
 fn first_byte(byte: u8, bytes: &[u8]) -> Option<usize>
     ensures { IsFirstByte (is_byte byte) bytes.now result }
 {

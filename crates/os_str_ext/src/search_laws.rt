@@ -24,6 +24,7 @@ pub fn around_index()
 
 /// What a search looks for: the form of a `char` (RFC 3629, section 3), the bytes of a `&str`, the
 /// bytes of the text of a `&String`.
+#[tactic(auto, using(wtf8_core::proofs::lemmas::forms::ByStd::form_encode))]
 pub fn patterns<'a>(c: char, text: &'a str, string: &'a String)
     ensures of_char { ⟦<char as Pattern>⟧.text c ≡ encode c }
     ensures of_str { ⟦<&'a str as Pattern>⟧.text text.entry ≡ text.now }

@@ -1,17 +1,17 @@
 -- The units of a string's chunks, and that the chunks of a text have no parts.
-use Rattle.os_str_ext.proofs.Common.{◌≡◌, ℕ, ◌<◌, List, [], ◌∷◌, ◌++◌, length, take, drop, inl, refl, sym, ap, ◌∙◌, subst, arith, append_assoc, take-length, All-from_recursion, IsUtf8-nil, IsUtf8-append, All, AllByRecursion, flat_map, IsUtf8, IsBoundary, Chunk, joined, AreChunks, HasNoCharacter, IsChunkOf}
+use Rattle.os_str_ext.proofs.Common.{◌≡◌, ℕ, ◌<◌, List, [], ◌∷◌, ◌++◌, length, take, drop, refl, sym, ap, ◌∙◌, subst, arith, append_assoc, take-length, All-from_recursion, IsUtf8-nil, IsUtf8-append, All, AllByRecursion, flat_map, IsUtf8, IsBoundary, Chunk, joined, AreChunks, HasNoCharacter, IsChunkOf}
 use Rattle.std.proofs.Common.{◌↔◌}
 use Rattle.std.proofs.lemmas.List.Elements.{recursion_from_All}
 use Rattle.wtf8_core.proofs.lemmas.{characters.AtIndices.none_begins, forms.Cuts.utf8_cut, texts.AreWtf8.no_text_begins}
-use Rattle.os_str_ext.proofs.lemmas.{CutUnits.part_in_units, EachChunk.are_chunks_of, EachChunk.first_of, FirstChunk.edges, PartUnits.no_units}
+use Rattle.os_str_ext.proofs.lemmas.{CutUnits.part_in_units, EachChunk.are_chunks_of, EachChunk.first_of, FirstChunk.edges}
 
-module _ (well_formed : List ℕ → Type 0) (units : List ℕ → List ℕ)
+module _ (well_formed : List ℕ → Type 0) (units : List ℕ → List ℕ) (none : units [] ≡ [])
     (cut_prefix : (b : List ℕ) (i : ℕ) → well_formed b → IsBoundary b i → well_formed (take i b))
     (cut_suffix : (b : List ℕ) (i : ℕ) → well_formed b → IsBoundary b i → well_formed (drop i b))
     (cut_units : (b : List ℕ) (i : ℕ) → well_formed b → IsBoundary b i → units b ≡ units (take i b) ++ units (drop i b)) where
   -- the units of the chunks, joined, are the string's
   pub units_joined : (s : List ℕ) → well_formed s → (cs : List Chunk) → AreChunks s cs → flat_map (λ c. units c.0 ++ units c.1) cs ≡ units s
-  units_joined s w [] h = sym (no_units units (cut_units [] 0 (subst well_formed (sym h.joins) w) (record { is = inl refl }))) ∙ ap units h.joins
+  units_joined s w [] h = sym none ∙ ap units h.joins
   units_joined s w (c ∷ cs) h =
       let f = first_of s c cs h in
       let m = length c.0 in
