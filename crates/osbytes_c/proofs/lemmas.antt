@@ -12,6 +12,7 @@ pub mod Lines
 pub mod Options
 pub mod PathParts
 pub mod PathSpans
+pub mod Pieces
 pub mod Room
 pub mod Steps
 pub mod SymbolFills

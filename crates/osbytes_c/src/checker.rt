@@ -22,7 +22,8 @@ pub struct Open {
 /// Starts a check: no bytes are read yet.
 #[unsafe(no_mangle)]
 pub extern "C" fn osb_core_start(opened: &mut Open)
-    ensures { OpenDescribes opened.new [] }
+    ensures describes { OpenDescribes opened.new [] }
+    ensures known { opened.new.state < 16 }
 {
     *opened = Open { state: 0, bits: 0 };
 }
@@ -35,6 +36,7 @@ pub extern "C" fn osb_core_feed(opened: &mut Open, piece: &[u8], fault: &mut Fau
         → OpenDescribes opened.new (fed ++ piece.now) }
     ensures fault { result ≡ 1 → (fed : List ℕ) → OpenDescribes opened.old fed
         → ReportsFaulty (fed ++ piece.now) fault.new }
+    ensures known { result ≡ 0 → opened.new.state < 16 }
     ensures kept { result ≢ 0 → opened.new ≡ opened.old }
     ensures state { (result ≡ 20) ↔ (16 ≤ opened.old.state) }
     ensures answers { (result ≡ 0) ⊎ ((result ≡ 1) ⊎ (result ≡ 20)) }

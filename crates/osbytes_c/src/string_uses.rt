@@ -9,7 +9,7 @@ ghost use Rattle.os_str_ext.specs.Pieces.{OccursSomewhere};
 ghost use Rattle.wtf8_core.specs.Wtf8.{HasUnits, IsWtf8};
 ghost use Rattle.wtf8_core.specs.declared.fault.EncodingError.{EncodingError};
 ghost use Rattle.os_quote.specs.Escape.{IsEscape, IsLineEscape};
-ghost use Rattle.osbytes_c.specs.Faults.{IsReport, IsString, IsTextOf, IsUnstring, IsWtf8Report, Names, OpenDescribes};
+ghost use Rattle.osbytes_c.specs.Faults.{IsReport, IsString, IsTextOf, IsUnstring, IsWtf8Report, Names, OpenDescribes, ReportsFaulty};
 ghost use Rattle.osbytes_c.specs.Platforms.{formed_on, lossy_on, units_on};
 
 use crate::boundary::osb_core_is_boundary;
@@ -45,11 +45,16 @@ pub fn is_string(platform: u32, bytes: &[u8]) -> bool
     osb_core_check(platform, bytes, &mut no_fault()) == 0
 }
 
-/// Whether one more piece of a string of Windows is read; else what is open is as it was.
+/// Whether one more piece of a string of Windows is read; else what is open is as it was, and the
+/// bytes joined have a fault.
 pub fn is_fed(opened: &mut Open, piece: &[u8]) -> bool
     ensures fed { result ≡ true → (fed : List ℕ) → OpenDescribes opened.old fed
         → OpenDescribes opened.new (fed ++ piece.now) }
-    ensures refused { result ≡ false → opened.new ≡ opened.old }
+    ensures known { result ≡ true → opened.new.state < 16 }
+    ensures kept { result ≡ false → opened.new ≡ opened.old }
+    ensures refused { result ≡ false → opened.old.state < 16 → (fed : List ℕ)
+        → OpenDescribes opened.old fed
+        → (report : Fault) × ReportsFaulty (fed ++ piece.now) report }
 {
     osb_core_feed(opened, piece, &mut no_fault()) == 0
 }
@@ -101,15 +106,27 @@ pub fn ends_with(platform: u32, bytes: &[u8], suffix: &[u8]) -> Option<bool>
     }
 }
 
-/// Whether two pieces joined pass the check for Windows.
+/// Whether the pieces that were read are a string of Windows.
+pub fn is_finished(opened: &Open) -> bool
+    ensures { opened.now.state < 16 → (fed : List ℕ) → OpenDescribes opened.now fed
+        → (result ≡ true) ↔ IsWtf8 fed }
+{
+    osb_core_finish(opened, &mut no_fault()) == 0
+}
+
+/// Whether two pieces joined are a string of Windows.
 pub fn is_string_in_two(first: &[u8], second: &[u8]) -> bool
-    ensures { result ≡ true → IsWtf8 (first.now ++ second.now) }
+    ensures { (result ≡ true) ↔ IsWtf8 (first.now ++ second.now) }
 {
     let mut opened = Open { state: 0, bits: 0 };
     osb_core_start(&mut opened);
-    is_fed(&mut opened, first)
-        && is_fed(&mut opened, second)
-        && osb_core_finish(&opened, &mut no_fault()) == 0
+    if !is_fed(&mut opened, first) {
+        return false;
+    }
+    if !is_fed(&mut opened, second) {
+        return false;
+    }
+    is_finished(&opened)
 }
 
 /// How many bytes the escape of a string has; `None` if there is no such platform, it is no string or too

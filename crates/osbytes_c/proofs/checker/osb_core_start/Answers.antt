@@ -4,6 +4,6 @@ use Rattle.wtf8_core.specs.Byte.{IsByte}
 use Rattle.wtf8_core.specs.Table.{state_at}
 use Rattle.osbytes_c.proofs.checker.osb_core_start.Goals as goal
 
-pub returns : goal.returns
+pub returns-clause-describes : goal.returns-clause-describes
 unfolding state_at
-returns c = record { are_bytes = All-nil IsByte; code_points = []; items = λ more. refl }
+returns-clause-describes c = record { are_bytes = All-nil IsByte; code_points = []; items = λ more. refl }
