@@ -22,10 +22,7 @@ pub(crate) fn is_boundary(bytes: &[u8], at: usize) -> bool
     if is_ascii_at(bytes, at) || is_ascii_at(bytes, at - 1) {
         return true;
     }
-    if char_at(bytes, at).is_some() {
-        return true;
-    }
-    char_before(bytes, at).is_some()
+    char_at(bytes, at).is_some() || char_before(bytes, at).is_some()
 }
 
 /// Whether the byte at index `at` is ASCII, which is a whole character.
