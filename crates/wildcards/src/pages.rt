@@ -120,7 +120,8 @@ fn page_count(ranges: &[Range]) -> u32
     (last / PAGE).min(PAGES - 1) + 1
 }
 
-/// The pages of ranges, if they are many.
+/// The pages of ranges, if they are many. Inlined, it would make the table of ASCII slower to fill.
+#[inline(never)]
 pub(crate) fn pages_of<A: Allocator + Copy>(
     alloc: A,
     ranges: &[Range],
