@@ -42,7 +42,7 @@ impl<A: Allocator> Table<A> {
 /// A letter takes the same time whatever the number of ranges, unless one of them has letters from
 /// 0x11_0000 on: those letters take time in proportion to its logarithm.
 ///
-/// A class of more than eight ranges takes two bytes for each 128 letters from 0 to the last one, at most
+/// A class of more than four ranges takes two bytes for each 128 letters from 0 to the last one, at most
 /// 17 KB, and 16 bytes for each 128 of them that it permits only in part, at most two for each range.
 #[derive(Drop)]
 pub struct Class<A: Allocator = Global> {

@@ -12,9 +12,9 @@ pub(crate) const PAGE: u32 = 128;
 /// How many pages there are at most: those of all code points. Their indices take 17 KB.
 const PAGES: u32 = 0x2200;
 
-/// So many ranges have no pages: to halve them takes at most four steps, and a class of few is made in
-/// less time and memory without.
-const FEW: usize = 8;
+/// So many ranges have no pages: to halve them takes at most three steps, and a class of few is made in
+/// less time and memory without. A letter and those with its simple case folding are no more.
+const FEW: usize = 4;
 
 /// Each page's index of its word, which has a bit for each letter of the page. Pages with the same
 /// letters may have the same word.
