@@ -2,13 +2,14 @@
 //! with the [`BEFORE`](crate::vectors::BEFORE) bytes before it.
 ghost use Rattle.std.specs.Prelude.{◌≡◌, ◌≢◌, ℕ, ◌+◌, ◌-◌, ◌≤◌, ◌<◌, length, slice_index, bit_and, bit_or, bit_xor};
 ghost use Rattle.wtf8_core.specs.PairBits.{continuation_due, error_bits, pair_bits, surrogate_pair_difference};
+ghost use Rattle.wtf8_core.specs.EncodedPrefix.{with_zeros_before};
 ghost use Rattle.wtf8_core.specs.Neighbours.{EachMayFollow};
 ghost use Rattle.wtf8_core.specs.declared.vectors.Encoding.TheVariants.{Utf8, Wtf8};
 
 use crate::four_copies;
 use crate::vectors::lanes::{
-    above, and, are_zero, entries, entries_of_16, high_halves, leading_nonzero, leading_zero, load,
-    masked, or, xor, xor_with,
+    above, after_zero, and, are_zero, entries, entries_of_16, high_halves, leading_nonzero,
+    leading_zero, load, masked, or, xor, xor_with,
 };
 use crate::vectors::{BLOCK, Encoding, STEP};
 use std::simd::prelude::*;
@@ -44,20 +45,6 @@ fn pair_bits(first: u8x64, second: u8x64) -> u8x64
     )
 }
 
-/// The same for 16 lanes.
-#[inline(always)]
-fn pair_bits_of_16(first: u8x16, second: u8x16) -> u8x16
-    ensures { (i : ℕ) → i < 16 → slice_index result i
-        ≡ pair_bits (slice_index first i) (slice_index second i) }
-{
-    let by_high = entries_of_16(FIRST_HIGH, high_halves(first));
-    let by_low = entries_of_16(FIRST_LOW, masked(first, 15));
-    and(
-        and(by_high, by_low),
-        entries_of_16(SECOND_HIGH, high_halves(second)),
-    )
-}
-
 /// 128 where the byte three before is the lead of four bytes, or the byte two before is the lead of
 /// three or four; else 0.
 #[inline(always)]
@@ -81,16 +68,18 @@ fn error_bits(window: &[u8]) -> u8x64
     xor(pairs, continuation_due(load(window, 1), load(window, 2)))
 }
 
-/// The same for the 16 bytes after the first four.
+/// The same for 16 bytes, each after the three before it.
 #[inline(always)]
-fn error_bits_of_16(window: &[u8]) -> u8x16
-    requires { 20 ≤ length window.now }
+fn error_bits_of_16(three: u8x16, two: u8x16, one: u8x16, byte: u8x16) -> u8x16
     ensures { (i : ℕ) → i < 16 → slice_index result i
-        ≡ error_bits (slice_index window.now (1 + i)) (slice_index window.now (2 + i))
-        (slice_index window.now (3 + i)) (slice_index window.now (4 + i)) }
+        ≡ error_bits (slice_index three i) (slice_index two i) (slice_index one i)
+        (slice_index byte i) }
 {
-    let pairs = pair_bits_of_16(load(window, 3), load(window, 4));
-    xor(pairs, continuation_due(load(window, 1), load(window, 2)))
+    let by_high = entries_of_16(FIRST_HIGH, high_halves(one));
+    let by_low = entries_of_16(FIRST_LOW, masked(one, 15));
+    let by_second = entries_of_16(SECOND_HIGH, high_halves(byte));
+    let pairs = and(and(by_high, by_low), by_second);
+    xor(pairs, continuation_due(three, two))
 }
 
 /// For each of the 64 bytes, 0 where a low surrogate begins directly after a high one.
@@ -153,5 +142,21 @@ pub(crate) fn allowed_in_step(window: &[u8]) -> usize
     ensures within { result ≤ 16 }
     ensures pattern { EachMayFollow Utf8 result window.now }
 {
-    leading_zero(error_bits_of_16(window)).min(STEP)
+    let (three, two) = (load(window, 1), load(window, 2));
+    let wrong = error_bits_of_16(three, two, load(window, 3), load(window, 4));
+    leading_zero(wrong).min(STEP)
+}
+
+/// The same of the first 16 bytes, with zeros before them.
+#[inline(always)]
+pub(crate) fn allowed_in_first_step(bytes: &[u8]) -> usize
+    requires { 16 ≤ length bytes.now }
+    ensures within { result ≤ 16 }
+    ensures pattern { EachMayFollow Utf8 result (with_zeros_before bytes.now) }
+{
+    let first = u8x16::from_slice(bytes);
+    let one = after_zero(first);
+    let two = after_zero(one);
+    let wrong = error_bits_of_16(after_zero(two), two, one, first);
+    leading_zero(wrong).min(STEP)
 }

@@ -1,7 +1,7 @@
 //! Operations on the lanes of a vector, each once.
 #![tactic(auto, using(crate::proofs::lemmas::vectors::Lanes::lane_with, crate::proofs::lemmas::vectors::Lanes::no_bit_of_both))]
 
-ghost use Rattle.std.specs.Prelude.{◌≡◌, ◌≢◌, ℕ, ◌+◌, ◌-◌, ◌*◌, ◌/◌, ◌≤◌, ◌<◌, length, IsTrue, slice_index, nat_eq, bit_and, bit_or, bit_xor};
+ghost use Rattle.std.specs.Prelude.{◌≡◌, ◌≢◌, ℕ, ◌∷◌, ◌+◌, ◌-◌, ◌*◌, ◌/◌, ◌≤◌, ◌<◌, length, IsTrue, slice_index, nat_eq, bit_and, bit_or, bit_xor};
 
 use std::simd::prelude::*;
 
@@ -71,6 +71,19 @@ pub fn above<const N: usize>(bytes: Simd<u8, N>, value: u8) -> Simd<u8, N>
     ensures { (i : ℕ) → i < N → slice_index result i ≡ slice_index bytes.entry i - value }
 {
     bytes.saturating_sub(Simd::splat(value))
+}
+
+/// The indices of 16 lanes from the last of 16 others on.
+const ONE_ON: [usize; 16] = [
+    15, 16, 17, 18, 19, 20, 21, 22, 23, 24, 25, 26, 27, 28, 29, 30,
+];
+
+/// The lanes one further on, after a zero. The last one goes.
+#[inline(always)]
+pub(crate) fn after_zero(lanes: u8x16) -> u8x16
+    ensures { (i : ℕ) → i < 16 → slice_index result i ≡ slice_index (0 ∷ lanes) i }
+{
+    u8x16::splat(0).shuffle(lanes, ONE_ON)
 }
 
 /// A table of 16 entries as [`entries`] has it: four copies.

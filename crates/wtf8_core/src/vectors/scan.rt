@@ -13,7 +13,7 @@ ghost use Rattle.wtf8_core.specs.Neighbours.{IsClosed};
 
 use crate::byte::is_continuation;
 use crate::vectors::ascii::{is_ascii_at, is_ascii_to_end};
-use crate::vectors::error_bits::{allowed_in_block, allowed_in_step};
+use crate::vectors::error_bits::{allowed_in_block, allowed_in_first_step, allowed_in_step};
 use crate::vectors::window::put_in_zeros;
 use crate::vectors::{BEFORE, BLOCK, Encoding, STEP};
 
@@ -189,8 +189,7 @@ fn len_of_few(bytes: &[u8]) -> usize
     STEP + allowed_in_step(second)
 }
 
-/// The same as [`scan_steps`] from the first byte on. The first step is one of a copy, with zeros
-/// before it.
+/// The same as [`scan_steps`] from the first byte on. The first step has zeros before it.
 #[inline(always)]
 fn scan_first_steps(bytes: &[u8]) -> Result<usize, usize>
     requires { 16 ≤ length bytes.now }
@@ -199,13 +198,11 @@ fn scan_first_steps(bytes: &[u8]) -> Result<usize, usize>
     ensures prefix { MatchResult result (λ end. KeepsPattern Utf8 bytes.now end)
         (λ prefix. IsEncodedPrefix Utf8 bytes.now prefix) }
 {
-    let mut window = [0; BEFORE + STEP];
-    put_in_zeros(&bytes[..STEP], &mut window, BEFORE);
-    let kept = allowed_in_step(&window);
+    let kept = allowed_in_first_step(bytes);
     if kept < STEP {
         return Err(start_before(bytes, kept));
     }
-    scan_steps(bytes, STEP)
+    scan_steps(bytes, kept)
 }
 
 /// Whether none of the last three bytes is the lead of a form that continues after the last byte.

@@ -86,3 +86,8 @@ pub none_passes_left_before : (t : ℕ → ℕ → Bool) (xs : List ℕ) (k y n 
 none_passes_left_before t xs k y n few p e i l h =
     none_before (t y) xs (omega (arith, few, p)) i (omega (arith, p, l)) (subst (λ m. i < m)
     (e ∙ ap (count_trailing_zeros 64) (rw (tops_compared w8 t (replicate k y) xs, zip2_splat_left t y k xs p) (mask_l-mod (map (t y) xs) 64 (omega (arith, length-map xs (t y), p, few))))) h)
+
+-- lanes that are those of a list, one further on, after a zero
+pub after_zero : (lanes xs ys : List ℕ) → ((i : ℕ) → i < 16 → get_or lanes i 0 ≡ get_or (0 ∷ xs) i 0) → ((i : ℕ) → i < 16 → get_or xs i 0 ≡ get_or ys i 0) → (i : ℕ) → i < 16 → get_or lanes i 0 ≡ get_or (0 ∷ ys) i 0
+after_zero lanes xs ys is same zero h = is zero h
+after_zero lanes xs ys is same (suc i) h = is (suc i) h ∙ same i (omega (arith, h))

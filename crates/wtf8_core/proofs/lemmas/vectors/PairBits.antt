@@ -1,5 +1,5 @@
 -- Bytes whose bits say that nothing is wrong may follow those before them.
-use Rattle.wtf8_core.proofs.Common.{nat_tests, common_steps, List, get_or, ◌≡◌, ◌≢◌, ◌⊎◌, inl, inr, ⊎_elim, ℕ, ◌+◌, ◌-◌, ◌*◌, ◌/◌, ◌^◌, max, ◌<◌, ◌≤◌, Bool, true, eqb, bit_and, bit_or, bit_xor, refl, sym, ap, ◌∙◌, arith, eq-eqb, cases_lt, bit_at, IsContinuation, MayFollow, MayFollowAll, EachMayFollow}
+use Rattle.wtf8_core.proofs.Common.{nat_tests, common_steps, List, get_or, ◌≡◌, ◌≢◌, ◌⊎◌, inl, inr, ⊎_elim, ℕ, suc, ◌+◌, ◌-◌, ◌*◌, ◌/◌, ◌^◌, max, ◌<◌, ◌≤◌, Bool, true, eqb, bit_and, bit_or, bit_xor, refl, sym, ap, ◌∙◌, arith, eq-eqb, cases_lt, bit_at, IsContinuation, MayFollow, MayFollowAll, EachMayFollow, with_zeros_before}
 use Rattle.std.proofs.lemmas.Nat.Bits.{and_pow, and_high_mask, bit_at_or}
 use Rattle.wtf8_core.specs.{PairBits.pair_bits, PairBits.continuation_due, PairBits.error_bits, PairBits.surrogate_pair_difference, declared.vectors.Encoding.Encoding, declared.vectors.Encoding.TheVariants.Utf8}
 use Rattle.wtf8_core.proofs.lemmas.vectors.ComputedTests.{fails}
@@ -133,3 +133,8 @@ module _ (s : Encoding) (n : ℕ) (ws wrong : List ℕ) (fits : (k : ℕ) → ge
 
   pub kept_by_zeros : ((i : ℕ) → i < n → get_or wrong i 0 ≡ 0) → EachMayFollow s n ws
   kept_by_zeros zeros = kept (λ i h. ap (λ n. bit_and n 0xBF) (zeros i h)) (λ i h. inl (zeros i h)) (λ _. zeros)
+
+-- bytes stay bytes after zeros
+pub zeros_fit : (bytes : List ℕ) → ((k : ℕ) → get_or bytes k 0 < 256) → (k : ℕ) → get_or (with_zeros_before bytes) k 0 < 256
+zeros_fit bytes fits (suc (suc (suc (suc k)))) = fits k
+zeros_fit bytes fits k = omega arith

@@ -158,6 +158,10 @@ module _ (encoding : Encoding) (bytes : List ℕ) where
           (pattern j (omega (arith, h, l, k.order, low)))) (cases_lt i (to - k.from));
     }
 
+  -- the bytes from the first one on, after zeros
+  pub first_step : (n : ℕ) → EachMayFollow encoding n (with_zeros_before bytes) → KeepsPattern encoding bytes n
+  first_step n pattern = record { from = 0; prefix = no_prefix encoding bytes; order = omega arith; pattern = λ i h. pattern i (omega (arith, h)) }
+
   -- a window that starts with them, after zeros
   pub more_from_start : (window : List ℕ) (n : ℕ) → ((i : ℕ) → i < 4 + n → get_or window i 0 ≡ get_or (with_zeros_before bytes) i 0) → EachMayFollow encoding n window → KeepsPattern encoding bytes n
   more_from_start window n same pattern =
@@ -292,11 +296,6 @@ pub zeros_before : (w bytes : List ℕ) → ((i : ℕ) → i < 4 → get_or w i 
 zeros_before w bytes before copy (suc (suc (suc (suc i)))) = let index : 4 + i ≡ suc (suc (suc (suc i))) = omega arith in ap (λ x. get_or w x 0) (sym index) ∙ copy i
 zeros_before w bytes before copy i = before i (omega arith)
 
--- and of the first 16 bytes
-pub window_from_start : (w bytes : List ℕ) → ((i : ℕ) → i < 4 → get_or w i 0 ≡ 0) → ((i : ℕ) → get_or w (4 + i) 0 ≡ get_or (take 16 bytes) i 0) → (i : ℕ) → i < 20 → get_or w i 0 ≡ get_or (with_zeros_before bytes) i 0
-window_from_start w bytes before copy (suc (suc (suc (suc i)))) h = zeros_before w (take 16 bytes) before copy (suc (suc (suc (suc i)))) ∙ get_or-take 16 bytes i 0 (omega (arith, h))
-window_from_start w bytes before copy i h = before i (omega arith)
-
 -- whether the code point at an edge is a high surrogate, by the bytes before it
 edge_high : (p x y z : ℕ) → IsBetweenCodePoints p x y z → x ≡ 0xED → is_in_range 0xA0 0xAF y ≡ is_high p
 edge_high p x y z edge e = grind (arith, nat_tests, common_steps, in_range-true, in_range, edge, not_in_range, in_range-false)
@@ -325,7 +324,7 @@ module _ (bytes : List ℕ) (at : ℕ) (f : IsEncodedPrefix Wtf8 bytes at) where
 
 pub ruleset texts = (text_of_prefix, whole_text, text_keeps, no_pattern)
 
-pub ruleset scanning = (no_pattern, no_prefix, more_inside, take_rest, near_start, other_lead, by_second)
+pub ruleset scanning = (no_pattern, first_step, no_prefix, more_inside, take_rest, near_start, other_lead, by_second)
 
 pub ruleset ends = (past_end, ascii_to_end)
 
