@@ -1,8 +1,7 @@
 -- From windows to the bytes: which prefix they give.
 use Rattle.wtf8_core.proofs.Common.{take_rest, take-length, nat_tests, common_steps, true, false, ◌≡◌, inl, inr, ◌⊎◌, ⊎_elim, ℕ, zero, suc, ◌+◌, ◌-◌, ◌<◌, ◌≤◌, List, [], ◌∷◌, ◌++◌, length, take, drop, get_or, refl, sym, ap, ◌∙◌, subst, arith, min, replicate, get_or-take, get_or-drop, get_or_append_left, get_or-append_right, get_or_past, length-append, length-take, length-take-le, length-drop, take_all, take-add, take-take, drop-drop, take-append-drop, cases_lt, and_from, AllByRecursion, IsScalar, low_scalar, scalars, IsUtf8, is_in_range, IsContinuation, is_high, Encodes, last_or, MayFollowAll, EachMayFollow, IsBetweenCodePoints, with_zeros_before, KeepsPattern, IsEncodedPrefix}
-use Rattle.std.proofs.lemmas.List.{take_more}
-use borrow.Rule.Slice.PartMut.{put_mid}
-use Rattle.wtf8_core.proofs.lemmas.{forms.Ranges.in_range, forms.Ranges.in_range-true, forms.Ranges.in_range-false, forms.Ranges.not_in_range, forms.Shapes.form_ascii, forms.ByStd.forms_encode, forms.Appending.all_joined, forms.Appending.encodes_joined, forms.Appending.encodes_more, forms.Cuts.all_parts, forms.Cuts.cut_before, forms.Cuts.encodes_parts, characters.Seams.scalars_are, texts.AreWtf8.text_encodes, buffers.Truncated.put_length, vectors.PairBits.same_five, vectors.ScannedIsEncoded.IsBetweenCodePointsAt, vectors.ScannedIsEncoded.edge_of_forms, vectors.ScannedIsEncoded.steps, vectors.ScannedIsEncoded.whole}
+use Rattle.std.proofs.lemmas.List.{take_more, places}
+use Rattle.wtf8_core.proofs.lemmas.{forms.Ranges.in_range, forms.Ranges.in_range-true, forms.Ranges.in_range-false, forms.Ranges.not_in_range, forms.Shapes.form_ascii, forms.ByStd.forms_encode, forms.Appending.all_joined, forms.Appending.encodes_joined, forms.Appending.encodes_more, forms.Cuts.all_parts, forms.Cuts.cut_before, forms.Cuts.encodes_parts, characters.Seams.scalars_are, texts.AreWtf8.text_encodes, vectors.PairBits.same_five, vectors.ScannedIsEncoded.IsBetweenCodePointsAt, vectors.ScannedIsEncoded.edge_of_forms, vectors.ScannedIsEncoded.steps, vectors.ScannedIsEncoded.whole}
 use Rattle.wtf8_core.specs.{Neighbours.IsClosed, declared.vectors.Encoding.Encoding, declared.vectors.Encoding.TheVariants.Utf8, declared.vectors.Encoding.TheVariants.Wtf8}
 
 -- where a prefix that encodes code points ends, the next code point begins
@@ -224,53 +223,6 @@ pub zeros : (n i : ℕ) → ◌≡◌ {A = ℕ} (get_or (replicate n 0) i 0) 0
 zeros (suc n) (suc i) = zeros n i
 zeros n i = refl
 
--- a list has the items that f gives, if a part is written over it that has them, and the others are those of the list before
-put_items : (f : ℕ → ℕ) (a n : ℕ) (xs part : List ℕ) → a + n ≤ length xs → length part ≡ n → ((i : ℕ) → i < n → get_or part i 0 ≡ f (a + i))
-    → (i : ℕ) → ((i < a) ⊎ (a + n ≤ i) → get_or xs i 0 ≡ f i) → get_or (put_mid a n xs part) i 0 ≡ f i
-put_items f a n xs part room many written i kept =
-    let prefix : List ℕ = take a xs in
-    let post : List ℕ = drop n (drop a xs) in
-    let size : length prefix ≡ a = length-take-le a xs (omega (arith, room)) in
-    ⊎_elim
-    (λ l. get_or_append_left prefix (part ++ post) 0 i (omega (arith, size, l)) ∙ get_or-take a xs i 0 l ∙ kept (inl l))
-    (λ l. get_or-append_right prefix (part ++ post) a i 0 size l ∙ ⊎_elim
-    (λ m. let index : a + (i - a) ≡ i = omega (arith, l) in get_or_append_left part post 0 (i - a) (omega (arith, many, m)) ∙ written (i - a) m ∙ ap f index)
-    (λ m. let index : a + (n + (i - a - n)) ≡ i = omega (arith, l, m) in
-    get_or-append_right part post n (i - a) 0 many m
-    ∙ get_or-drop n (drop a xs) (i - a - n) 0
-    ∙ get_or-drop a xs (n + (i - a - n)) 0
-    ∙ ap (λ k. get_or xs k 0) index
-    ∙ kept (inr (omega (arith, l, m))))
-    (cases_lt (i - a) n))
-    (cases_lt i a)
-
--- zeros over which the first n bytes and the last n, which are all of them, are written
-module _ (window bytes : List ℕ) (from n last m k : ℕ) (first part : List ℕ) (zero_at : (i : ℕ) → get_or window i 0 ≡ 0) (room : from + length bytes ≤ length window)
-    (all : last + n ≡ length bytes) (over : last ≤ n) (m_is : m ≡ n) (k_is : k ≡ n) (is_first : first ≡ take n bytes) (is_last : part ≡ drop last bytes) where
-  pub ends_copied : (i : ℕ) → get_or (put_mid (from + last) k (put_mid from m window first) part) (from + i) 0 ≡ get_or bytes i 0
-  ends_copied i =
-      let f : ℕ → ℕ = λ j. get_or bytes (j - from) 0 in
-      let back : (j : ℕ) → f (from + j) ≡ get_or bytes j 0 = λ j. let index : from + j - from ≡ j = omega arith in ap (λ x. get_or bytes x 0) index in
-      let size : length first ≡ m = ap length is_first ∙ length-take-le n bytes (omega (arith, all)) ∙ sym m_is in
-      let past : last + n ≤ i → get_or window (from + i) 0 ≡ f (from + i) = λ b. zero_at (from + i) ∙ sym (back i ∙ get_or_past bytes i 0 (omega (arith, b, all))) in
-      put_items f (from + last) k (put_mid from m window first) part (omega (arith, put_length from m window first (omega (arith, room, all, m_is)) size, room, all, k_is))
-      (ap length is_last ∙ length-drop last bytes ∙ omega (arith, all, k_is))
-      (λ j l. let index : last + j ≡ from + last + j - from = omega arith in ap (λ x. get_or x j 0) is_last ∙ get_or-drop last bytes j 0 ∙ ap (λ x. get_or bytes x 0) index)
-      (from + i) (λ o. put_items f from m window first (omega (arith, room, all, m_is)) size
-      (λ j l. ap (λ x. get_or x j 0) is_first ∙ get_or-take n bytes j 0 (omega (arith, l, m_is)) ∙ sym (back j))
-      (from + i) (λ q. past (⊎_elim (λ l. absurd (omega (arith, l))) (λ l. ⊎_elim (λ b. absurd (omega (arith, l, b, over, m_is))) (λ b. omega (arith, b, k_is)) o) q)))
-      ∙ back i
-
--- zeros over which all bytes are written at once
-pub all_copied : (window bytes : List ℕ) (from m : ℕ) (part : List ℕ) → ((i : ℕ) → get_or window i 0 ≡ 0) → from + length bytes ≤ length window → m ≡ length bytes → part ≡ bytes
-    → (i : ℕ) → get_or (put_mid from m window part) (from + i) 0 ≡ get_or bytes i 0
-all_copied window bytes from m part zero_at room m_is is i =
-    let f : ℕ → ℕ = λ j. get_or bytes (j - from) 0 in
-    let back : (j : ℕ) → f (from + j) ≡ get_or bytes j 0 = λ j. let index : from + j - from ≡ j = omega arith in ap (λ x. get_or bytes x 0) index in
-    put_items f from m window part (omega (arith, room, m_is)) (ap length is ∙ sym m_is) (λ j l. ap (λ x. get_or x j 0) is ∙ sym (back j))
-    (from + i) (λ q. zero_at (from + i) ∙ sym (back i ∙ get_or_past bytes i 0 (⊎_elim (λ l. absurd (omega (arith, l))) (λ l. omega (arith, l, m_is)) q)))
-    ∙ back i
-
 -- what is copied from the first byte of a window on
 pub from_start : (w bytes : List ℕ) → ((i : ℕ) → get_or w (0 + i) 0 ≡ get_or bytes i 0) → (i : ℕ) → get_or w i 0 ≡ get_or bytes i 0
 from_start w bytes copy i = let index : 0 + i ≡ i = omega arith in ap (λ x. get_or w x 0) (sym index) ∙ copy i
@@ -330,6 +282,6 @@ pub ruleset ends = (past_end, ascii_to_end)
 
 pub ruleset first_ascii = (no_prefix, prefix_keeps, more_ascii)
 
-pub ruleset copies = (ends_copied, all_copied, take_rest)
+pub ruleset copies = (places, take_rest)
 
 pub ruleset whole_prefixes = (text_prefix, take-length)
