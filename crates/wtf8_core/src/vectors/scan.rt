@@ -101,6 +101,12 @@ pub(crate) fn scan_steps(bytes: &[u8], at: usize) -> Result<usize, usize>
         (λ prefix. IsEncodedPrefix Utf8 bytes.now prefix) }
 {
     let mut end = at;
+    if at < BEFORE && bytes.len() >= STEP {
+        end = allowed_in_first_step(bytes);
+        if end < STEP {
+            return Err(start_before(bytes, end));
+        }
+    }
     for _ in 0..8 {
         if end < BEFORE || bytes.len() - end < STEP {
             return Ok(end);
@@ -159,12 +165,7 @@ pub(crate) fn scan_short(bytes: &[u8], at: usize) -> usize
         }
         return start_before(bytes, kept);
     }
-    let read = if at < BEFORE {
-        scan_first_steps(bytes)
-    } else {
-        scan_steps(bytes, at)
-    };
-    match read {
+    match scan_steps(bytes, at) {
         Ok(end) if ends_by_step(bytes, end) => bytes.len(),
         Ok(end) => start_before(bytes, end),
         Err(prefix) => prefix,
@@ -187,22 +188,6 @@ fn len_of_few(bytes: &[u8]) -> usize
     }
     let (_, second) = window.split_at(STEP);
     STEP + allowed_in_step(second)
-}
-
-/// The same as [`scan_steps`] from the first byte on. The first step has zeros before it.
-#[inline(always)]
-fn scan_first_steps(bytes: &[u8]) -> Result<usize, usize>
-    requires { 16 ≤ length bytes.now }
-    ensures within { MatchResult result (λ end. end ≤ length bytes.now)
-        (λ prefix. prefix ≤ length bytes.now) }
-    ensures prefix { MatchResult result (λ end. KeepsPattern Utf8 bytes.now end)
-        (λ prefix. IsEncodedPrefix Utf8 bytes.now prefix) }
-{
-    let kept = allowed_in_first_step(bytes);
-    if kept < STEP {
-        return Err(start_before(bytes, kept));
-    }
-    scan_steps(bytes, kept)
 }
 
 /// Whether none of the last three bytes is the lead of a form that continues after the last byte.

@@ -1,5 +1,5 @@
 -- Bytes whose bits say that nothing is wrong may follow those before them.
-use Rattle.wtf8_core.proofs.Common.{nat_tests, common_steps, List, get_or, ◌≡◌, ◌≢◌, ◌⊎◌, inl, inr, ⊎_elim, ℕ, suc, ◌+◌, ◌-◌, ◌*◌, ◌/◌, ◌^◌, max, ◌<◌, ◌≤◌, Bool, true, eqb, bit_and, bit_or, bit_xor, refl, sym, ap, ◌∙◌, arith, eq-eqb, cases_lt, bit_at, IsContinuation, MayFollow, MayFollowAll, EachMayFollow, with_zeros_before}
+use Rattle.wtf8_core.proofs.Common.{nat_tests, common_steps, List, get_or, ◌≡◌, ◌≢◌, ◌⊎◌, inl, inr, ⊎_elim, ℕ, suc, ◌+◌, ◌-◌, ◌*◌, ◌/◌, ◌^◌, max, min, ◌<◌, ◌≤◌, Bool, true, eqb, bit_and, bit_or, bit_xor, refl, sym, ap, ◌∙◌, arith, eq-eqb, cases_lt, bit_at, IsContinuation, MayFollow, MayFollowAll, EachMayFollow, with_zeros_before}
 use Rattle.std.proofs.lemmas.Nat.Bits.{and_pow, and_high_mask, bit_at_or}
 use Rattle.wtf8_core.specs.{PairBits.pair_bits, PairBits.continuation_due, PairBits.error_bits, PairBits.surrogate_pair_difference, declared.vectors.Encoding.Encoding, declared.vectors.Encoding.TheVariants.Utf8}
 use Rattle.wtf8_core.proofs.lemmas.vectors.ComputedTests.{fails}
@@ -138,3 +138,14 @@ module _ (s : Encoding) (n : ℕ) (ws wrong : List ℕ) (fits : (k : ℕ) → ge
 pub zeros_fit : (bytes : List ℕ) → ((k : ℕ) → get_or bytes k 0 < 256) → (k : ℕ) → get_or (with_zeros_before bytes) k 0 < 256
 zeros_fit bytes fits (suc (suc (suc (suc k)))) = fits k
 zeros_fit bytes fits k = omega arith
+
+-- what is wrong with each of 16 bytes, if vectors have it by those bytes and the three before each, up to the first lane that isn't 0
+pub kept_of_16 : (ws wrong three two one byte : List ℕ) (n m : ℕ) → ((k : ℕ) → get_or ws k 0 < 256)
+    → ((i : ℕ) → i < 16 → get_or wrong i 0 ≡ error_bits (get_or three i 0) (get_or two i 0) (get_or one i 0) (get_or byte i 0))
+    → ((i : ℕ) → i < 16 → get_or three i 0 ≡ get_or ws (1 + i) 0) → ((i : ℕ) → i < 16 → get_or two i 0 ≡ get_or ws (2 + i) 0)
+    → ((i : ℕ) → i < 16 → get_or one i 0 ≡ get_or ws (3 + i) 0) → ((i : ℕ) → i < 16 → get_or byte i 0 ≡ get_or ws (4 + i) 0)
+    → n ≡ min m 16 → ((i : ℕ) → i < m → i < 16 → get_or wrong i 0 ≡ 0) → EachMayFollow Utf8 n ws
+kept_of_16 ws wrong three two one byte n m fits bits at_three at_two at_one at_byte n_is clear =
+    kept_by_zeros Utf8 n ws wrong fits
+    (λ i h. let l : i < 16 = omega (arith, h, n_is) in rw (bits i l, at_three i l, at_two i l, at_one i l, at_byte i l) refl)
+    (λ i h. clear i (omega (arith, h, n_is)) (omega (arith, h, n_is)))
