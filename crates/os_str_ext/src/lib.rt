@@ -35,7 +35,6 @@ pub mod search_laws;
 mod slice_index;
 pub mod symbol_laws;
 mod symbols;
-mod window;
 
 pub use chunks::Utf8Chunks;
 pub use ext::OsStrBytesExt;

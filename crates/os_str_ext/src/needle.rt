@@ -1,12 +1,12 @@
 //! The first and the last occurrence of a needle. The searches themselves are those of `memchr`.
-ghost use Rattle.std.specs.Prelude.{◌≡◌, ◌↔◌, ◌+◌, ◌-◌, ◌≤◌, ℕ, List, IsTrue, IfSome, MatchOption, length};
+ghost use Rattle.std.specs.Prelude.{◌≡◌, ◌↔◌, ◌+◌, ◌-◌, ◌≤◌, ℕ, List, IsTrue, IfSome, MatchOption, length, slice_index};
 ghost use Rattle.memchr.specs.Find.{FindsNeedle, FindsLastNeedle, IsFirstByte, NoneBefore, Nowhere, OccursAt as NeedleOccursAt, is_byte};
 ghost use Rattle.memchr.specs.Pairs.{IsPairFinderOf, IsPairOf};
 
 use crate::compare::are_same;
-use crate::window::{WINDOW, copied};
 use memchr::arch::all::packedpair::{Finder, Pair};
 use memchr::{memchr_iter, memmem, memrchr};
+use wtf8_core::vectors::window::put_in_zeros;
 
 /// The longest needle that is searched for by two of its bytes, or by its last byte alone.
 const LONGEST: usize = 32;
@@ -16,6 +16,12 @@ const SHORT: usize = 160;
 
 /// The same for a needle of two bytes, which occurs wherever they do.
 const SHORT_FOR_TWO: usize = 1024;
+
+/// With so many bytes a search for two of them that are up to three apart reads whole vectors.
+const ENOUGH: usize = 35;
+
+/// The length of a copy of fewer, with zeros after them.
+const WINDOW: usize = 64;
 
 /// The index of the first occurrence of a needle; a needle of one byte is searched for as a byte.
 #[inline(always)]
@@ -123,6 +129,20 @@ fn first_in_short(bytes: &[u8], needle: &[u8]) -> Option<usize>
     let finder = Finder::with_pair(needle, pair);
     let mut window = [0; WINDOW];
     first_in_copy(&finder, bytes, copied(bytes, &mut window), needle)
+}
+
+/// A copy of the bytes in the window, with zeros after them, or the bytes themselves if they are
+/// enough.
+#[inline(always)]
+fn copied<'a>(bytes: &'a [u8], window: &'a mut [u8; WINDOW]) -> &'a [u8]
+    requires { (i : ℕ) → slice_index window.old i ≡ 0 }
+    ensures { NeedleOccursAt result.now bytes.now 0 }
+{
+    if ENOUGH <= bytes.len() {
+        return bytes;
+    }
+    put_in_zeros(bytes, window, 0);
+    window
 }
 
 /// Two bytes of a needle. Of more than two bytes the first isn't one of them: that is often a
