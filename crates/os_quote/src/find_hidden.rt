@@ -26,7 +26,6 @@ pub(crate) fn split_hidden(text: &str) -> Option<(&str, char, &str)>
 
 /// The character of ASCII at the start that is written as a token, and what comes after it: where one
 /// token follows another, no search is begun.
-#[inline(always)]
 fn hidden_start(text: &str) -> Option<(char, &str)>
     ensures { IfSome result (λ start. IsCutAtToken stays_on_line text.now [] start.0 start.1.now) }
 {
@@ -152,7 +151,6 @@ fn later_suspect(bytes: &[u8], from: usize) -> Option<usize>
 
 /// How many bytes from an index on aren't suspects, as far as one block says. The last byte of all
 /// isn't among them.
-#[inline(always)]
 fn clear_from(bytes: &[u8], at: usize) -> usize
     requires { at < length bytes.now }
     ensures within { at + result < length bytes.now }
@@ -167,7 +165,6 @@ fn clear_from(bytes: &[u8], at: usize) -> usize
 
 /// How many bytes from an index on aren't suspects, as far as a copy of them says, with zeros after it.
 /// A copy is made if they are few, but not so few that they are looked at as soon one by one.
-#[inline(always)]
 fn clear_of_short(bytes: &[u8], from: usize) -> usize
     requires { from ≤ length bytes.now }
     ensures within { from + result ≤ length bytes.now }
@@ -183,7 +180,6 @@ fn clear_of_short(bytes: &[u8], from: usize) -> usize
 }
 
 /// The byte at an index, or 0 after the last.
-#[inline(always)]
 fn byte_at(bytes: &[u8], index: usize) -> u8
     ensures { result ≡ slice_index bytes.now index }
 {

@@ -38,7 +38,6 @@ pub(crate) fn clear_len(bytes: &[u8]) -> usize
 }
 
 /// The kinds of characters that each byte may begin.
-#[inline(always)]
 fn kind_bits(lanes: u8x64) -> u8x64
     ensures { (i : ℕ) → i < 64 → slice_index result i ≡ kind_bits (slice_index lanes i) }
 {
@@ -46,7 +45,6 @@ fn kind_bits(lanes: u8x64) -> u8x64
 }
 
 /// The kinds of characters that may have each byte second.
-#[inline(always)]
 fn second_bits(lanes: u8x64) -> u8x64
     ensures { (i : ℕ) → i < 64 → slice_index result i ≡ second_bits (slice_index lanes i) }
 {
@@ -54,7 +52,6 @@ fn second_bits(lanes: u8x64) -> u8x64
 }
 
 /// The kinds of characters that may have each byte third.
-#[inline(always)]
 fn third_bits(lanes: u8x64) -> u8x64
     ensures { (i : ℕ) → i < 64 → slice_index result i ≡ third_bits (slice_index lanes i) }
 {

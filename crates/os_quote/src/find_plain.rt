@@ -103,7 +103,6 @@ fn end_by_bytes(bytes: &[u8], from: usize) -> usize
 
 /// How many of the next 16 bytes are plain before the first that isn't.
 #[tactic(auto, using(crate::proofs::lemmas::PlainLanes::plain_lane))]
-#[inline(always)]
 fn lanes_len(bytes: &[u8], at: usize) -> usize
     requires { at + 16 ≤ length bytes.now }
     ensures within { result ≤ 16 }
@@ -120,7 +119,6 @@ fn lanes_len(bytes: &[u8], at: usize) -> usize
 }
 
 /// Whether a byte is plain.
-#[inline(always)]
 fn is_plain(byte: u8) -> bool
     ensures { IsTrue result → IsPlain byte }
 {
@@ -129,7 +127,6 @@ fn is_plain(byte: u8) -> bool
 
 /// Whether the next 64 bytes are plain. The least and the greatest of four lanes tell whether all four
 /// are printable, and the least difference from a backslash, bit by bit, whether one of them is one.
-#[inline(always)]
 fn is_plain_block(bytes: &[u8], at: usize) -> bool
     requires { at + 64 ≤ length bytes.now }
     ensures { IsTrue result → (i : ℕ) → i < 64 → IsPlain (slice_index bytes.now (at + i)) }
@@ -150,7 +147,6 @@ fn is_plain_block(bytes: &[u8], at: usize) -> bool
 }
 
 /// The lesser of each two lanes.
-#[inline(always)]
 fn least(a: u8x16, b: u8x16) -> u8x16
     ensures first { (i : ℕ) → i < 16 → slice_index result i ≤ slice_index a i }
     ensures second { (i : ℕ) → i < 16 → slice_index result i ≤ slice_index b i }
@@ -159,7 +155,6 @@ fn least(a: u8x16, b: u8x16) -> u8x16
 }
 
 /// The greater of each two lanes.
-#[inline(always)]
 fn greatest(a: u8x16, b: u8x16) -> u8x16
     ensures first { (i : ℕ) → i < 16 → slice_index a i ≤ slice_index result i }
     ensures second { (i : ℕ) → i < 16 → slice_index b i ≤ slice_index result i }
@@ -169,7 +164,6 @@ fn greatest(a: u8x16, b: u8x16) -> u8x16
 
 /// Whether no lane is below a value.
 #[tactic(auto, using(crate::proofs::lemmas::PlainLanes::none_below))]
-#[inline(always)]
 fn are_at_least(lanes: u8x16, value: u8) -> bool
     ensures { IsTrue result → (i : ℕ) → i < 16 → value ≤ slice_index lanes i }
 {
@@ -177,7 +171,6 @@ fn are_at_least(lanes: u8x16, value: u8) -> bool
 }
 
 /// Whether no lane is above a value.
-#[inline(always)]
 fn are_at_most(lanes: u8x16, value: u8) -> bool
     ensures { IsTrue result → (i : ℕ) → i < 16 → slice_index lanes i ≤ value }
 {
@@ -185,7 +178,6 @@ fn are_at_most(lanes: u8x16, value: u8) -> bool
 }
 
 /// How many lanes aren't below a value before the first that is.
-#[inline(always)]
 fn lanes_from(lanes: u8x16, value: u8) -> usize
     ensures { (i : ℕ) → i < result → i < 16 → value ≤ slice_index lanes i }
 {
@@ -196,7 +188,6 @@ fn lanes_from(lanes: u8x16, value: u8) -> usize
 }
 
 /// How many lanes aren't above a value before the first that is.
-#[inline(always)]
 fn lanes_up_to(lanes: u8x16, value: u8) -> usize
     ensures { (i : ℕ) → i < result → i < 16 → slice_index lanes i ≤ value }
 {

@@ -64,7 +64,6 @@ pub(crate) fn is_suspect(first: u8, second: u8, third: u8) -> bool
 }
 
 /// The kinds of characters that may have a byte third.
-#[inline(always)]
 fn third_bits(byte: u8) -> u8
     ensures { result ≡ third_bits byte }
 {
@@ -72,7 +71,6 @@ fn third_bits(byte: u8) -> u8
 }
 
 /// The bits of a byte by tables of its halves.
-#[inline(always)]
 fn bits(high: [u8; 64], low: [u8; 64], byte: u8) -> u8
     ensures { result ≡ byte_bits high low byte }
 {
