@@ -197,11 +197,12 @@ fn write_shown<E: Platform>(
     ensures read { AreReadBy (shown_by form) E.well_formed E.units escape.now buffer.old
         buffer.new result }
 {
-    let Some(text) = text(escape) else {
+    if !is_utf8(escape) {
         return None;
-    };
+    }
+    let text = unsafe { str::from_utf8_unchecked(escape) };
     match form {
-        Form::Text => Some(Ok(push_truncated(buffer, 0, text.as_bytes()))),
+        Form::Text => Some(Ok(push_truncated(buffer, 0, escape))),
         Form::Line => Some(write_unescaped_line::<E>(text, buffer)),
     }
 }
@@ -226,19 +227,5 @@ fn write_tokens<E: Platform>(
         }
         Err(_) => {}
     }
-    match text(escape) {
-        Some(_) => Some(read),
-        None => None,
-    }
-}
-
-/// The text that the bytes are, `None` where they aren't UTF-8.
-fn text(bytes: &[u8]) -> Option<&str>
-    ensures { MatchOption result (¬ (IsUtf8 bytes.now)) (λ text. text.now ≡ bytes.now) }
-{
-    if is_utf8(bytes) {
-        Some(unsafe { str::from_utf8_unchecked(bytes) })
-    } else {
-        None
-    }
+    if is_utf8(escape) { Some(read) } else { None }
 }
