@@ -34,7 +34,9 @@ fn are_same_few(a: &[u8], b: &[u8]) -> bool
     match (a, b) {
         ([x], [u]) => x == u,
         ([x, y], [u, v]) => u16::from_le_bytes([*x, *y]) == u16::from_le_bytes([*u, *v]),
-        ([x, y, z], [u, v, w]) => (x == u) & (y == v) & (z == w),
+        ([x, y, z], [u, v, w]) => {
+            (u16::from_le_bytes([*x, *y]) == u16::from_le_bytes([*u, *v])) & (z == w)
+        }
         _ => true,
     }
 }
