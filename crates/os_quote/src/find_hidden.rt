@@ -44,6 +44,9 @@ fn split_after_plain(text: &str) -> Option<(&str, char, &str)>
         (λ parts. IsCutAtToken stays_on_line text.now parts.0.now parts.1 parts.2.now) }
 {
     let at = plain_len(text.as_bytes());
+    if at == text.len() {
+        return None;
+    }
     let rest = &text[at..];
     if let Some((character, following)) = hidden_start(rest) {
         return Some((&text[..at], character, following));

@@ -1,4 +1,4 @@
-use Rattle.os_quote.proofs.Common.{◌≡◌, ◌++◌, ℕ, List, take, drop, sym, ap, ◌∙◌, subst, take-append-drop, sub-zero, IsCharBoundary, IsCharBoundary-from_take, IsUtf8, IsPlainUpTo, AreUnchanged, stays_on_line}
+use Rattle.os_quote.proofs.Common.{◌≡◌, ◌++◌, ℕ, List, take, drop, sym, ap, ◌∙◌, subst, arith, take-append-drop, sub-zero, take_all, IsCharBoundary, IsCharBoundary-from_take, IsUtf8, IsPlainUpTo, AreUnchanged, stays_on_line}
 use Rattle.os_quote.specs.declared.form.Form.TheVariants.{Line}
 use Rattle.os_quote.proofs.lemmas.PlainBytes.{plain_prefix, plain_is_text, plain_unchanged}
 use Rattle.os_quote.proofs.find_hidden.split_after_plain.Goals as goal
@@ -8,6 +8,9 @@ at_boundary text bytes n u e up =
     let up_to = subst (λ x. IsPlainUpTo x n) e up in
     let plain = plain_prefix text n up_to.plain in
     (IsCharBoundary-from_take text n u up_to.within (plain_is_text (take n text) plain), plain_unchanged Line (take n text) plain)
+
+pub returns-then-at-text : goal.returns-then-at-text
+returns-then-at-text c = subst (AreUnchanged stays_on_line) (take_all _ _ (omega (arith, c.if-at-text.true))) (at_boundary c.args.text.now _ _ c.utf8.text c.as_bytes.ensures.value c.plain_len-at.ensures).1
 
 pub range_from-rest-requires : goal.range_from-rest-requires
 range_from-rest-requires c _ = (at_boundary c.args.text.now _ _ c.utf8.text c.as_bytes.ensures.value c.plain_len-at.ensures).0
