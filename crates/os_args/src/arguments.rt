@@ -1,5 +1,5 @@
 //! The words of a command line, taken step by step.
-ghost use Rattle.std.specs.Prelude.{◌≡◌, ◌≢◌, [], None, map, false};
+ghost use Rattle.std.specs.Prelude.{◌≡◌, ◌≢◌, [], None, Ok, map, false};
 ghost use Rattle.std.specs.Option.{option_map};
 ghost use Rattle.platform_str.specs.Strings.{bytes};
 ghost use Rattle.os_args.specs.Kinds.{kind_of};
@@ -135,25 +135,31 @@ impl<'s, 'a, E: Platform> Arguments<'s, 'a, E> {
         ensures { TakesWord (reading self.old) (outcome_of (λ read. option_map kind_of read) result)
             (reading self.new) }
     {
+        if self.pending.is_empty() {
+            return Ok(self.next_word());
+        }
         if let Some(value) = self.pending.strip_prefix("=") {
             self.pending = OsStr::new("");
             return Err(ArgumentError::UnexpectedValue(self.last, value));
         }
-        if !self.pending.is_empty() {
-            let (flag, rest) = read_flag(self.pending);
-            self.pending = rest;
-            self.last = last_option(self.last, flag);
-            return Ok(Some(flag));
-        }
+        let (flag, rest) = read_flag(self.pending);
+        self.pending = rest;
+        self.last = last_option(self.last, flag);
+        Ok(Some(flag))
+    }
+
+    /// Takes what the next word begins with, where nothing is left of the last one.
+    fn next_word(&mut self) -> Option<Word<'a, OsStr<'a, E>>>
+        requires { bytes self.old.pending ≡ [] }
+        ensures { TakesWord (reading self.old) (Ok (option_map kind_of result)) (reading self.new) }
+    {
         self.skip_dashes();
-        let Some(word) = first_after(self.words, self.index) else {
-            return Ok(None);
-        };
+        let word = first_after(self.words, self.index)?;
         let (read, rest) = read_in(self.ended, self.numbers, word);
         self.index += 1;
         self.pending = rest;
         self.last = last_option(self.last, read);
-        Ok(Some(read))
+        Some(read)
     }
 
     /// Skips `--` where it is the next word and ends the options.
