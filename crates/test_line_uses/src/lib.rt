@@ -1,4 +1,4 @@
-//! For trying: what a user of patterns, arguments and command lines concludes from the public
+//! For trying: what a user of patterns, classes, arguments and command lines concludes from the public
 //! contracts alone.
 //!
 //! Each function is a caller whose contract is such a conclusion. Nothing here cites a lemma
@@ -7,6 +7,7 @@
 #![tactic(auto)]
 
 pub mod arguments;
+pub mod classes;
 pub mod command_lines;
 pub mod errors;
 pub mod patterns;

@@ -1,0 +1,34 @@
+//! Classes of letters.
+ghost use Rattle.std.specs.Prelude.{◌≡◌, ◌∷◌, [], IfOk, not};
+ghost use Rattle.std.specs.Int.{is_in_range};
+
+use std::alloc::{AllocError, Global};
+use wildcards::{Class, Range};
+
+/// Whether a letter is a digit of ASCII.
+pub fn is_digit(alloc: Global, letter: u32) -> Result<bool, AllocError>
+    ensures { IfOk result (λ is. is ≡ is_in_range 0x30 0x39 letter) }
+{
+    let digits = digits(alloc)?;
+    Ok(Class::new(alloc, false, digits)?.permits(letter))
+}
+
+/// Whether it is none.
+pub fn is_no_digit(alloc: Global, letter: u32) -> Result<bool, AllocError>
+    ensures { IfOk result (λ is. is ≡ not (is_in_range 0x30 0x39 letter)) }
+{
+    let digits = digits(alloc)?;
+    Ok(Class::new(alloc, true, digits)?.permits(letter))
+}
+
+/// The one range of digits.
+fn digits(alloc: Global) -> Result<Vec<Range>, AllocError>
+    ensures { IfOk result (λ ranges. ranges.items ≡ record { first = 0x30; last = 0x39 } ∷ []) }
+{
+    let mut ranges = Vec::new(alloc);
+    ranges.push(Range {
+        first: 0x30,
+        last: 0x39,
+    })?;
+    Ok(ranges)
+}
