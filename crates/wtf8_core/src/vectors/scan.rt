@@ -148,9 +148,10 @@ pub(crate) fn ends_by_step(bytes: &[u8], at: usize) -> bool
 }
 
 /// The length of a prefix of few bytes, which keep to the pattern of UTF-8 up to index `at`, that is
-/// UTF-8: all the bytes, or some that end where the next character begins.
+/// UTF-8: all the bytes, or some that end where the next character begins. It is kept out of what
+/// asks for ASCII before, which is faster without it.
 #[tactic(auto, using(crate::proofs::lemmas::vectors::Windows::ends))]
-#[inline(always)]
+#[inline(never)]
 pub(crate) fn scan_short(bytes: &[u8], at: usize) -> usize
     requires from { 4 ≤ length bytes.now }
     requires within { at ≤ length bytes.now }
