@@ -184,7 +184,7 @@ fn len_of_few(bytes: &[u8]) -> usize
     let mut window = [0; BEFORE + 2 * STEP];
     put_in_zeros(bytes, &mut window, BEFORE);
     let kept = allowed_in_step(&window);
-    if kept < STEP || kept > bytes.len() {
+    if bytes.len() < STEP || kept < STEP {
         return kept;
     }
     let (_, second) = window.split_at(STEP);

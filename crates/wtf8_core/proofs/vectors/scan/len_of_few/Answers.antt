@@ -6,8 +6,8 @@ use Rattle.wtf8_core.proofs.vectors.scan.len_of_few.Goals as goal
 pub put_in_zeros-requires-clause-zeros : goal.put_in_zeros-requires-clause-zeros
 put_in_zeros-requires-clause-zeros c = zeros 36
 
-pub returns-then-kept-lt-STEP : goal.returns-then-kept-lt-STEP
-returns-then-kept-lt-STEP c = search (rules, common_steps, more_from_start, zeros_before)
+pub returns-then-bytes-lt-STEP : goal.returns-then-bytes-lt-STEP
+returns-then-bytes-lt-STEP c = search (rules, common_steps, more_from_start, zeros_before)
 
 pub returns : goal.returns
 returns c =
