@@ -35,7 +35,7 @@ fn are_same_few(a: &[u8], b: &[u8]) -> bool
         ([x], [u]) => x == u,
         ([x, y], [u, v]) => u16::from_le_bytes([*x, *y]) == u16::from_le_bytes([*u, *v]),
         ([x, y, z], [u, v, w]) => {
-            (u16::from_le_bytes([*x, *y]) == u16::from_le_bytes([*u, *v])) & (z == w)
+            u32::from_le_bytes([*x, *y, *z, 0]) == u32::from_le_bytes([*u, *v, *w, 0])
         }
         _ => true,
     }
