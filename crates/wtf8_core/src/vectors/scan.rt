@@ -90,7 +90,8 @@ fn scan_blocks(bytes: &[u8], at: usize, encoding: Encoding) -> usize
 
 /// Up to which index bytes keep to the pattern of UTF-8, which they do up to `at`: `Ok` with that
 /// index after at most eight steps of 16 bytes, or, if a byte of a step doesn't, `Err` with the
-/// length of a prefix that is UTF-8.
+/// length of a prefix that is UTF-8. From an index before 4 on, one more step comes first, of the
+/// first 16 bytes.
 #[inline(always)]
 pub(crate) fn scan_steps(bytes: &[u8], at: usize) -> Result<usize, usize>
     requires within { at ≤ length bytes.now }
