@@ -129,6 +129,7 @@ impl<'s, 'a, E: Platform> Arguments<'s, 'a, E> {
     /// assert!(rt; arguments.next().is_err());
     /// assert!(rt; matches!(arguments.next(), Ok(Some(Word::Value(_)))));
     /// ```
+    #[inline(always)]
     pub fn next(
         &mut self,
     ) -> Result<Option<Word<'a, OsStr<'a, E>>>, ArgumentError<'a, OsStr<'a, E>>>
