@@ -74,7 +74,7 @@ pub fn above<const N: usize>(bytes: Simd<u8, N>, value: u8) -> Simd<u8, N>
 }
 
 /// The indices of 16 lanes from the last of 16 others on.
-const ONE_ON: [usize; 16] = [
+const FROM_LANE_15: [usize; 16] = [
     15, 16, 17, 18, 19, 20, 21, 22, 23, 24, 25, 26, 27, 28, 29, 30,
 ];
 
@@ -83,7 +83,7 @@ const ONE_ON: [usize; 16] = [
 pub(crate) fn after_zero(lanes: u8x16) -> u8x16
     ensures { (i : ℕ) → i < 16 → slice_index result i ≡ slice_index (0 ∷ lanes) i }
 {
-    u8x16::splat(0).shuffle(lanes, ONE_ON)
+    u8x16::splat(0).shuffle(lanes, FROM_LANE_15)
 }
 
 /// A table of 16 entries as [`entries`] has it: four copies.

@@ -149,10 +149,9 @@ pub(crate) fn ends_by_step(bytes: &[u8], at: usize) -> bool
 }
 
 /// The length of a prefix of few bytes, which keep to the pattern of UTF-8 up to index `at`, that is
-/// UTF-8: all the bytes, or some that end where the next character begins. It is kept out of what
-/// asks for ASCII before, which is faster without it.
+/// UTF-8: all the bytes, or some that end where the next character begins.
 #[tactic(auto, using(crate::proofs::lemmas::vectors::Windows::ends))]
-#[inline(never)]
+#[inline(always)]
 pub(crate) fn scan_short(bytes: &[u8], at: usize) -> usize
     requires from { 4 ≤ length bytes.now }
     requires within { at ≤ length bytes.now }
@@ -176,7 +175,7 @@ pub(crate) fn scan_short(bytes: &[u8], at: usize) -> usize
 
 /// How many of fewer than 32 bytes, and of the zeros after them, keep to the pattern of UTF-8. If a
 /// zero does, no character is left open.
-#[inline(always)]
+#[inline(never)]
 fn len_of_few(bytes: &[u8]) -> usize
     requires from { 4 ≤ length bytes.now }
     requires short { length bytes.now < 32 }
