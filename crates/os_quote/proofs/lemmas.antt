@@ -21,5 +21,6 @@ pub mod Suspects
 pub mod Hidden
 pub use Rattle.os_str_ext.proofs.lemmas.EachChunk
 pub mod Prefixes
+pub mod FirstUnits
 pub mod PlainBytes
 pub mod PlainLanes

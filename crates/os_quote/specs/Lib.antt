@@ -3,6 +3,7 @@ pub mod HiddenCharacters
 pub mod Shown
 pub mod Hidden
 pub mod Plain
+pub mod Start
 pub mod Escape
 pub mod Escaped
 pub mod Reading

@@ -76,7 +76,7 @@ fn split_at_suspect(text: &str, from: usize) -> Option<(&str, char, &str)>
 
 /// Whether a character is shown as it is.
 #[inline(always)]
-fn is_unchanged(character: char) -> bool
+pub(crate) fn is_unchanged(character: char) -> bool
     ensures { IsTrue result ↔ IsUnchanged stays_on_line character }
 {
     character != '\\' && stays_on_line(character)

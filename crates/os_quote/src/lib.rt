@@ -15,6 +15,7 @@ mod error;
 mod find_hidden;
 mod find_lanes;
 mod find_plain;
+mod find_start;
 mod find_tables;
 mod form;
 pub mod laws;

@@ -2,18 +2,18 @@
 ghost use Rattle.os_quote.specs.Sinks.{SinkRules, Takes};
 ghost use Rattle.std.specs.Prelude.{MatchOption};
 ghost use Rattle.platform_str.specs.Strings.{bytes};
-ghost use Rattle.os_str_ext.specs.Parts.{part_bytes};
-ghost use Rattle.os_quote.specs.Buffers.{part_escape, text_escape, token_of};
+ghost use Rattle.os_quote.specs.Buffers.{text_escape, token_of};
 ghost use Rattle.os_quote.specs.Escaped.{escape_of};
 ghost use Rattle.os_quote.specs.Item.{item_text, unit_item};
 ghost use Rattle.os_quote.specs.{Shown.shown_by, Hidden.AreUnchanged, Hidden.IsCutAtToken};
 
 use crate::find_hidden::split_hidden;
 use crate::find_plain::split_plain;
+use crate::find_start::{split_ascii_token, split_text, split_unit};
 use crate::form::Form;
 use crate::read_token::split_backslash;
 use crate::write_token::TokenText;
-use os_str_bytes::{NonUnicodeOsStr, OsStr, OsStrBytesExt, Platform};
+use os_str_bytes::{OsStr, Platform};
 use std::fmt;
 
 /// What takes an escape, piece by piece: a formatter, a buffer, or a text that is compared with it.
@@ -47,8 +47,8 @@ impl<W: fmt::Write> Sink for fmt::Formatter<W> {
     }
 }
 
-/// Gives a sink the escape of a string in a form. Plain bytes at the start are given first: each piece
-/// right after it was looked at, and before the next one is.
+/// Gives a sink the escape of a string in a form, piece by piece: each piece right after it was looked
+/// at, and before the next one is.
 #[inline(always)]
 pub(crate) fn write_escape_to<E: Platform, S: Sink>(
     form: Form,
@@ -60,35 +60,21 @@ pub(crate) fn write_escape_to<E: Platform, S: Sink>(
         result sink.new }
 {
     let mut rest = string.as_encoded_bytes();
-    while let Some((plain, following)) = split_plain(rest) {
-        sink.take(plain)?;
-        rest = following;
-    }
-    write_chunks(form, OsStr::<E>::from_encoded_bytes_unchecked(rest), sink)
-}
-
-/// Gives it the same chunk by chunk.
-#[inline(always)]
-fn write_chunks<E: Platform, S: Sink>(form: Form, string: OsStr<'_, E>, sink: &mut S) -> fmt::Result
-    requires { S.rules.has_room sink.old (escape_of (shown_by form) E.units (bytes string)) }
-    ensures { Takes S.rules sink.old (escape_of (shown_by form) E.units (bytes string.entry))
-        result sink.new }
-{
-    for (part, text) in string.utf8_chunks() {
-        write_part(part, sink)?;
-        write_text(form, text, sink)?;
-    }
-    Ok(())
-}
-
-/// Gives it the units of a part.
-#[inline(always)]
-fn write_part<'a, E: Platform, S: Sink>(part: NonUnicodeOsStr<'a, E>, sink: &mut S) -> fmt::Result
-    requires { S.rules.has_room sink.old (part_escape E.units (part_bytes part)) }
-    ensures { Takes S.rules sink.old (part_escape E.units (part_bytes part.entry)) result sink.new }
-{
-    for unit in part.os_units() {
-        write_unit(unit.to_u64() as u16, sink)?;
+    while !rest.is_empty() {
+        if let Some((plain, following)) = split_plain(rest) {
+            sink.take(plain)?;
+            rest = following;
+        } else if let Some((character, following)) = split_ascii_token(form, rest) {
+            write_character(character, sink)?;
+            rest = following;
+        } else if let Some((unit, following)) = split_unit::<E>(rest) {
+            write_unit(unit, sink)?;
+            rest = following;
+        } else {
+            let (text, following) = split_text::<E>(rest);
+            write_text(form, text, sink)?;
+            rest = following;
+        }
     }
     Ok(())
 }

@@ -1,7 +1,8 @@
--- Escapes of strings that begin with a text of which each character is unchanged.
-use Rattle.os_quote.proofs.Common.{◌≡◌, ⊎_elim, ℕ, ◌+◌, ◌-◌, ◌<◌, Bool, List, [], ◌∷◌, ◌++◌, map, length, refl, sym, ap, ◌∙◌, subst, arith, append_assoc, length-append, IsUtf8, chars, cases_lt, chars-append, IsCovered, CrossesNoCharacter, Chunk, joined, AreChunks, AreChunksFrom, chunks_from_start, are_chunks, some_chunks, chunks_once, one_more_chunk, Covered, over_none, covered_after, seam_at_start, text_covered, chunks_of, Item, item_texts, unit_item, character_item, items_of, escape_of, item_text, flat_map-append, map-append, take, drop, take_at, drop_at, IsAfterPlain, shown_by}
+-- Escapes of strings that begin with a text.
+use Rattle.os_quote.proofs.Common.{◌≡◌, ⊎_elim, ℕ, ◌+◌, ◌-◌, ◌<◌, Bool, List, [], ◌∷◌, ◌++◌, map, length, refl, sym, ap, ◌∙◌, subst, arith, append_assoc, length-append, IsUtf8, chars, cases_lt, chars-append, IsCovered, CrossesNoCharacter, Chunk, joined, AreChunks, AreChunksFrom, chunks_from_start, are_chunks, some_chunks, chunks_once, one_more_chunk, Covered, over_none, covered_after, seam_at_start, text_covered, chunks_of, Item, item_texts, unit_item, character_item, items_of, escape_of, item_text, flat_map-append, map-append, take, drop, take_at, drop_at, IsAfterPlain, shown_by, chars-nil, append-nil, encode_utf8, encode_ascii, AllByRecursion, IsUtf8-nil, IsUtf8-from_ascii, IsUnchanged, IsCutAtToken, token_of}
 use Rattle.os_quote.specs.declared.form.Form.{Form}
-use Rattle.os_quote.proofs.lemmas.{PlainBytes.plain_is_text, PlainBytes.plain_is_own, Texts.text_items, Texts.text_escape}
+use Rattle.os_quote.specs.Start.{IsCutAfterToken}
+use Rattle.os_quote.proofs.lemmas.{PlainBytes.plain_is_text, PlainBytes.plain_is_own, Readings.ascii_all, Texts.text_items, Texts.text_escape, Texts.cut_escape}
 use Rattle.wtf8_core.proofs.lemmas.chunks.OneList.{after_seam}
 
 module _ (p r : List ℕ) (u : IsUtf8 p) (some : 0 < length p) where
@@ -56,38 +57,65 @@ module _ (p r : List ℕ) (u : IsUtf8 p) (some : 0 < length p) where
       one_more_chunk (p ++ r) [] p r [] refl long (over_none _ 0) covered seam (λ e. absurd (never_empty e)) (λ lt. absurd (let l = ap length none in omega (arith, lt, l))) h
   are_prefix (c ∷ ds) h = are_grown c.0 c.1 ds h
 
-  module _ (shows : ℕ → Bool) (units : List ℕ → List ℕ) (no_units : units [] ≡ []) (own : text_escape shows p ≡ p) where
+  module _ (shows : ℕ → Bool) (units : List ℕ → List ℕ) (no_units : units [] ≡ []) where
     -- their items
-    after_prefix : (items : List Item) → item_texts ((map unit_item (units []) ++ text_items shows p) ++ items) ≡ p ++ item_texts items
-    after_prefix items = grind (arith, item_texts, unit_item, text_items, flat_map-append, item_text)
+    after_prefix : (items : List Item) → item_texts ((map unit_item (units []) ++ text_items shows p) ++ items) ≡ text_escape shows p ++ item_texts items
+    after_prefix items =
+        ap (λ us. item_texts ((map unit_item us ++ text_items shows p) ++ items)) no_units ∙ flat_map-append item_text (text_items shows p) items
 
-    grown_items : (q t : List ℕ) (ds : List Chunk) → item_texts (items_of shows units (grown q t ds)) ≡ p ++ item_texts (items_of shows units ((q, t) ∷ ds))
+    grown_items : (q t : List ℕ) (ds : List Chunk) → item_texts (items_of shows units (grown q t ds)) ≡ text_escape shows p ++ item_texts (items_of shows units ((q, t) ∷ ds))
     grown_items (x ∷ q) t ds = after_prefix (items_of shows units ((x ∷ q, t) ∷ ds))
-    grown_items [] t ds = grind (arith, items_of, item_texts, unit_item, text_items, character_item, chars-append, map-append, chars, append_assoc, flat_map-append, item_text)
+    grown_items [] t ds =
+        let after = items_of shows units ds in
+        let texts = λ (us : List ℕ) (cs : List Item). item_texts ((map unit_item us ++ cs) ++ after) in
+        ap (λ us. texts us (text_items shows (p ++ t))) no_units
+        ∙ ap (λ cs. item_texts (map (character_item shows) cs ++ after)) (chars-append p t u)
+        ∙ ap (λ is. item_texts (is ++ after)) (map-append (character_item shows) (chars p) (chars t))
+        ∙ ap item_texts (append_assoc (text_items shows p) (text_items shows t) after)
+        ∙ flat_map-append item_text (text_items shows p) (text_items shows t ++ after)
+        ∙ ap (λ us. text_escape shows p ++ texts us (text_items shows t)) (sym no_units)
 
-    prefix_items : (cs : List Chunk) → item_texts (items_of shows units (first_chunks cs)) ≡ p ++ item_texts (items_of shows units cs)
+    prefix_items : (cs : List Chunk) → item_texts (items_of shows units (first_chunks cs)) ≡ text_escape shows p ++ item_texts (items_of shows units cs)
     prefix_items [] = after_prefix []
     prefix_items (c ∷ ds) = grown_items c.0 c.1 ds
 
-    pub some_prefix : escape_of shows units (p ++ r) ≡ p ++ escape_of shows units r
+    pub some_prefix : escape_of shows units (p ++ r) ≡ text_escape shows p ++ escape_of shows units r
     some_prefix =
         let cs = chunks_of r in
         ap (λ x. item_texts (items_of shows units x)) (chunks_once (p ++ r) (chunks_of (p ++ r)) (first_chunks cs) (some_chunks (p ++ r)).1 (are_prefix cs (some_chunks r).1))
         ∙ prefix_items cs
 
--- the escape of a string after such a text
-pub prefix_escape : (shows : ℕ → Bool) (units : List ℕ → List ℕ) (p r : List ℕ) → units [] ≡ [] → IsUtf8 p → text_escape shows p ≡ p → escape_of shows units (p ++ r) ≡ p ++ escape_of shows units r
-prefix_escape shows units [] r none u own = refl
-prefix_escape shows units (x ∷ p) r none u own = some_prefix (x ∷ p) r u (omega arith) shows units none own
+module _ (well_formed : List ℕ → Type 0) (after_text : (b : List ℕ) (n : ℕ) → well_formed b → IsUtf8 (take n b) → well_formed (drop n b)) {bytes text rest : List ℕ} (formed : well_formed bytes) (parts : bytes ≡ text ++ rest) where
+  -- what follows a text at the start of a string is a string
+  pub rest_formed : IsUtf8 text → well_formed rest
+  rest_formed u =
+      let n = length text in
+      subst well_formed (ap (drop n) parts ∙ drop_at text rest n refl) (after_text bytes n formed (subst IsUtf8 (sym (ap (take n) parts ∙ take_at text rest n refl)) u))
 
--- what follows plain bytes at the start of a string is a string, and its escape follows them
-pub rest_formed : (well_formed : List ℕ → Type 0) → ((b : List ℕ) (n : ℕ) → well_formed b → IsUtf8 (take n b) → well_formed (drop n b)) → {bytes prefix rest : List ℕ} → well_formed bytes → IsAfterPlain bytes prefix rest → well_formed rest
-rest_formed well_formed after_text {bytes} {prefix} {rest} w after =
-    let n = length prefix in
-    let first = ap (take n) after.joined ∙ take_at prefix rest n refl in
-    subst well_formed (ap (drop n) after.joined ∙ drop_at prefix rest n refl) (after_text bytes n w (subst IsUtf8 (sym first) (plain_is_text prefix after.plain)))
+-- a character of ASCII is a text
+pub ascii_text : (c : ℕ) → c < 0x80 → IsUtf8 (c ∷ [])
+ascii_text c low = IsUtf8-from_ascii (c ∷ []) (ascii_all (c ∷ []) (low, tt))
+
+module _ (shows : ℕ → Bool) (units : List ℕ → List ℕ) (no_units : units [] ≡ []) where
+  -- and its escape follows the text's
+  prefix_escape : (p r : List ℕ) → IsUtf8 p → escape_of shows units (p ++ r) ≡ text_escape shows p ++ escape_of shows units r
+  prefix_escape [] r u = ap (λ cs. item_texts (map (character_item shows) cs) ++ escape_of shows units r) (sym chars-nil)
+  prefix_escape (x ∷ p) r u = some_prefix (x ∷ p) r u (omega arith) shows units no_units
+
+  pub text_first : {bytes text : List ℕ} (rest : List ℕ) → IsUtf8 text → bytes ≡ text ++ rest → escape_of shows units bytes ≡ text_escape shows text ++ escape_of shows units rest
+  text_first {text = text} rest u e = ap (escape_of shows units) e ∙ prefix_escape text rest u
+
+  pub token_first : {bytes rest : List ℕ} {c : ℕ} → IsCutAfterToken shows bytes c rest → escape_of shows units bytes ≡ item_text (token_of c) ++ escape_of shows units rest
+  token_first {bytes} {rest} {c} cut =
+      let one : List ℕ = c ∷ [] in
+      let u = ascii_text c cut.ascii in
+      let at : IsCutAtToken shows one [] c [] =
+      record { unchanged = subst (AllByRecursion (IsUnchanged shows)) (sym chars-nil) tt; hidden = cut.hidden; joined = sym (append-nil (encode_utf8 c) ∙ encode_ascii c cut.ascii); prefix_text = IsUtf8-nil; after_text = IsUtf8-nil } in
+      let token : text_escape shows one ≡ item_text (token_of c) =
+      cut_escape shows u at ∙ ap (λ cs. item_text (token_of c) ++ item_texts (map (character_item shows) cs)) chars-nil ∙ append-nil (item_text (token_of c)) in
+      text_first {text = one} rest u cut.joined ∙ ap (λ x. x ++ escape_of shows units rest) token
 
 pub plain_first : (form : Form) (units : List ℕ → List ℕ) → units [] ≡ [] → {bytes prefix rest : List ℕ} → IsAfterPlain bytes prefix rest
     → escape_of (shown_by form) units bytes ≡ prefix ++ escape_of (shown_by form) units rest
 plain_first form units none {prefix = prefix} {rest = rest} after =
-    ap (escape_of (shown_by form) units) after.joined ∙ prefix_escape (shown_by form) units prefix rest none (plain_is_text prefix after.plain) (plain_is_own form prefix after.plain)
+    text_first (shown_by form) units none rest (plain_is_text prefix after.plain) after.joined ∙ ap (λ x. x ++ escape_of (shown_by form) units rest) (plain_is_own form prefix after.plain)

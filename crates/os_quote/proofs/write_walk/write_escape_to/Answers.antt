@@ -1,40 +1,82 @@
-use Rattle.os_quote.proofs.Common.{[], append-nil, ◌∙◌, ap, sym, arith, length, length-append, IsUtf8-nil, shown_by, escape_of}
+use Rattle.os_quote.proofs.Common.{[], ◌∷◌, ◌∙◌, sym, ap, subst, nil_from_length, eqb-true, IsUtf8-nil, item_texts, items_of, shown_by}
 use Rattle.std.proofs.lemmas.Result.{err_from_is_err_and}
-use Rattle.os_quote.proofs.lemmas.{Escapes.no_units_of_none, Prefixes.rest_formed, Prefixes.plain_first, Taking.nothing_taken, Taking.one_taken, Taking.last_taken, Taking.room_left, Taking.none_taken}
+use Rattle.os_str_ext.proofs.lemmas.FirstChunk.{no_chunks}
+use Rattle.os_quote.proofs.lemmas.{Escapes.no_units_of_none, FirstUnits.unit_first, PlainBytes.plain_is_text, Prefixes.ascii_text, Prefixes.plain_first, Prefixes.rest_formed, Prefixes.text_first, Prefixes.token_first, Taking.one_taken, Taking.all_taken, Taking.room_left, Taking.none_taken}
 use Rattle.os_quote.proofs.write_walk.write_escape_to.Goals as goal
-
-pub loop-plain-init : goal.loop-plain-init
-loop-plain-init g c = grind (arith, nothing_taken, escape_of, shown_by)
 
 pub take-requires : goal.take-requires
 take-requires g c =
-    let P = g.E.Platform in
-    let none = no_units_of_none P.well_formed P.units P.part_units g.met.E.Platform.parts (g.met.E.Platform.laws.text [] IsUtf8-nil) in
-    room_left g.S.Sink.rules c.loop-plain.invariant.1 _ _ c.requires (plain_first c.args.form P.units none c.in-Some.ensures.after)
-
-pub loop-plain-preserved : goal.loop-plain-preserved
-loop-plain-preserved g c =
-    let P = g.E.Platform in
-    let none = no_units_of_none P.well_formed P.units P.part_units g.met.E.Platform.parts (g.met.E.Platform.laws.text [] IsUtf8-nil) in (
-      rest_formed P.well_formed g.met.E.Platform.laws.after_text c.loop-plain.invariant.0 c.in-Some.ensures.after,
-      one_taken g.S.Sink.rules c.loop-plain.invariant.1 c.in_ok-take.ensures (plain_first c.args.form P.units none c.in-Some.ensures.after),
-    )
-
-pub loop-plain-smaller : goal.loop-plain-smaller
-loop-plain-smaller g c = omega (arith, c.in-Some.ensures.some, ap length c.in-Some.ensures.after.joined, length-append c.in-Some.plain.now c.in-Some.following.now)
+    let none = no_units_of_none g.E.Platform.well_formed g.E.Platform.units g.E.Platform.part_units g.met.E.Platform.parts (g.met.E.Platform.laws.text [] IsUtf8-nil) in
+    let step = plain_first c.args.form g.E.Platform.units none c.in-Some.ensures.after in
+    room_left g.S.Sink.rules c.loop-rest.invariant.1 _ _ c.requires step
 
 pub returns-in_err-take : goal.returns-in_err-take
 returns-in_err-take g c =
-    let P = g.E.Platform in
-    let none = no_units_of_none P.well_formed P.units P.part_units g.met.E.Platform.parts (g.met.E.Platform.laws.text [] IsUtf8-nil) in
-    rw (err_from_is_err_and c.from_residual.result c.from_residual.ensures.1).1 (none_taken g.S.Sink.rules c.loop-plain.invariant.1 _ _ c.in_err-take.ensures (plain_first c.args.form P.units none c.in-Some.ensures.after))
+    let none = no_units_of_none g.E.Platform.well_formed g.E.Platform.units g.E.Platform.part_units g.met.E.Platform.parts (g.met.E.Platform.laws.text [] IsUtf8-nil) in
+    let step = plain_first c.args.form g.E.Platform.units none c.in-Some.ensures.after in
+    rw (err_from_is_err_and c.from_residual.result c.from_residual.ensures.1).1 (none_taken g.S.Sink.rules c.loop-rest.invariant.1 _ _ c.in_err-take.ensures step)
 
-pub write_chunks-requires : goal.write_chunks-requires
-write_chunks-requires g c =
-    let rest = ap (escape_of (shown_by c.args.form) g.E.Platform.units) (sym c.from_encoded_bytes_unchecked.ensures) in
-    room_left g.S.Sink.rules c.loop-plain.invariant.1 _ [] c.requires (rest ∙ sym (append-nil _))
+pub loop-rest-preserved-in-Some : goal.loop-rest-preserved-in-Some
+loop-rest-preserved-in-Some g c =
+    let none = no_units_of_none g.E.Platform.well_formed g.E.Platform.units g.E.Platform.part_units g.met.E.Platform.parts (g.met.E.Platform.laws.text [] IsUtf8-nil) in
+    let step = plain_first c.args.form g.E.Platform.units none c.in-Some.ensures.after in
+    (rest_formed g.E.Platform.well_formed g.met.E.Platform.laws.after_text c.loop-rest.invariant.0 c.in-Some.ensures.after.joined (plain_is_text _ c.in-Some.ensures.after.plain), one_taken g.S.Sink.rules c.loop-rest.invariant.1 c.in_ok-take.ensures step)
+
+pub write_character-requires : goal.write_character-requires
+write_character-requires g c =
+    let none = no_units_of_none g.E.Platform.well_formed g.E.Platform.units g.E.Platform.part_units g.met.E.Platform.parts (g.met.E.Platform.laws.text [] IsUtf8-nil) in
+    let step = token_first (shown_by c.args.form) g.E.Platform.units none c.in-Some-split_ascii_token.ensures in
+    room_left g.S.Sink.rules c.loop-rest.invariant.1 _ _ c.requires step
+
+pub returns-in_err-write_character : goal.returns-in_err-write_character
+returns-in_err-write_character g c =
+    let none = no_units_of_none g.E.Platform.well_formed g.E.Platform.units g.E.Platform.part_units g.met.E.Platform.parts (g.met.E.Platform.laws.text [] IsUtf8-nil) in
+    let step = token_first (shown_by c.args.form) g.E.Platform.units none c.in-Some-split_ascii_token.ensures in
+    rw (err_from_is_err_and c.from_residual-in_err-write_character.result c.from_residual-in_err-write_character.ensures.1).1 (none_taken g.S.Sink.rules c.loop-rest.invariant.1 _ _ c.in_err-write_character.ensures step)
+
+pub loop-rest-preserved-in-Some-split_ascii_token : goal.loop-rest-preserved-in-Some-split_ascii_token
+loop-rest-preserved-in-Some-split_ascii_token g c =
+    let none = no_units_of_none g.E.Platform.well_formed g.E.Platform.units g.E.Platform.part_units g.met.E.Platform.parts (g.met.E.Platform.laws.text [] IsUtf8-nil) in
+    let step = token_first (shown_by c.args.form) g.E.Platform.units none c.in-Some-split_ascii_token.ensures in
+    (rest_formed g.E.Platform.well_formed g.met.E.Platform.laws.after_text {text = c.in-Some-split_ascii_token.character ∷ []} c.loop-rest.invariant.0 c.in-Some-split_ascii_token.ensures.joined (ascii_text _ c.in-Some-split_ascii_token.ensures.ascii), one_taken g.S.Sink.rules c.loop-rest.invariant.1 c.in_ok-write_character.ensures step)
+
+pub write_unit-requires : goal.write_unit-requires
+write_unit-requires g c =
+    let none = no_units_of_none g.E.Platform.well_formed g.E.Platform.units g.E.Platform.part_units g.met.E.Platform.parts (g.met.E.Platform.laws.text [] IsUtf8-nil) in
+    let step = unit_first g.E.Platform.well_formed g.E.Platform.units g.met.E.Platform.occurrence none (g.met.E.Platform.laws.text [] IsUtf8-nil) (shown_by c.args.form) g.met.E.Platform.laws.cut_prefix c.loop-rest.invariant.0 c.in-Some-split_unit.ensures in
+    room_left g.S.Sink.rules c.loop-rest.invariant.1 _ _ c.requires step
+
+pub returns-in_err-write_unit : goal.returns-in_err-write_unit
+returns-in_err-write_unit g c =
+    let none = no_units_of_none g.E.Platform.well_formed g.E.Platform.units g.E.Platform.part_units g.met.E.Platform.parts (g.met.E.Platform.laws.text [] IsUtf8-nil) in
+    let step = unit_first g.E.Platform.well_formed g.E.Platform.units g.met.E.Platform.occurrence none (g.met.E.Platform.laws.text [] IsUtf8-nil) (shown_by c.args.form) g.met.E.Platform.laws.cut_prefix c.loop-rest.invariant.0 c.in-Some-split_unit.ensures in
+    rw (err_from_is_err_and c.from_residual-in_err-write_unit.result c.from_residual-in_err-write_unit.ensures.1).1 (none_taken g.S.Sink.rules c.loop-rest.invariant.1 _ _ c.in_err-write_unit.ensures step)
+
+pub loop-rest-preserved-in-Some-split_unit : goal.loop-rest-preserved-in-Some-split_unit
+loop-rest-preserved-in-Some-split_unit g c =
+    let none = no_units_of_none g.E.Platform.well_formed g.E.Platform.units g.E.Platform.part_units g.met.E.Platform.parts (g.met.E.Platform.laws.text [] IsUtf8-nil) in
+    let step = unit_first g.E.Platform.well_formed g.E.Platform.units g.met.E.Platform.occurrence none (g.met.E.Platform.laws.text [] IsUtf8-nil) (shown_by c.args.form) g.met.E.Platform.laws.cut_prefix c.loop-rest.invariant.0 c.in-Some-split_unit.ensures in
+    (subst g.E.Platform.well_formed (sym c.in-Some-split_unit.ensures.rest_is) c.in-Some-split_unit.ensures.first.after, one_taken g.S.Sink.rules c.loop-rest.invariant.1 c.in_ok-write_unit.ensures step)
+
+pub write_text-requires : goal.write_text-requires
+write_text-requires g c =
+    let none = no_units_of_none g.E.Platform.well_formed g.E.Platform.units g.E.Platform.part_units g.met.E.Platform.parts (g.met.E.Platform.laws.text [] IsUtf8-nil) in
+    let step = text_first (shown_by c.args.form) g.E.Platform.units none _ c.split_text.ensures.is_text c.split_text.ensures.joined in
+    room_left g.S.Sink.rules c.loop-rest.invariant.1 _ _ c.requires step
+
+pub returns-in_err-write_text : goal.returns-in_err-write_text
+returns-in_err-write_text g c =
+    let none = no_units_of_none g.E.Platform.well_formed g.E.Platform.units g.E.Platform.part_units g.met.E.Platform.parts (g.met.E.Platform.laws.text [] IsUtf8-nil) in
+    let step = text_first (shown_by c.args.form) g.E.Platform.units none _ c.split_text.ensures.is_text c.split_text.ensures.joined in
+    rw (err_from_is_err_and c.from_residual-in_err-write_text.result c.from_residual-in_err-write_text.ensures.1).1 (none_taken g.S.Sink.rules c.loop-rest.invariant.1 _ _ c.in_err-write_text.ensures step)
+
+pub loop-rest-preserved : goal.loop-rest-preserved
+loop-rest-preserved g c =
+    let none = no_units_of_none g.E.Platform.well_formed g.E.Platform.units g.E.Platform.part_units g.met.E.Platform.parts (g.met.E.Platform.laws.text [] IsUtf8-nil) in
+    let step = text_first (shown_by c.args.form) g.E.Platform.units none _ c.split_text.ensures.is_text c.split_text.ensures.joined in
+    (rest_formed g.E.Platform.well_formed g.met.E.Platform.laws.after_text c.loop-rest.invariant.0 c.split_text.ensures.joined c.split_text.ensures.is_text, one_taken g.S.Sink.rules c.loop-rest.invariant.1 c.in_ok-write_text.ensures step)
 
 pub returns : goal.returns
 returns g c =
-    let rest = ap (escape_of (shown_by c.args.form) g.E.Platform.units) (sym c.from_encoded_bytes_unchecked.ensures) in
-    last_taken g.S.Sink.rules _ _ c.loop-plain.invariant.1 rest c.write_chunks.result c.write_chunks.ensures
+    let empty = nil_from_length c.loop-rest.rest.now (eqb-true _ _ (sym c.is_empty.ensures ∙ c.loop-rest-test.false)) in
+    all_taken g.S.Sink.rules c.loop-rest.invariant.1 (ap (λ cs. item_texts (items_of (shown_by c.args.form) g.E.Platform.units cs)) (no_chunks c.loop-rest.rest.now empty))

@@ -1,0 +1,173 @@
+-- Escapes of strings that begin with a unit.
+use Rattle.os_quote.proofs.Common.{◌≡◌, ⊎_elim, ℕ, ◌+◌, ◌<◌, ◌≤◌, Bool, true, false, not, ◌||◌, true≢false, List, [], ◌∷◌, ◌++◌, map, length, take, drop, get_or, refl, sym, ap, ◌∙◌, subst, arith, append_assoc, append-nil, append_cancel_right, length-append, length-drop, length-take-le, take_all, take-append-drop, cases_lt, flat_map, flat_map-append, map-append, nil_from_length, chars, Chunk, AreChunks, PartLaws, chunks_of, some_chunks, encode, form_bounds, form_two, form_three, form_past, IsUtf8, IsInRange, Item, item_text, item_texts, unit_item, character_item, items_of, escape_of}
+use Rattle.std.proofs.lemmas.List.{get_or_append_left, take-take}
+use Rattle.std.proofs.Common.{Option, Some, None}
+use Rattle.std.specs.{Option.is_some, Str.IsValidUpTo}
+use Rattle.os_quote.specs.Start.{IsCutAfterUnit, IsCutAfterText}
+use Rattle.wtf8_core.specs.{Covered.StartsWithNoCharacter, Character.WholeCharacter, Character.IsCharacterAt, OccurrenceLaws.OccurrenceLaws, Byte.IsContinuation, Boundary.IsBoundary}
+use Rattle.wtf8_core.proofs.lemmas.characters.{AtIndices.begins_at, AtIndices.character_fits, FourBytes.past_ascii, Overlaps.continued}
+use Rattle.platform_str.specs.Laws.{IsFirstUnit}
+use Rattle.os_str_ext.specs.{Chunks.BeginsNoCharacter, Chunks.IsFirstChunk, Parts.unit_number, Symbols.unit_symbol, Symbols.symbols_of, Symbols.chunks_symbols, declared.symbols.Symbol.Symbol}
+use Rattle.os_str_ext.specs.declared.symbols.Symbol.TheVariants.{Character}
+use Rattle.os_str_ext.specs.declared.symbols.Symbol.TheVariants as symbol
+use Rattle.os_str_ext.proofs.lemmas.{EachChunk.first_of, FirstChunk.edges, FirstChunk.no_character_after, SymbolSteps.symbols_by_unit, UncoveredStart.no_beginning}
+
+two_or_more : (c : ℕ) → 0x80 ≤ c → 2 ≤ length (encode c)
+two_or_more c h =
+    ⊎_elim (λ l. omega (arith, ap length (form_two c h l)))
+    (λ ge. ⊎_elim (λ l. omega (arith, ap length (form_three c ge l))) (λ past. omega (arith, ap length (form_past c past))) (cases_lt c 0x1_0000))
+    (cases_lt c 0x800)
+
+-- no whole character starts with two bytes of which the first begins none, or the second continues none
+without_lead : (s : List ℕ) → 0x80 ≤ get_or s 0 0 → ¬ (IsInRange 0xC2 0xF4 (get_or s 0 0)) → StartsWithNoCharacter s
+without_lead s high n j w = no_beginning s 0 j (high, n) w
+
+without_continuation : (s : List ℕ) → 0x80 ≤ get_or s 0 0 → ¬ (IsContinuation (get_or s 1 0)) → StartsWithNoCharacter s
+without_continuation s high n j w =
+    let c = w.char in
+    let same : get_or s 0 0 ≡ get_or (encode c) 0 0 = ap (λ l. get_or l 0 0) (begins_at s 0 j w) ∙ get_or_append_left (encode c) w.occurs.after 0 0 (form_bounds c).0 in
+    n (continued s 0 j 1 w (omega arith) (omega (arith, two_or_more c (past_ascii c (subst (λ x. 0x80 ≤ x) same high)), w.end)))
+
+pub told_apart : (s : List ℕ) (lead continuation : Bool) → 0x80 ≤ get_or s 0 0 → (IsInRange 0xC2 0xF4 (get_or s 0 0) → lead ≡ true) → (IsContinuation (get_or s 1 0) → continuation ≡ true) → not lead || not continuation ≡ true → StartsWithNoCharacter s
+told_apart s false continuation high l k told = without_lead s high (λ r. true≢false (sym (l r)))
+told_apart s true false high l k told = without_continuation s high (λ r. true≢false (sym (k r)))
+told_apart s true true high l k told = absurd (true≢false (sym told))
+
+-- what the length of the first character says
+pub begins_by_answer : (s : List ℕ) (len : Option ℕ) (none : Bool) → IsCharacterAt s 0 len → is_some len ≡ not none → (none ≡ true → StartsWithNoCharacter s) × (StartsWithNoCharacter s → none ≡ true)
+begins_by_answer s (Some n) true whole e = absurd (true≢false e)
+begins_by_answer s (Some n) false whole e = (λ t. absurd (true≢false (sym t)), λ starts. absurd (starts (0 + n) whole))
+begins_by_answer s None true starts e = (λ _. starts, λ _. refl)
+begins_by_answer s None false starts e = absurd (true≢false (sym e))
+
+-- the longest text at the start isn't empty, if a character starts there
+module _ (s text rest : List ℕ) (begins : ¬ (StartsWithNoCharacter s)) where
+  pub cut_at_fault : (n : ℕ) → IsValidUpTo s n → length text ≡ n → text ≡ take n s → rest ≡ drop n s → IsCutAfterText s text rest
+  cut_at_fault n valid size text_is rest_is = record {
+    some = ⊎_elim (λ lt. omega (arith, lt, size)) (λ ge. absurd (begins (no_character_after s s 0 0 refl (subst (IsValidUpTo s) (omega (arith, ge)) valid)))) (cases_lt 0 n);
+    is_text = subst IsUtf8 (sym text_is) valid.front;
+    joined = sym (take-append-drop n s) ∙ ap (λ t. t ++ drop n s) (sym text_is) ∙ ap (λ r. text ++ r) (sym rest_is);
+  }
+
+  pub cut_at_end : (n : ℕ) → IsUtf8 s → n ≡ length s → text ≡ take n s → rest ≡ drop n s → IsCutAfterText s text rest
+  cut_at_end n u all text_is rest_is =
+      let same : text ≡ s = text_is ∙ take_all n s (omega (arith, all)) in
+      record {
+        some = ⊎_elim (λ lt. omega (arith, lt, ap length same)) (λ ge. absurd (begins (λ j w. let f = character_fits s 0 j w in omega (arith, ge, f)))) (cases_lt 0 (length s));
+        is_text = subst IsUtf8 (sym same) u;
+        joined = sym (take-append-drop n s) ∙ ap (λ t. t ++ drop n s) (sym text_is) ∙ ap (λ r. text ++ r) (sym rest_is);
+      }
+
+-- the items of a string are those of its symbols
+module _ (shows : ℕ → Bool) (units : List ℕ → List ℕ) where
+  abbrev symbol_item : Symbol → Item
+  symbol_item (Character c) = character_item shows c
+  symbol_item (symbol.Unit u) = unit_item (unit_number u)
+
+  unit_items : (us : List ℕ) → map symbol_item (map unit_symbol us) ≡ map unit_item us
+  unit_items [] = refl
+  unit_items (u ∷ us) = ap (λ x. unit_item u ∷ x) (unit_items us)
+
+  character_items : (cs : List ℕ) → map symbol_item (map Character cs) ≡ map (character_item shows) cs
+  character_items [] = refl
+  character_items (c ∷ cs) = ap (λ x. character_item shows c ∷ x) (character_items cs)
+
+  symbol_items : (cs : List Chunk) → map symbol_item (chunks_symbols units cs) ≡ items_of shows units cs
+  symbol_items [] = refl
+  symbol_items (c ∷ cs) =
+      let us = map unit_symbol (units c.0) in
+      let xs = map Character (chars c.1) in
+      map-append symbol_item (us ++ xs) (chunks_symbols units cs)
+      ∙ ap (λ x. x ++ map symbol_item (chunks_symbols units cs)) (map-append symbol_item us xs)
+      ∙ ap (λ x. (x ++ map symbol_item xs) ++ map symbol_item (chunks_symbols units cs)) (unit_items (units c.0))
+      ∙ ap (λ x. (map unit_item (units c.0) ++ x) ++ map symbol_item (chunks_symbols units cs)) (character_items (chars c.1))
+      ∙ ap (λ x. (map unit_item (units c.0) ++ map (character_item shows) (chars c.1)) ++ x) (symbol_items cs)
+
+  escape_by_symbols : (s : List ℕ) → escape_of shows units s ≡ item_texts (map symbol_item (symbols_of units s))
+  escape_by_symbols s = ap item_texts (sym (symbol_items (chunks_of s)))
+
+-- the part of the first chunk isn't empty, if no whole character starts at the first byte
+part_at_start : (s : List ℕ) (c : Chunk) (cs : List Chunk) → AreChunks s (c ∷ cs) → StartsWithNoCharacter s → 0 < length c.0
+part_at_start s c cs h none =
+    let p = h.each [] cs c refl in
+    let some = p.some in
+    ⊎_elim (λ lt. lt)
+    (λ ge. absurd (let covered = p.covered 0 (omega (arith, ge)) (omega arith) in
+    let from = covered.from in
+    none covered.end (subst (λ x. WholeCharacter s x covered.end) (omega arith) covered.whole)))
+    (cases_lt 0 (length c.0))
+
+first_chunk : (s : List ℕ) (cs : List Chunk) → AreChunks s cs → 0 < length s → StartsWithNoCharacter s → (m : ℕ) × ((e : ℕ) × ((0 < m) × IsFirstChunk s m e))
+first_chunk s [] h some none = absurd (let size = ap length h.joins in omega (arith, some, size))
+first_chunk s (c ∷ cs) h some none = let f = first_of s c cs h in (length c.0, (f.end, (part_at_start s c cs h none, f.ends)))
+
+-- one unit is all where another list isn't empty
+none_after : {u : ℕ} (us vs : List ℕ) → (us ≡ [] → ⊥) → us ++ vs ≡ u ∷ [] → vs ≡ []
+none_after [] vs some e = absurd (some refl)
+none_after (x ∷ us) vs some e = nil_from_length vs (let size = ap length e in omega (arith, size, length-append us vs))
+
+module _ (well_formed : List ℕ → Type 0) (units : List ℕ → List ℕ) (occurrence : OccurrenceLaws well_formed units) (no_units : units [] ≡ []) (none_formed : well_formed []) where
+  -- a string without units is empty
+  none_of_none : (x : List ℕ) → well_formed x → units x ≡ [] → x ≡ []
+  none_of_none x w e = occurrence.once x [] w none_formed (e ∙ sym no_units)
+
+  module _ (s : List ℕ) (u n : ℕ) (formed : well_formed s) (first : IsFirstUnit well_formed units s u n) where
+    whole : take n s ++ drop n s ≡ s
+    whole = take-append-drop n s
+
+    -- the bytes of the unit are a string
+    unit_formed : well_formed (take n s)
+    unit_formed = occurrence.ends (take n s) (drop n s) first.after (subst well_formed (sym whole) formed)
+
+    unit_alone : units (take n s) ≡ u ∷ []
+    unit_alone =
+        append_cancel_right (units (take n s)) (u ∷ []) (units (drop n s))
+        (sym (occurrence.prefixes (take n s) (drop n s) unit_formed (subst well_formed (sym whole) formed)).1 ∙ ap units whole ∙ first.units_are)
+
+    module _ (m e : ℕ) (h : IsFirstChunk s m e) (some : 0 < m) (part_formed : well_formed (take m s)) where
+      within : m ≤ length s
+      within = omega (arith, h.ordered, h.within)
+
+      units_of_part : units (take m s) ≡ [] → ⊥
+      units_of_part none = omega (arith, some, length-take-le m s within, ap length (none_of_none (take m s) part_formed none))
+
+      -- they are no more than the part
+      in_part : n ≤ m
+      in_part = ⊎_elim (λ lt. absurd (past lt)) (λ le. le) (cases_lt m n)
+        where
+          past : m < n → ⊥
+          past lt =
+              let x = drop m (take n s) in
+              let parts : take m s ++ x ≡ take n s = ap (λ p. p ++ x) (sym (take-take m n s (omega (arith, lt)))) ∙ take-append-drop m (take n s) in
+              let rest = occurrence.prefixes (take m s) x part_formed (subst well_formed (sym parts) unit_formed) in
+              let none = none_after (units (take m s)) (units x) units_of_part (sym rest.1 ∙ ap units parts ∙ unit_alone) in
+              let size = ap length (none_of_none x rest.0 none) in
+              omega (arith, lt, size, length-drop m (take n s), length-take-le n s first.within)
+
+      -- so it is the part's first unit, too
+      first_of_part : IsFirstUnit well_formed units (take m s) u n
+      first_of_part =
+          let part = take m s in
+          let parts : take n s ++ drop n part ≡ part = ap (λ p. p ++ drop n part) (sym (take-take n m s in_part)) ∙ take-append-drop n part in
+          let rest = occurrence.prefixes (take n s) (drop n part) unit_formed (subst well_formed (sym parts) part_formed) in
+          record {
+            some = first.some;
+            within = omega (arith, in_part, length-take-le m s within);
+            after = rest.0;
+            units_are = sym (ap units parts) ∙ rest.1 ∙ ap (λ us. us ++ units (drop n part)) unit_alone;
+          }
+
+      by_part : (shows : ℕ → Bool) → escape_of shows units s ≡ item_text (unit_item u) ++ escape_of shows units (drop n s)
+      by_part shows =
+          escape_by_symbols shows units s
+          ∙ ap (λ xs. item_texts (map (symbol_item shows units) xs)) (symbols_by_unit well_formed units s m e u n h first_of_part (omega (arith, some, within)) no_units)
+          ∙ ap (λ x. item_text (unit_item u) ++ x) (sym (escape_by_symbols shows units (drop n s)))
+
+  -- the first unit's token, and the escape of what follows it
+  pub unit_first : (shows : ℕ → Bool) → ((b : List ℕ) (i : ℕ) → well_formed b → IsBoundary b i → well_formed (take i b)) → {bytes rest : List ℕ} {unit : ℕ} → well_formed bytes → IsCutAfterUnit well_formed units bytes unit rest
+      → escape_of shows units bytes ≡ item_text (unit_item unit) ++ escape_of shows units rest
+  unit_first shows cut_prefix {bytes} {rest} {unit} formed cut =
+      let first = cut.first in
+      let f = first_chunk bytes (chunks_of bytes) (some_chunks bytes).1 (omega (arith, first.some, first.within)) cut.uncovered in
+      let part_formed = cut_prefix bytes f.0 formed (edges bytes f.0 f.1.0 f.1.1.1).0 in
+      by_part bytes unit cut.size formed first f.0 f.1.0 f.1.1.1 f.1.1.0 part_formed shows ∙ ap (λ r. item_text (unit_item unit) ++ escape_of shows units r) (sym cut.rest_is)
