@@ -31,10 +31,19 @@ fn hidden_start(text: &str) -> Option<(char, &str)>
 {
     let mut characters = text.chars();
     let character = characters.next()?;
-    if matches!(character, '\0'..='\x1F' | '\\' | '\x7F') && !is_unchanged(character) {
+    if is_hidden_ascii(character) {
         return Some((character, characters.as_str()));
     }
     None
+}
+
+/// Whether a character is one of ASCII that is written as a token.
+#[inline(always)]
+pub(crate) fn is_hidden_ascii(character: char) -> bool
+    ensures ascii { IsTrue result → character < 0x80 }
+    ensures hidden { IsTrue result → ¬ (IsUnchanged stays_on_line character) }
+{
+    matches!(character, '\0'..='\x1F' | '\\' | '\x7F') && !is_unchanged(character)
 }
 
 /// The same as [`split_hidden`], by a search. Most often the first character that isn't plain is the one
@@ -76,7 +85,7 @@ fn split_at_suspect(text: &str, from: usize) -> Option<(&str, char, &str)>
 
 /// Whether a character is shown as it is.
 #[inline(always)]
-pub(crate) fn is_unchanged(character: char) -> bool
+fn is_unchanged(character: char) -> bool
     ensures { IsTrue result ↔ IsUnchanged stays_on_line character }
 {
     character != '\\' && stays_on_line(character)

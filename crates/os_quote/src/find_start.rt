@@ -2,37 +2,39 @@
 ghost use Rattle.std.specs.Prelude.{◌↔◌, ◌<◌, IsTrue, IfSome, MatchOption, length};
 ghost use Rattle.std.specs.Int.{IsInRange};
 ghost use Rattle.wtf8_core.specs.Covered.{StartsWithNoCharacter};
-ghost use Rattle.os_quote.specs.{Hidden.IsUnchanged, Shown.shown_by};
+ghost use Rattle.os_quote.specs.{Shown.shown_by, Shown.stays_on_line};
 ghost use Rattle.os_quote.specs.Start.{IsCutAfterToken, IsCutAfterUnit, IsCutAfterText};
 
-use crate::find_hidden::is_unchanged;
+use crate::find_hidden::is_hidden_ascii;
 use crate::form::Form;
 use os_str_bytes::Platform;
 use wtf8_core::{char_at, is_continuation};
 
-/// The character of ASCII at the start that is written as a token in a form, and the bytes after it.
+/// The character of ASCII at the start that is written as a token on a line, and the bytes after it. In
+/// the form that shows all, backslashes are found sooner by a search of the text that they are in.
 #[inline(always)]
 pub(crate) fn split_ascii_token(form: Form, bytes: &[u8]) -> Option<(char, &[u8])>
     ensures { IfSome result
         (λ start. IsCutAfterToken (shown_by form) bytes.now start.0 start.1.now) }
 {
+    match form {
+        Form::Text => None,
+        Form::Line => split_hidden_ascii(bytes),
+    }
+}
+
+/// The same on a line.
+#[inline(always)]
+fn split_hidden_ascii(bytes: &[u8]) -> Option<(char, &[u8])>
+    ensures { IfSome result
+        (λ start. IsCutAfterToken stays_on_line bytes.now start.0 start.1.now) }
+{
     let (first, rest) = bytes.split_first()?;
     let character = char::from(*first);
-    if *first < 0x80 && is_token(form, character) {
+    if is_hidden_ascii(character) {
         return Some((character, rest));
     }
     None
-}
-
-/// Whether a character is written as a token in a form.
-#[inline(always)]
-fn is_token(form: Form, character: char) -> bool
-    ensures { IsTrue result ↔ ¬ (IsUnchanged (shown_by form) character) }
-{
-    match form {
-        Form::Text => character == '\\',
-        Form::Line => !is_unchanged(character),
-    }
 }
 
 /// The unit at the start, and the bytes after it; `None` if the string begins with a character.

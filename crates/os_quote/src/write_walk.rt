@@ -61,11 +61,11 @@ pub(crate) fn write_escape_to<E: Platform, S: Sink>(
 {
     let mut rest = string.as_encoded_bytes();
     while !rest.is_empty() {
-        if let Some((plain, following)) = split_plain(rest) {
-            sink.take(plain)?;
-            rest = following;
-        } else if let Some((character, following)) = split_ascii_token(form, rest) {
+        if let Some((character, following)) = split_ascii_token(form, rest) {
             write_character(character, sink)?;
+            rest = following;
+        } else if let Some((plain, following)) = split_plain(rest) {
+            sink.take(plain)?;
             rest = following;
         } else if let Some((unit, following)) = split_unit::<E>(rest) {
             write_unit(unit, sink)?;

@@ -7,38 +7,38 @@ use Rattle.os_quote.proofs.write_walk.write_escape_to.Goals as goal
 pub take-requires : goal.take-requires
 take-requires g c =
     let none = no_units_of_none g.E.Platform.well_formed g.E.Platform.units g.E.Platform.part_units g.met.E.Platform.parts (g.met.E.Platform.laws.text [] IsUtf8-nil) in
-    let step = plain_first c.args.form g.E.Platform.units none c.in-Some.ensures.after in
+    let step = plain_first c.args.form g.E.Platform.units none c.in-Some-split_plain.ensures.after in
     room_left g.S.Sink.rules c.loop-rest.invariant.1 _ _ c.requires step
 
 pub returns-in_err-take : goal.returns-in_err-take
 returns-in_err-take g c =
     let none = no_units_of_none g.E.Platform.well_formed g.E.Platform.units g.E.Platform.part_units g.met.E.Platform.parts (g.met.E.Platform.laws.text [] IsUtf8-nil) in
-    let step = plain_first c.args.form g.E.Platform.units none c.in-Some.ensures.after in
-    rw (err_from_is_err_and c.from_residual.result c.from_residual.ensures.1).1 (none_taken g.S.Sink.rules c.loop-rest.invariant.1 _ _ c.in_err-take.ensures step)
+    let step = plain_first c.args.form g.E.Platform.units none c.in-Some-split_plain.ensures.after in
+    rw (err_from_is_err_and c.from_residual-in_err-take.result c.from_residual-in_err-take.ensures.1).1 (none_taken g.S.Sink.rules c.loop-rest.invariant.1 _ _ c.in_err-take.ensures step)
 
-pub loop-rest-preserved-in-Some : goal.loop-rest-preserved-in-Some
-loop-rest-preserved-in-Some g c =
+pub loop-rest-preserved-in-Some-split_plain : goal.loop-rest-preserved-in-Some-split_plain
+loop-rest-preserved-in-Some-split_plain g c =
     let none = no_units_of_none g.E.Platform.well_formed g.E.Platform.units g.E.Platform.part_units g.met.E.Platform.parts (g.met.E.Platform.laws.text [] IsUtf8-nil) in
-    let step = plain_first c.args.form g.E.Platform.units none c.in-Some.ensures.after in
-    (rest_formed g.E.Platform.well_formed g.met.E.Platform.laws.after_text c.loop-rest.invariant.0 c.in-Some.ensures.after.joined (plain_is_text _ c.in-Some.ensures.after.plain), one_taken g.S.Sink.rules c.loop-rest.invariant.1 c.in_ok-take.ensures step)
+    let step = plain_first c.args.form g.E.Platform.units none c.in-Some-split_plain.ensures.after in
+    (rest_formed g.E.Platform.well_formed g.met.E.Platform.laws.after_text c.loop-rest.invariant.0 c.in-Some-split_plain.ensures.after.joined (plain_is_text _ c.in-Some-split_plain.ensures.after.plain), one_taken g.S.Sink.rules c.loop-rest.invariant.1 c.in_ok-take.ensures step)
 
 pub write_character-requires : goal.write_character-requires
 write_character-requires g c =
     let none = no_units_of_none g.E.Platform.well_formed g.E.Platform.units g.E.Platform.part_units g.met.E.Platform.parts (g.met.E.Platform.laws.text [] IsUtf8-nil) in
-    let step = token_first (shown_by c.args.form) g.E.Platform.units none c.in-Some-split_ascii_token.ensures in
+    let step = token_first (shown_by c.args.form) g.E.Platform.units none c.in-Some.ensures in
     room_left g.S.Sink.rules c.loop-rest.invariant.1 _ _ c.requires step
 
 pub returns-in_err-write_character : goal.returns-in_err-write_character
 returns-in_err-write_character g c =
     let none = no_units_of_none g.E.Platform.well_formed g.E.Platform.units g.E.Platform.part_units g.met.E.Platform.parts (g.met.E.Platform.laws.text [] IsUtf8-nil) in
-    let step = token_first (shown_by c.args.form) g.E.Platform.units none c.in-Some-split_ascii_token.ensures in
-    rw (err_from_is_err_and c.from_residual-in_err-write_character.result c.from_residual-in_err-write_character.ensures.1).1 (none_taken g.S.Sink.rules c.loop-rest.invariant.1 _ _ c.in_err-write_character.ensures step)
+    let step = token_first (shown_by c.args.form) g.E.Platform.units none c.in-Some.ensures in
+    rw (err_from_is_err_and c.from_residual.result c.from_residual.ensures.1).1 (none_taken g.S.Sink.rules c.loop-rest.invariant.1 _ _ c.in_err-write_character.ensures step)
 
-pub loop-rest-preserved-in-Some-split_ascii_token : goal.loop-rest-preserved-in-Some-split_ascii_token
-loop-rest-preserved-in-Some-split_ascii_token g c =
+pub loop-rest-preserved-in-Some : goal.loop-rest-preserved-in-Some
+loop-rest-preserved-in-Some g c =
     let none = no_units_of_none g.E.Platform.well_formed g.E.Platform.units g.E.Platform.part_units g.met.E.Platform.parts (g.met.E.Platform.laws.text [] IsUtf8-nil) in
-    let step = token_first (shown_by c.args.form) g.E.Platform.units none c.in-Some-split_ascii_token.ensures in
-    (rest_formed g.E.Platform.well_formed g.met.E.Platform.laws.after_text {text = c.in-Some-split_ascii_token.character ∷ []} c.loop-rest.invariant.0 c.in-Some-split_ascii_token.ensures.joined (ascii_text _ c.in-Some-split_ascii_token.ensures.ascii), one_taken g.S.Sink.rules c.loop-rest.invariant.1 c.in_ok-write_character.ensures step)
+    let step = token_first (shown_by c.args.form) g.E.Platform.units none c.in-Some.ensures in
+    (rest_formed g.E.Platform.well_formed g.met.E.Platform.laws.after_text {text = c.in-Some.character ∷ []} c.loop-rest.invariant.0 c.in-Some.ensures.joined (ascii_text _ c.in-Some.ensures.ascii), one_taken g.S.Sink.rules c.loop-rest.invariant.1 c.in_ok-write_character.ensures step)
 
 pub write_unit-requires : goal.write_unit-requires
 write_unit-requires g c =
