@@ -1,4 +1,4 @@
-//! What a string begins with: a character of ASCII that is written as a token, a unit, or a text.
+//! What a string begins with: a character of ASCII that is written as a token, a text, or a unit.
 ghost use Rattle.std.specs.Prelude.{◌↔◌, ◌<◌, IsTrue, IfSome, MatchOption, length};
 ghost use Rattle.std.specs.Int.{IsInRange};
 ghost use Rattle.wtf8_core.specs.Covered.{StartsWithNoCharacter};
@@ -8,7 +8,7 @@ ghost use Rattle.os_quote.specs.Start.{IsCutAfterToken, IsCutAfterUnit, IsCutAft
 use crate::find_hidden::is_hidden_ascii;
 use crate::form::Form;
 use os_str_bytes::Platform;
-use wtf8_core::{char_at, is_continuation};
+use wtf8_core::is_continuation;
 
 /// The character of ASCII at the start that is written as a token on a line, and the bytes after it. In
 /// the form that shows all, backslashes are found sooner by a search of the text that they are in.
@@ -37,29 +37,26 @@ fn split_hidden_ascii(bytes: &[u8]) -> Option<(char, &[u8])>
     None
 }
 
-/// The unit at the start, and the bytes after it; `None` if the string begins with a character.
+/// The text at the start, and the bytes after it; `None` if no whole character starts there.
 #[inline(always)]
-pub(crate) fn split_unit<E: Platform>(bytes: &[u8]) -> Option<(u16, &[u8])>
+pub(crate) fn split_text<E: Platform>(bytes: &[u8]) -> Option<(&str, &[u8])>
     requires formed { E.well_formed bytes.now }
     requires some { 0 < length bytes.now }
-    ensures { MatchOption result (¬ (StartsWithNoCharacter bytes.now))
-        (λ start. IsCutAfterUnit E.well_formed E.units bytes.now start.0 start.1.now) }
+    ensures { MatchOption result (StartsWithNoCharacter bytes.now)
+        (λ parts. IsCutAfterText bytes.now parts.0.now parts.1.now) }
 {
-    if !begins_with_unit(bytes) {
+    if are_apart(bytes) {
         return None;
     }
-    let (unit, size) = E::first_unit(bytes);
-    let (_, rest) = bytes.split_at(size);
-    Some((unit, rest))
-}
-
-/// Whether no whole character starts at the first byte.
-#[inline(always)]
-fn begins_with_unit(bytes: &[u8]) -> bool
-    requires { 0 < length bytes.now }
-    ensures { IsTrue result ↔ StartsWithNoCharacter bytes.now }
-{
-    are_apart(bytes) || char_at(bytes, 0).is_none()
+    let len = match E::utf8_fault(bytes) {
+        Some((valid_up_to, _)) => valid_up_to,
+        None => bytes.len(),
+    };
+    if len == 0 {
+        return None;
+    }
+    let (text, rest) = bytes.split_at(len);
+    Some((unsafe { str::from_utf8_unchecked(text) }, rest))
 }
 
 /// Whether the first two bytes tell that no whole character starts at the first, as most often where
@@ -82,17 +79,15 @@ fn is_lead(byte: u8) -> bool
     matches!(byte, 0xC2..=0xF4)
 }
 
-/// The text at the start, and the bytes after it, if the string begins with a character.
+/// The unit at the start, where no whole character starts, and the bytes after it.
 #[inline(always)]
-pub(crate) fn split_text<E: Platform>(bytes: &[u8]) -> (&str, &[u8])
+pub(crate) fn split_unit<E: Platform>(bytes: &[u8]) -> (u16, &[u8])
     requires formed { E.well_formed bytes.now }
-    requires begins { ¬ (StartsWithNoCharacter bytes.now) }
-    ensures { IsCutAfterText bytes.now result.0.now result.1.now }
+    requires some { 0 < length bytes.now }
+    requires uncovered { StartsWithNoCharacter bytes.now }
+    ensures { IsCutAfterUnit E.well_formed E.units bytes.now result.0 result.1.now }
 {
-    let len = match E::utf8_fault(bytes) {
-        Some((valid_up_to, _)) => valid_up_to,
-        None => bytes.len(),
-    };
-    let (text, rest) = bytes.split_at(len);
-    (unsafe { str::from_utf8_unchecked(text) }, rest)
+    let (unit, size) = E::first_unit(bytes);
+    let (_, rest) = bytes.split_at(size);
+    (unit, rest)
 }

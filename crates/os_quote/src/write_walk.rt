@@ -67,12 +67,12 @@ pub(crate) fn write_escape_to<E: Platform, S: Sink>(
         } else if let Some((plain, following)) = split_plain(rest) {
             sink.take(plain)?;
             rest = following;
-        } else if let Some((unit, following)) = split_unit::<E>(rest) {
-            write_unit(unit, sink)?;
+        } else if let Some((text, following)) = split_text::<E>(rest) {
+            write_text(form, text, sink)?;
             rest = following;
         } else {
-            let (text, following) = split_text::<E>(rest);
-            write_text(form, text, sink)?;
+            let (unit, following) = split_unit::<E>(rest);
+            write_unit(unit, sink)?;
             rest = following;
         }
     }

@@ -1,10 +1,9 @@
 -- Escapes of strings that begin with a unit.
 use Rattle.os_quote.proofs.Common.{◌≡◌, ⊎_elim, ℕ, ◌+◌, ◌<◌, ◌≤◌, Bool, true, false, not, ◌||◌, true≢false, List, [], ◌∷◌, ◌++◌, map, length, take, drop, get_or, refl, sym, ap, ◌∙◌, subst, arith, append_assoc, append-nil, append_cancel_right, length-append, length-drop, length-take-le, take_all, take-append-drop, cases_lt, flat_map, flat_map-append, map-append, nil_from_length, chars, Chunk, AreChunks, PartLaws, chunks_of, some_chunks, encode, form_bounds, form_two, form_three, form_past, IsUtf8, IsInRange, Item, item_text, item_texts, unit_item, character_item, items_of, escape_of}
 use Rattle.std.proofs.lemmas.List.{get_or_append_left, take-take}
-use Rattle.std.proofs.Common.{Option, Some, None}
-use Rattle.std.specs.{Option.is_some, Str.IsValidUpTo}
+use Rattle.std.specs.Str.{IsValidUpTo}
 use Rattle.os_quote.specs.Start.{IsCutAfterUnit, IsCutAfterText}
-use Rattle.wtf8_core.specs.{Covered.StartsWithNoCharacter, Character.WholeCharacter, Character.IsCharacterAt, OccurrenceLaws.OccurrenceLaws, Byte.IsContinuation, Boundary.IsBoundary}
+use Rattle.wtf8_core.specs.{Covered.StartsWithNoCharacter, Character.WholeCharacter, OccurrenceLaws.OccurrenceLaws, Byte.IsContinuation, Boundary.IsBoundary}
 use Rattle.wtf8_core.proofs.lemmas.characters.{AtIndices.begins_at, AtIndices.character_fits, FourBytes.past_ascii, Overlaps.continued}
 use Rattle.platform_str.specs.Laws.{IsFirstUnit}
 use Rattle.os_str_ext.specs.{Chunks.BeginsNoCharacter, Chunks.IsFirstChunk, Parts.unit_number, Symbols.unit_symbol, Symbols.symbols_of, Symbols.chunks_symbols, declared.symbols.Symbol.Symbol}
@@ -33,30 +32,13 @@ told_apart s false continuation high l k told = without_lead s high (λ r. true�
 told_apart s true false high l k told = without_continuation s high (λ r. true≢false (sym (k r)))
 told_apart s true true high l k told = absurd (true≢false (sym told))
 
--- what the length of the first character says
-pub begins_by_answer : (s : List ℕ) (len : Option ℕ) (none : Bool) → IsCharacterAt s 0 len → is_some len ≡ not none → (none ≡ true → StartsWithNoCharacter s) × (StartsWithNoCharacter s → none ≡ true)
-begins_by_answer s (Some n) true whole e = absurd (true≢false e)
-begins_by_answer s (Some n) false whole e = (λ t. absurd (true≢false (sym t)), λ starts. absurd (starts (0 + n) whole))
-begins_by_answer s None true starts e = (λ _. starts, λ _. refl)
-begins_by_answer s None false starts e = absurd (true≢false (sym e))
+-- no whole character starts at a fault
+pub fault_at_start : (s : List ℕ) (n : ℕ) → IsValidUpTo s n → n ≡ 0 → StartsWithNoCharacter s
+fault_at_start s n valid zero = no_character_after s s 0 0 refl (subst (IsValidUpTo s) zero valid)
 
--- the longest text at the start isn't empty, if a character starts there
-module _ (s text rest : List ℕ) (begins : ¬ (StartsWithNoCharacter s)) where
-  pub cut_at_fault : (n : ℕ) → IsValidUpTo s n → length text ≡ n → text ≡ take n s → rest ≡ drop n s → IsCutAfterText s text rest
-  cut_at_fault n valid size text_is rest_is = record {
-    some = ⊎_elim (λ lt. omega (arith, lt, size)) (λ ge. absurd (begins (no_character_after s s 0 0 refl (subst (IsValidUpTo s) (omega (arith, ge)) valid)))) (cases_lt 0 n);
-    is_text = subst IsUtf8 (sym text_is) valid.front;
-    joined = sym (take-append-drop n s) ∙ ap (λ t. t ++ drop n s) (sym text_is) ∙ ap (λ r. text ++ r) (sym rest_is);
-  }
-
-  pub cut_at_end : (n : ℕ) → IsUtf8 s → n ≡ length s → text ≡ take n s → rest ≡ drop n s → IsCutAfterText s text rest
-  cut_at_end n u all text_is rest_is =
-      let same : text ≡ s = text_is ∙ take_all n s (omega (arith, all)) in
-      record {
-        some = ⊎_elim (λ lt. omega (arith, lt, ap length same)) (λ ge. absurd (begins (λ j w. let f = character_fits s 0 j w in omega (arith, ge, f)))) (cases_lt 0 (length s));
-        is_text = subst IsUtf8 (sym same) u;
-        joined = sym (take-append-drop n s) ∙ ap (λ t. t ++ drop n s) (sym text_is) ∙ ap (λ r. text ++ r) (sym rest_is);
-      }
+-- a text up to an index
+pub cut_text : (s text rest : List ℕ) (n : ℕ) → 0 < n → length text ≡ n → IsUtf8 text → text ≡ take n s → rest ≡ drop n s → IsCutAfterText s text rest
+cut_text s text rest n some size u text_is rest_is = record { some = omega (arith, some, size); is_text = u; joined = sym (take-append-drop n s) ∙ ap (λ t. t ++ drop n s) (sym text_is) ∙ ap (λ r. text ++ r) (sym rest_is) }
 
 -- the items of a string are those of its symbols
 module _ (shows : ℕ → Bool) (units : List ℕ → List ℕ) where

@@ -1,13 +1,18 @@
-use Rattle.os_quote.proofs.Common.{◌∙◌, ap, length, sym, subst}
-use Rattle.std.specs.Str.{IsValidUpTo}
-use Rattle.os_quote.proofs.lemmas.FirstUnits.{cut_at_fault, cut_at_end}
+use Rattle.os_quote.proofs.Common.{◌∙◌, ap, arith, cases_lt, length, sym, ⊎_elim}
+use Rattle.os_quote.proofs.lemmas.FirstUnits.{fault_at_start, cut_text}
 use Rattle.os_quote.proofs.find_start.split_text.Goals.{in-Some, in-None}
 use Rattle.os_quote.proofs.find_start.split_text.Goals as goal
 
+pub returns-then-len-eq0 : goal.returns-then-len-eq0
+returns-then-len-eq0 g c =
+    elim c.match-utf8_fault.branch [
+      in-Some w ↦ fault_at_start c.args.bytes.now w.in-Some.valid_up_to w.in-Some.ensures.valid (sym w.len-is ∙ c.if-len-eq0.true)
+    | in-None w ↦ absurd (let some = c.requires.some in omega (arith, some, sym w.len-is ∙ c.if-len-eq0.true))
+    ]
+
 pub returns : goal.returns
 returns g c =
-    let text_is = c.from_utf8_unchecked.ensures ∙ c.split_at.ensures.front in
-    elim c.match-utf8_fault.branch [
-      in-Some w ↦ cut_at_fault _ _ _ c.requires.begins c.match-utf8_fault.len (subst (IsValidUpTo c.args.bytes.now) (sym w.len-is) w.in-Some.ensures.valid) (ap length c.from_utf8_unchecked.ensures ∙ c.split_at.ensures.front_len) text_is c.split_at.ensures.back
-    | in-None w ↦ cut_at_end _ _ _ c.requires.begins c.match-utf8_fault.len w.in-None.ensures w.len-is text_is c.split_at.ensures.back
-    ]
+    let n = c.match-utf8_fault.len in
+    let same = c.from_utf8_unchecked.ensures in
+    let some = ⊎_elim (λ lt. lt) (λ ge. absurd (c.if-len-eq0.false (omega (arith, ge)))) (cases_lt 0 n) in
+    cut_text c.args.bytes.now _ _ n some (ap length same ∙ c.split_at.ensures.front_len) c.from_utf8_unchecked.utf8 (same ∙ c.split_at.ensures.front) c.split_at.ensures.back

@@ -43,38 +43,38 @@ loop-rest-preserved-in-Some g c =
 pub write_unit-requires : goal.write_unit-requires
 write_unit-requires g c =
     let none = no_units_of_none g.E.Platform.well_formed g.E.Platform.units g.E.Platform.part_units g.met.E.Platform.parts (g.met.E.Platform.laws.text [] IsUtf8-nil) in
-    let step = unit_first g.E.Platform.well_formed g.E.Platform.units g.met.E.Platform.occurrence none (g.met.E.Platform.laws.text [] IsUtf8-nil) (shown_by c.args.form) g.met.E.Platform.laws.cut_prefix c.loop-rest.invariant.0 c.in-Some-split_unit.ensures in
+    let step = unit_first g.E.Platform.well_formed g.E.Platform.units g.met.E.Platform.occurrence none (g.met.E.Platform.laws.text [] IsUtf8-nil) (shown_by c.args.form) g.met.E.Platform.laws.cut_prefix c.loop-rest.invariant.0 c.split_unit-unit.ensures in
     room_left g.S.Sink.rules c.loop-rest.invariant.1 _ _ c.requires step
 
 pub returns-in_err-write_unit : goal.returns-in_err-write_unit
 returns-in_err-write_unit g c =
     let none = no_units_of_none g.E.Platform.well_formed g.E.Platform.units g.E.Platform.part_units g.met.E.Platform.parts (g.met.E.Platform.laws.text [] IsUtf8-nil) in
-    let step = unit_first g.E.Platform.well_formed g.E.Platform.units g.met.E.Platform.occurrence none (g.met.E.Platform.laws.text [] IsUtf8-nil) (shown_by c.args.form) g.met.E.Platform.laws.cut_prefix c.loop-rest.invariant.0 c.in-Some-split_unit.ensures in
+    let step = unit_first g.E.Platform.well_formed g.E.Platform.units g.met.E.Platform.occurrence none (g.met.E.Platform.laws.text [] IsUtf8-nil) (shown_by c.args.form) g.met.E.Platform.laws.cut_prefix c.loop-rest.invariant.0 c.split_unit-unit.ensures in
     rw (err_from_is_err_and c.from_residual-in_err-write_unit.result c.from_residual-in_err-write_unit.ensures.1).1 (none_taken g.S.Sink.rules c.loop-rest.invariant.1 _ _ c.in_err-write_unit.ensures step)
 
-pub loop-rest-preserved-in-Some-split_unit : goal.loop-rest-preserved-in-Some-split_unit
-loop-rest-preserved-in-Some-split_unit g c =
+pub loop-rest-preserved : goal.loop-rest-preserved
+loop-rest-preserved g c =
     let none = no_units_of_none g.E.Platform.well_formed g.E.Platform.units g.E.Platform.part_units g.met.E.Platform.parts (g.met.E.Platform.laws.text [] IsUtf8-nil) in
-    let step = unit_first g.E.Platform.well_formed g.E.Platform.units g.met.E.Platform.occurrence none (g.met.E.Platform.laws.text [] IsUtf8-nil) (shown_by c.args.form) g.met.E.Platform.laws.cut_prefix c.loop-rest.invariant.0 c.in-Some-split_unit.ensures in
-    (subst g.E.Platform.well_formed (sym c.in-Some-split_unit.ensures.rest_is) c.in-Some-split_unit.ensures.first.after, one_taken g.S.Sink.rules c.loop-rest.invariant.1 c.in_ok-write_unit.ensures step)
+    let step = unit_first g.E.Platform.well_formed g.E.Platform.units g.met.E.Platform.occurrence none (g.met.E.Platform.laws.text [] IsUtf8-nil) (shown_by c.args.form) g.met.E.Platform.laws.cut_prefix c.loop-rest.invariant.0 c.split_unit-unit.ensures in
+    (subst g.E.Platform.well_formed (sym c.split_unit-unit.ensures.rest_is) c.split_unit-unit.ensures.first.after, one_taken g.S.Sink.rules c.loop-rest.invariant.1 c.in_ok-write_unit.ensures step)
 
 pub write_text-requires : goal.write_text-requires
 write_text-requires g c =
     let none = no_units_of_none g.E.Platform.well_formed g.E.Platform.units g.E.Platform.part_units g.met.E.Platform.parts (g.met.E.Platform.laws.text [] IsUtf8-nil) in
-    let step = text_first (shown_by c.args.form) g.E.Platform.units none _ c.split_text.ensures.is_text c.split_text.ensures.joined in
+    let step = text_first (shown_by c.args.form) g.E.Platform.units none _ c.in-Some-split_text.ensures.is_text c.in-Some-split_text.ensures.joined in
     room_left g.S.Sink.rules c.loop-rest.invariant.1 _ _ c.requires step
 
 pub returns-in_err-write_text : goal.returns-in_err-write_text
 returns-in_err-write_text g c =
     let none = no_units_of_none g.E.Platform.well_formed g.E.Platform.units g.E.Platform.part_units g.met.E.Platform.parts (g.met.E.Platform.laws.text [] IsUtf8-nil) in
-    let step = text_first (shown_by c.args.form) g.E.Platform.units none _ c.split_text.ensures.is_text c.split_text.ensures.joined in
+    let step = text_first (shown_by c.args.form) g.E.Platform.units none _ c.in-Some-split_text.ensures.is_text c.in-Some-split_text.ensures.joined in
     rw (err_from_is_err_and c.from_residual-in_err-write_text.result c.from_residual-in_err-write_text.ensures.1).1 (none_taken g.S.Sink.rules c.loop-rest.invariant.1 _ _ c.in_err-write_text.ensures step)
 
-pub loop-rest-preserved : goal.loop-rest-preserved
-loop-rest-preserved g c =
+pub loop-rest-preserved-in-Some-split_text : goal.loop-rest-preserved-in-Some-split_text
+loop-rest-preserved-in-Some-split_text g c =
     let none = no_units_of_none g.E.Platform.well_formed g.E.Platform.units g.E.Platform.part_units g.met.E.Platform.parts (g.met.E.Platform.laws.text [] IsUtf8-nil) in
-    let step = text_first (shown_by c.args.form) g.E.Platform.units none _ c.split_text.ensures.is_text c.split_text.ensures.joined in
-    (rest_formed g.E.Platform.well_formed g.met.E.Platform.laws.after_text c.loop-rest.invariant.0 c.split_text.ensures.joined c.split_text.ensures.is_text, one_taken g.S.Sink.rules c.loop-rest.invariant.1 c.in_ok-write_text.ensures step)
+    let step = text_first (shown_by c.args.form) g.E.Platform.units none _ c.in-Some-split_text.ensures.is_text c.in-Some-split_text.ensures.joined in
+    (rest_formed g.E.Platform.well_formed g.met.E.Platform.laws.after_text c.loop-rest.invariant.0 c.in-Some-split_text.ensures.joined c.in-Some-split_text.ensures.is_text, one_taken g.S.Sink.rules c.loop-rest.invariant.1 c.in_ok-write_text.ensures step)
 
 pub returns : goal.returns
 returns g c =
