@@ -6,8 +6,8 @@ use Rattle.os_quote.proofs.find_start.split_text.Goals as goal
 pub returns-then-len-eq0 : goal.returns-then-len-eq0
 returns-then-len-eq0 g c =
     elim c.match-utf8_fault.branch [
-      in-Some w ↦ fault_at_start c.args.bytes.now w.in-Some.valid_up_to w.in-Some.ensures.valid (sym w.len-is ∙ c.if-len-eq0.true)
-    | in-None w ↦ absurd (let some = c.requires.some in omega (arith, some, sym w.len-is ∙ c.if-len-eq0.true))
+      | in-Some w ↦ fault_at_start c.args.bytes.now w.in-Some.valid_up_to w.in-Some.ensures.valid (sym w.len-is ∙ c.if-len-eq0.true)
+      | in-None w ↦ absurd (let some = c.requires.some in omega (arith, some, sym w.len-is ∙ c.if-len-eq0.true))
     ]
 
 pub returns : goal.returns
