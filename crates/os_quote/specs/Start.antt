@@ -1,8 +1,6 @@
 -- What a string begins with. Only private contracts name these.
-use Rattle.std.specs.Prelude.{◌≡◌, ℕ, ◌<◌, Bool, List, ◌∷◌, ◌++◌, length, drop}
+use Rattle.std.specs.Prelude.{◌≡◌, ℕ, ◌<◌, Bool, List, ◌∷◌, ◌++◌, length}
 use Rattle.std.specs.Str.{IsUtf8}
-use Rattle.wtf8_core.specs.Covered.{StartsWithNoCharacter}
-use Rattle.platform_str.specs.Laws.{IsFirstUnit}
 use Rattle.os_quote.specs.Hidden.{IsUnchanged}
 
 -- the bytes are a character of ASCII that isn't unchanged in the form that shows these characters, and then the rest
@@ -10,13 +8,6 @@ pub record IsCutAfterToken (shows : ℕ → Bool) (bytes : List ℕ) (character 
   pub hidden : ¬ (IsUnchanged shows character)
   pub ascii : character < 0x80
   pub joined : bytes ≡ character ∷ rest
-
--- the bytes are those of a unit, where no whole character starts, and then the rest
-pub record IsCutAfterUnit (well_formed : List ℕ → Type 0) (units : List ℕ → List ℕ) (bytes : List ℕ) (unit : ℕ) (rest : List ℕ) : Type 0 where
-  pub uncovered : StartsWithNoCharacter bytes
-  pub size : ℕ
-  pub first : IsFirstUnit well_formed units bytes unit size
-  pub rest_is : rest ≡ drop size bytes
 
 -- the bytes are a text that isn't empty, and then the rest
 pub record IsCutAfterText (bytes text rest : List ℕ) : Type 0 where

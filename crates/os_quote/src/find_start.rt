@@ -1,9 +1,8 @@
-//! What a string begins with: a character of ASCII that is written as a token, a text, or a unit.
-ghost use Rattle.std.specs.Prelude.{◌↔◌, ◌<◌, IsTrue, IfSome, MatchOption, length};
-ghost use Rattle.std.specs.Int.{IsInRange};
+//! What a string begins with: a character of ASCII that is written as a token, or a text.
+ghost use Rattle.std.specs.Prelude.{◌<◌, IsTrue, IfSome, MatchOption, length};
 ghost use Rattle.wtf8_core.specs.Covered.{StartsWithNoCharacter};
-ghost use Rattle.os_quote.specs.{Shown.shown_by, Shown.stays_on_line};
-ghost use Rattle.os_quote.specs.Start.{IsCutAfterToken, IsCutAfterUnit, IsCutAfterText};
+ghost use Rattle.os_quote.specs.Shown.{shown_by};
+ghost use Rattle.os_quote.specs.Start.{IsCutAfterToken, IsCutAfterText};
 
 use crate::find_hidden::is_hidden_ascii;
 use crate::form::Form;
@@ -17,24 +16,12 @@ pub(crate) fn split_ascii_token(form: Form, bytes: &[u8]) -> Option<(char, &[u8]
     ensures { IfSome result
         (λ start. IsCutAfterToken (shown_by form) bytes.now start.0 start.1.now) }
 {
-    match form {
-        Form::Text => None,
-        Form::Line => split_hidden_ascii(bytes),
-    }
-}
-
-/// The same on a line.
-#[inline(always)]
-fn split_hidden_ascii(bytes: &[u8]) -> Option<(char, &[u8])>
-    ensures { IfSome result
-        (λ start. IsCutAfterToken stays_on_line bytes.now start.0 start.1.now) }
-{
     let (first, rest) = bytes.split_first()?;
     let character = char::from(*first);
-    if is_hidden_ascii(character) {
-        return Some((character, rest));
+    match form {
+        Form::Line if is_hidden_ascii(character) => Some((character, rest)),
+        _ => None,
     }
-    None
 }
 
 /// The text at the start, and the bytes after it; `None` if no whole character starts there.
@@ -68,26 +55,5 @@ fn are_apart(bytes: &[u8]) -> bool
     if bytes.len() < 2 {
         return false;
     }
-    bytes[0] >= 0x80 && (!is_lead(bytes[0]) | !is_continuation(bytes[1]))
-}
-
-/// Whether a byte begins the form of a character beyond ASCII (RFC 3629, section 4).
-#[inline(always)]
-fn is_lead(byte: u8) -> bool
-    ensures { IsTrue result ↔ IsInRange 0xC2 0xF4 byte }
-{
-    matches!(byte, 0xC2..=0xF4)
-}
-
-/// The unit at the start, where no whole character starts, and the bytes after it.
-#[inline(always)]
-pub(crate) fn split_unit<E: Platform>(bytes: &[u8]) -> (u16, &[u8])
-    requires formed { E.well_formed bytes.now }
-    requires some { 0 < length bytes.now }
-    requires uncovered { StartsWithNoCharacter bytes.now }
-    ensures { IsCutAfterUnit E.well_formed E.units bytes.now result.0 result.1.now }
-{
-    let (unit, size) = E::first_unit(bytes);
-    let (_, rest) = bytes.split_at(size);
-    (unit, rest)
+    bytes[0] >= 0x80 && (is_continuation(bytes[0]) | !is_continuation(bytes[1]))
 }

@@ -9,7 +9,7 @@ ghost use Rattle.os_quote.specs.{Shown.shown_by, Hidden.AreUnchanged, Hidden.IsC
 
 use crate::find_hidden::split_hidden;
 use crate::find_plain::split_plain;
-use crate::find_start::{split_ascii_token, split_text, split_unit};
+use crate::find_start::{split_ascii_token, split_text};
 use crate::form::Form;
 use crate::read_token::split_backslash;
 use crate::write_token::TokenText;
@@ -71,8 +71,9 @@ pub(crate) fn write_escape_to<E: Platform, S: Sink>(
             write_text(form, text, sink)?;
             rest = following;
         } else {
-            let (unit, following) = split_unit::<E>(rest);
+            let (unit, size) = E::first_unit(rest);
             write_unit(unit, sink)?;
+            let (_, following) = rest.split_at(size);
             rest = following;
         }
     }

@@ -1,15 +1,15 @@
 -- Escapes of strings that begin with a unit.
-use Rattle.os_quote.proofs.Common.{◌≡◌, ⊎_elim, ℕ, ◌+◌, ◌<◌, ◌≤◌, Bool, true, false, not, ◌||◌, true≢false, List, [], ◌∷◌, ◌++◌, map, length, take, drop, get_or, refl, sym, ap, ◌∙◌, subst, arith, append_assoc, append-nil, append_cancel_right, length-append, length-drop, length-take-le, take_all, take-append-drop, cases_lt, flat_map, flat_map-append, map-append, nil_from_length, chars, Chunk, AreChunks, PartLaws, chunks_of, some_chunks, encode, form_bounds, form_two, form_three, form_past, IsUtf8, IsInRange, Item, item_text, item_texts, unit_item, character_item, items_of, escape_of}
+use Rattle.os_quote.proofs.Common.{◌≡◌, ⊎_elim, ℕ, ◌+◌, ◌<◌, ◌≤◌, Bool, true, false, not, ◌||◌, true≢false, List, [], ◌∷◌, ◌++◌, map, length, take, drop, get_or, refl, sym, ap, ◌∙◌, subst, arith, append_assoc, append-nil, append_cancel_right, length-append, length-drop, length-take-le, take_all, take-append-drop, cases_lt, flat_map, flat_map-append, map-append, nil_from_length, chars, Chunk, AreChunks, PartLaws, chunks_of, some_chunks, encode, form_bounds, form_two, form_three, form_past, IsUtf8, Item, item_text, item_texts, unit_item, character_item, items_of, escape_of}
 use Rattle.std.proofs.lemmas.List.{get_or_append_left, take-take}
 use Rattle.std.specs.Str.{IsValidUpTo}
-use Rattle.os_quote.specs.Start.{IsCutAfterUnit, IsCutAfterText}
+use Rattle.os_quote.specs.Start.{IsCutAfterText}
 use Rattle.wtf8_core.specs.{Covered.StartsWithNoCharacter, Character.WholeCharacter, OccurrenceLaws.OccurrenceLaws, Byte.IsContinuation, Boundary.IsBoundary}
-use Rattle.wtf8_core.proofs.lemmas.characters.{AtIndices.begins_at, AtIndices.character_fits, FourBytes.past_ascii, Overlaps.continued}
+use Rattle.wtf8_core.proofs.lemmas.characters.{AtIndices.begins_at, AtIndices.character_fits, FourBytes.past_ascii, Overlaps.continued, Overlaps.no_start}
 use Rattle.platform_str.specs.Laws.{IsFirstUnit}
-use Rattle.os_str_ext.specs.{Chunks.BeginsNoCharacter, Chunks.IsFirstChunk, Parts.unit_number, Symbols.unit_symbol, Symbols.symbols_of, Symbols.chunks_symbols, declared.symbols.Symbol.Symbol}
+use Rattle.os_str_ext.specs.{Chunks.IsFirstChunk, Parts.unit_number, Symbols.unit_symbol, Symbols.symbols_of, Symbols.chunks_symbols, declared.symbols.Symbol.Symbol}
 use Rattle.os_str_ext.specs.declared.symbols.Symbol.TheVariants.{Character}
 use Rattle.os_str_ext.specs.declared.symbols.Symbol.TheVariants as symbol
-use Rattle.os_str_ext.proofs.lemmas.{EachChunk.first_of, FirstChunk.edges, FirstChunk.no_character_after, SymbolSteps.symbols_by_unit, UncoveredStart.no_beginning}
+use Rattle.os_str_ext.proofs.lemmas.{EachChunk.first_of, FirstChunk.edges, FirstChunk.no_character_after, SymbolSteps.symbols_by_unit}
 
 two_or_more : (c : ℕ) → 0x80 ≤ c → 2 ≤ length (encode c)
 two_or_more c h =
@@ -17,20 +17,17 @@ two_or_more c h =
     (λ ge. ⊎_elim (λ l. omega (arith, ap length (form_three c ge l))) (λ past. omega (arith, ap length (form_past c past))) (cases_lt c 0x1_0000))
     (cases_lt c 0x800)
 
--- no whole character starts with two bytes of which the first begins none, or the second continues none
-without_lead : (s : List ℕ) → 0x80 ≤ get_or s 0 0 → ¬ (IsInRange 0xC2 0xF4 (get_or s 0 0)) → StartsWithNoCharacter s
-without_lead s high n j w = no_beginning s 0 j (high, n) w
-
+-- no whole character starts with two bytes of which the first continues one, or the second continues none
 without_continuation : (s : List ℕ) → 0x80 ≤ get_or s 0 0 → ¬ (IsContinuation (get_or s 1 0)) → StartsWithNoCharacter s
 without_continuation s high n j w =
     let c = w.char in
     let same : get_or s 0 0 ≡ get_or (encode c) 0 0 = ap (λ l. get_or l 0 0) (begins_at s 0 j w) ∙ get_or_append_left (encode c) w.occurs.after 0 0 (form_bounds c).0 in
     n (continued s 0 j 1 w (omega arith) (omega (arith, two_or_more c (past_ascii c (subst (λ x. 0x80 ≤ x) same high)), w.end)))
 
-pub told_apart : (s : List ℕ) (lead continuation : Bool) → 0x80 ≤ get_or s 0 0 → (IsInRange 0xC2 0xF4 (get_or s 0 0) → lead ≡ true) → (IsContinuation (get_or s 1 0) → continuation ≡ true) → not lead || not continuation ≡ true → StartsWithNoCharacter s
-told_apart s false continuation high l k told = without_lead s high (λ r. true≢false (sym (l r)))
-told_apart s true false high l k told = without_continuation s high (λ r. true≢false (sym (k r)))
-told_apart s true true high l k told = absurd (true≢false (sym told))
+pub told_apart : (s : List ℕ) (first second : Bool) → 0x80 ≤ get_or s 0 0 → (first ≡ true → IsContinuation (get_or s 0 0)) → (IsContinuation (get_or s 1 0) → second ≡ true) → first || not second ≡ true → StartsWithNoCharacter s
+told_apart s true second high f k told = λ j w. no_start s 0 j (f refl) w
+told_apart s false false high f k told = without_continuation s high (λ r. true≢false (sym (k r)))
+told_apart s false true high f k told = absurd (true≢false (sym told))
 
 -- no whole character starts at a fault
 pub fault_at_start : (s : List ℕ) (n : ℕ) → IsValidUpTo s n → n ≡ 0 → StartsWithNoCharacter s
@@ -146,10 +143,8 @@ module _ (well_formed : List ℕ → Type 0) (units : List ℕ → List ℕ) (oc
           ∙ ap (λ x. item_text (unit_item u) ++ x) (sym (escape_by_symbols shows units (drop n s)))
 
   -- the first unit's token, and the escape of what follows it
-  pub unit_first : (shows : ℕ → Bool) → ((b : List ℕ) (i : ℕ) → well_formed b → IsBoundary b i → well_formed (take i b)) → {bytes rest : List ℕ} {unit : ℕ} → well_formed bytes → IsCutAfterUnit well_formed units bytes unit rest
-      → escape_of shows units bytes ≡ item_text (unit_item unit) ++ escape_of shows units rest
-  unit_first shows cut_prefix {bytes} {rest} {unit} formed cut =
-      let first = cut.first in
-      let f = first_chunk bytes (chunks_of bytes) (some_chunks bytes).1 (omega (arith, first.some, first.within)) cut.uncovered in
-      let part_formed = cut_prefix bytes f.0 formed (edges bytes f.0 f.1.0 f.1.1.1).0 in
-      by_part bytes unit cut.size formed first f.0 f.1.0 f.1.1.1 f.1.1.0 part_formed shows ∙ ap (λ r. item_text (unit_item unit) ++ escape_of shows units r) (sym cut.rest_is)
+  pub unit_first : (shows : ℕ → Bool) → ((b : List ℕ) (i : ℕ) → well_formed b → IsBoundary b i → well_formed (take i b)) → {bytes : List ℕ} {unit size : ℕ} → well_formed bytes → StartsWithNoCharacter bytes → IsFirstUnit well_formed units bytes unit size
+      → escape_of shows units bytes ≡ item_text (unit_item unit) ++ escape_of shows units (drop size bytes)
+  unit_first shows cut_prefix {bytes} {unit} {size} formed uncovered first =
+      let f = first_chunk bytes (chunks_of bytes) (some_chunks bytes).1 (omega (arith, first.some, first.within)) uncovered in
+      by_part bytes unit size formed first f.0 f.1.0 f.1.1.1 f.1.1.0 (cut_prefix bytes f.0 formed (edges bytes f.0 f.1.0 f.1.1.1).0) shows

@@ -1,4 +1,4 @@
-use Rattle.os_quote.proofs.Common.{[], ◌∷◌, ◌∙◌, sym, ap, subst, nil_from_length, eqb-true, IsUtf8-nil, item_texts, items_of, shown_by}
+use Rattle.os_quote.proofs.Common.{[], ◌++◌, ◌∷◌, ◌∙◌, sym, ap, subst, nil_from_length, eqb-true, IsUtf8-nil, escape_of, item_text, item_texts, items_of, shown_by, unit_item}
 use Rattle.std.proofs.lemmas.Result.{err_from_is_err_and}
 use Rattle.os_str_ext.proofs.lemmas.FirstChunk.{no_chunks}
 use Rattle.os_quote.proofs.lemmas.{Escapes.no_units_of_none, FirstUnits.unit_first, PlainBytes.plain_is_text, Prefixes.ascii_text, Prefixes.plain_first, Prefixes.rest_formed, Prefixes.text_first, Prefixes.token_first, Taking.one_taken, Taking.all_taken, Taking.room_left, Taking.none_taken}
@@ -43,20 +43,23 @@ loop-rest-preserved-in-Some g c =
 pub write_unit-requires : goal.write_unit-requires
 write_unit-requires g c =
     let none = no_units_of_none g.E.Platform.well_formed g.E.Platform.units g.E.Platform.part_units g.met.E.Platform.parts (g.met.E.Platform.laws.text [] IsUtf8-nil) in
-    let step = unit_first g.E.Platform.well_formed g.E.Platform.units g.met.E.Platform.occurrence none (g.met.E.Platform.laws.text [] IsUtf8-nil) (shown_by c.args.form) g.met.E.Platform.laws.cut_prefix c.loop-rest.invariant.0 c.split_unit-unit.ensures in
+    let step = unit_first g.E.Platform.well_formed g.E.Platform.units g.met.E.Platform.occurrence none (g.met.E.Platform.laws.text [] IsUtf8-nil) (shown_by c.args.form) g.met.E.Platform.laws.cut_prefix c.loop-rest.invariant.0 c.in_default-split_text.ensures c.first_unit-unit.ensures in
     room_left g.S.Sink.rules c.loop-rest.invariant.1 _ _ c.requires step
 
 pub returns-in_err-write_unit : goal.returns-in_err-write_unit
 returns-in_err-write_unit g c =
     let none = no_units_of_none g.E.Platform.well_formed g.E.Platform.units g.E.Platform.part_units g.met.E.Platform.parts (g.met.E.Platform.laws.text [] IsUtf8-nil) in
-    let step = unit_first g.E.Platform.well_formed g.E.Platform.units g.met.E.Platform.occurrence none (g.met.E.Platform.laws.text [] IsUtf8-nil) (shown_by c.args.form) g.met.E.Platform.laws.cut_prefix c.loop-rest.invariant.0 c.split_unit-unit.ensures in
+    let step = unit_first g.E.Platform.well_formed g.E.Platform.units g.met.E.Platform.occurrence none (g.met.E.Platform.laws.text [] IsUtf8-nil) (shown_by c.args.form) g.met.E.Platform.laws.cut_prefix c.loop-rest.invariant.0 c.in_default-split_text.ensures c.first_unit-unit.ensures in
     rw (err_from_is_err_and c.from_residual-in_err-write_unit.result c.from_residual-in_err-write_unit.ensures.1).1 (none_taken g.S.Sink.rules c.loop-rest.invariant.1 _ _ c.in_err-write_unit.ensures step)
 
 pub loop-rest-preserved : goal.loop-rest-preserved
 loop-rest-preserved g c =
     let none = no_units_of_none g.E.Platform.well_formed g.E.Platform.units g.E.Platform.part_units g.met.E.Platform.parts (g.met.E.Platform.laws.text [] IsUtf8-nil) in
-    let step = unit_first g.E.Platform.well_formed g.E.Platform.units g.met.E.Platform.occurrence none (g.met.E.Platform.laws.text [] IsUtf8-nil) (shown_by c.args.form) g.met.E.Platform.laws.cut_prefix c.loop-rest.invariant.0 c.split_unit-unit.ensures in
-    (subst g.E.Platform.well_formed (sym c.split_unit-unit.ensures.rest_is) c.split_unit-unit.ensures.first.after, one_taken g.S.Sink.rules c.loop-rest.invariant.1 c.in_ok-write_unit.ensures step)
+    let step = unit_first g.E.Platform.well_formed g.E.Platform.units g.met.E.Platform.occurrence none (g.met.E.Platform.laws.text [] IsUtf8-nil) (shown_by c.args.form) g.met.E.Platform.laws.cut_prefix c.loop-rest.invariant.0 c.in_default-split_text.ensures c.first_unit-unit.ensures in
+    let back = c.split_at.ensures.back in (
+      subst g.E.Platform.well_formed (sym back) c.first_unit-unit.ensures.after,
+      one_taken g.S.Sink.rules c.loop-rest.invariant.1 c.in_ok-write_unit.ensures (step ∙ ap (λ r. item_text (unit_item c.first_unit-unit.result.0) ++ escape_of (shown_by c.args.form) g.E.Platform.units r) (sym back)),
+    )
 
 pub write_text-requires : goal.write_text-requires
 write_text-requires g c =
