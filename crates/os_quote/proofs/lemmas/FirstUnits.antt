@@ -1,10 +1,11 @@
 -- Escapes of strings that begin with a unit.
-use Rattle.os_quote.proofs.Common.{◌≡◌, ⊎_elim, ℕ, ◌+◌, ◌<◌, ◌≤◌, Bool, true, false, not, ◌||◌, true≢false, List, [], ◌∷◌, ◌++◌, map, length, take, drop, get_or, refl, sym, ap, ◌∙◌, subst, arith, append_assoc, append-nil, append_cancel_right, length-append, length-drop, length-take-le, take_all, take-append-drop, cases_lt, flat_map, flat_map-append, map-append, nil_from_length, chars, Chunk, AreChunks, PartLaws, chunks_of, some_chunks, encode, form_bounds, form_two, form_three, form_past, IsUtf8, Item, item_text, item_texts, unit_item, character_item, items_of, escape_of}
+use Rattle.os_quote.proofs.Common.{◌≡◌, ⊎_elim, ℕ, ◌+◌, ◌<◌, ◌≤◌, Bool, true, false, not, ◌||◌, true≢false, List, [], ◌∷◌, ◌++◌, map, length, take, drop, get_or, refl, sym, ap, ◌∙◌, subst, arith, append_cancel_right, length-append, length-drop, length-take-le, take-append-drop, cases_lt, map-append, nil_from_length, chars, Chunk, AreChunks, chunks_of, some_chunks, encode, form_bounds, form_two, form_three, form_past, IsUtf8, Item, item_text, item_texts, unit_item, character_item, items_of, escape_of}
 use Rattle.std.proofs.lemmas.List.{get_or_append_left, take-take}
 use Rattle.std.specs.Str.{IsValidUpTo}
 use Rattle.os_quote.specs.Start.{IsCutAfterText}
 use Rattle.wtf8_core.specs.{Covered.StartsWithNoCharacter, Character.WholeCharacter, OccurrenceLaws.OccurrenceLaws, Byte.IsContinuation, Boundary.IsBoundary}
-use Rattle.wtf8_core.proofs.lemmas.characters.{AtIndices.begins_at, AtIndices.character_fits, FourBytes.past_ascii, Overlaps.continued, Overlaps.no_start}
+use Rattle.wtf8_core.proofs.lemmas.occurrence.Indices.{no_units, nothing}
+use Rattle.wtf8_core.proofs.lemmas.characters.{AtIndices.begins_at, FourBytes.past_ascii, Overlaps.continued, Overlaps.no_start}
 use Rattle.platform_str.specs.Laws.{IsFirstUnit}
 use Rattle.os_str_ext.specs.{Chunks.IsFirstChunk, Parts.unit_number, Symbols.unit_symbol, Symbols.symbols_of, Symbols.chunks_symbols, declared.symbols.Symbol.Symbol}
 use Rattle.os_str_ext.specs.declared.symbols.Symbol.TheVariants.{Character}
@@ -70,11 +71,7 @@ part_at_start : (s : List ℕ) (c : Chunk) (cs : List Chunk) → AreChunks s (c 
 part_at_start s c cs h none =
     let p = h.each [] cs c refl in
     let some = p.some in
-    ⊎_elim (λ lt. lt)
-    (λ ge. absurd (let covered = p.covered 0 (omega (arith, ge)) (omega arith) in
-    let from = covered.from in
-    none covered.end (subst (λ x. WholeCharacter s x covered.end) (omega arith) covered.whole)))
-    (cases_lt 0 (length c.0))
+    ⊎_elim (λ lt. lt) (λ ge. absurd (let q = p.covered 0 (omega (arith, ge)) (omega arith) in let from = q.from in none q.end (subst (λ x. WholeCharacter s x q.end) (omega arith) q.whole))) (cases_lt 0 (length c.0))
 
 first_chunk : (s : List ℕ) (cs : List Chunk) → AreChunks s cs → 0 < length s → StartsWithNoCharacter s → (m : ℕ) × ((e : ℕ) × ((0 < m) × IsFirstChunk s m e))
 first_chunk s [] h some none = absurd (let size = ap length h.joins in omega (arith, some, size))
@@ -85,30 +82,23 @@ none_after : {u : ℕ} (us vs : List ℕ) → (us ≡ [] → ⊥) → us ++ vs �
 none_after [] vs some e = absurd (some refl)
 none_after (x ∷ us) vs some e = nil_from_length vs (let size = ap length e in omega (arith, size, length-append us vs))
 
-module _ (well_formed : List ℕ → Type 0) (units : List ℕ → List ℕ) (occurrence : OccurrenceLaws well_formed units) (no_units : units [] ≡ []) (none_formed : well_formed []) where
-  -- a string without units is empty
-  none_of_none : (x : List ℕ) → well_formed x → units x ≡ [] → x ≡ []
-  none_of_none x w e = occurrence.once x [] w none_formed (e ∙ sym no_units)
-
+module _ {well_formed : List ℕ → Type 0} {units : List ℕ → List ℕ} (occurrence : OccurrenceLaws well_formed units) where
   module _ (s : List ℕ) (u n : ℕ) (formed : well_formed s) (first : IsFirstUnit well_formed units s u n) where
-    whole : take n s ++ drop n s ≡ s
-    whole = take-append-drop n s
-
     -- the bytes of the unit are a string
     unit_formed : well_formed (take n s)
-    unit_formed = occurrence.ends (take n s) (drop n s) first.after (subst well_formed (sym whole) formed)
+    unit_formed = occurrence.ends (take n s) (drop n s) first.after (subst well_formed (sym (take-append-drop n s)) formed)
 
     unit_alone : units (take n s) ≡ u ∷ []
     unit_alone =
         append_cancel_right (units (take n s)) (u ∷ []) (units (drop n s))
-        (sym (occurrence.prefixes (take n s) (drop n s) unit_formed (subst well_formed (sym whole) formed)).1 ∙ ap units whole ∙ first.units_are)
+        (sym (occurrence.prefixes (take n s) (drop n s) unit_formed (subst well_formed (sym (take-append-drop n s)) formed)).1 ∙ ap units (take-append-drop n s) ∙ first.units_are)
 
     module _ (m e : ℕ) (h : IsFirstChunk s m e) (some : 0 < m) (part_formed : well_formed (take m s)) where
       within : m ≤ length s
       within = omega (arith, h.ordered, h.within)
 
       units_of_part : units (take m s) ≡ [] → ⊥
-      units_of_part none = omega (arith, some, length-take-le m s within, ap length (none_of_none (take m s) part_formed none))
+      units_of_part none = omega (arith, some, length-take-le m s within, ap length (nothing well_formed units occurrence (take m s) part_formed none))
 
       -- they are no more than the part
       in_part : n ≤ m
@@ -120,7 +110,7 @@ module _ (well_formed : List ℕ → Type 0) (units : List ℕ → List ℕ) (oc
               let parts : take m s ++ x ≡ take n s = ap (λ p. p ++ x) (sym (take-take m n s (omega (arith, lt)))) ∙ take-append-drop m (take n s) in
               let rest = occurrence.prefixes (take m s) x part_formed (subst well_formed (sym parts) unit_formed) in
               let none = none_after (units (take m s)) (units x) units_of_part (sym rest.1 ∙ ap units parts ∙ unit_alone) in
-              let size = ap length (none_of_none x rest.0 none) in
+              let size = ap length (nothing well_formed units occurrence x rest.0 none) in
               omega (arith, lt, size, length-drop m (take n s), length-take-le n s first.within)
 
       -- so it is the part's first unit, too
@@ -129,17 +119,12 @@ module _ (well_formed : List ℕ → Type 0) (units : List ℕ → List ℕ) (oc
           let part = take m s in
           let parts : take n s ++ drop n part ≡ part = ap (λ p. p ++ drop n part) (sym (take-take n m s in_part)) ∙ take-append-drop n part in
           let rest = occurrence.prefixes (take n s) (drop n part) unit_formed (subst well_formed (sym parts) part_formed) in
-          record {
-            some = first.some;
-            within = omega (arith, in_part, length-take-le m s within);
-            after = rest.0;
-            units_are = sym (ap units parts) ∙ rest.1 ∙ ap (λ us. us ++ units (drop n part)) unit_alone;
-          }
+          record { some = first.some; within = omega (arith, in_part, length-take-le m s within); after = rest.0; units_are = sym (ap units parts) ∙ rest.1 ∙ ap (λ us. us ++ units (drop n part)) unit_alone }
 
       by_part : (shows : ℕ → Bool) → escape_of shows units s ≡ item_text (unit_item u) ++ escape_of shows units (drop n s)
       by_part shows =
           escape_by_symbols shows units s
-          ∙ ap (λ xs. item_texts (map (symbol_item shows units) xs)) (symbols_by_unit well_formed units s m e u n h first_of_part (omega (arith, some, within)) no_units)
+          ∙ ap (λ xs. item_texts (map (symbol_item shows units) xs)) (symbols_by_unit well_formed units s m e u n h first_of_part (omega (arith, some, within)) (no_units well_formed units occurrence))
           ∙ ap (λ x. item_text (unit_item u) ++ x) (sym (escape_by_symbols shows units (drop n s)))
 
   -- the first unit's token, and the escape of what follows it

@@ -1,7 +1,9 @@
 -- Escapes of strings that begin with a text.
-use Rattle.os_quote.proofs.Common.{◌≡◌, ⊎_elim, ℕ, ◌+◌, ◌-◌, ◌<◌, Bool, List, [], ◌∷◌, ◌++◌, map, length, refl, sym, ap, ◌∙◌, subst, arith, append_assoc, length-append, IsUtf8, chars, cases_lt, chars-append, IsCovered, CrossesNoCharacter, Chunk, joined, AreChunks, AreChunksFrom, chunks_from_start, are_chunks, some_chunks, chunks_once, one_more_chunk, Covered, over_none, covered_after, seam_at_start, text_covered, chunks_of, Item, item_texts, unit_item, character_item, items_of, escape_of, item_text, flat_map-append, map-append, take, drop, take_at, drop_at, IsAfterPlain, shown_by, chars-nil, append-nil, encode_utf8, encode_ascii, AllByRecursion, IsUtf8-nil, IsUtf8-from_ascii, IsUnchanged, IsCutAtToken, token_of}
+use Rattle.os_quote.proofs.Common.{◌≡◌, ⊎_elim, ℕ, ◌+◌, ◌-◌, ◌<◌, Bool, List, [], ◌∷◌, ◌++◌, map, length, refl, sym, ap, ◌∙◌, subst, arith, append_assoc, length-append, IsUtf8, chars, cases_lt, chars-append, IsCovered, CrossesNoCharacter, Chunk, joined, AreChunks, AreChunksFrom, chunks_from_start, are_chunks, some_chunks, chunks_once, one_more_chunk, Covered, over_none, covered_after, seam_at_start, text_covered, chunks_of, Item, item_texts, unit_item, character_item, items_of, escape_of, item_text, flat_map-append, map-append, IsAfterPlain, shown_by, chars-nil, append-nil, encode_utf8, encode_ascii, AllByRecursion, IsUtf8-nil, IsUtf8-from_ascii, IsUnchanged, IsCutAtToken, token_of}
 use Rattle.os_quote.specs.declared.form.Form.{Form}
 use Rattle.os_quote.specs.Start.{IsCutAfterToken}
+use Rattle.wtf8_core.specs.OccurrenceLaws.{OccurrenceLaws}
+use Rattle.wtf8_core.proofs.lemmas.occurrence.Indices.{no_units}
 use Rattle.os_quote.proofs.lemmas.{PlainBytes.plain_is_text, PlainBytes.plain_is_own, Readings.ascii_all, Texts.text_items, Texts.text_escape, Texts.cut_escape}
 use Rattle.wtf8_core.proofs.lemmas.chunks.OneList.{after_seam}
 
@@ -85,37 +87,33 @@ module _ (p r : List ℕ) (u : IsUtf8 p) (some : 0 < length p) where
         ap (λ x. item_texts (items_of shows units x)) (chunks_once (p ++ r) (chunks_of (p ++ r)) (first_chunks cs) (some_chunks (p ++ r)).1 (are_prefix cs (some_chunks r).1))
         ∙ prefix_items cs
 
-module _ (well_formed : List ℕ → Type 0) (after_text : (b : List ℕ) (n : ℕ) → well_formed b → IsUtf8 (take n b) → well_formed (drop n b)) {bytes text rest : List ℕ} (formed : well_formed bytes) (parts : bytes ≡ text ++ rest) where
-  -- what follows a text at the start of a string is a string
-  pub rest_formed : IsUtf8 text → well_formed rest
-  rest_formed u =
-      let n = length text in
-      subst well_formed (ap (drop n) parts ∙ drop_at text rest n refl) (after_text bytes n formed (subst IsUtf8 (sym (ap (take n) parts ∙ take_at text rest n refl)) u))
-
 -- a character of ASCII is a text
 pub ascii_text : (c : ℕ) → c < 0x80 → IsUtf8 (c ∷ [])
 ascii_text c low = IsUtf8-from_ascii (c ∷ []) (ascii_all (c ∷ []) (low, tt))
 
-module _ (shows : ℕ → Bool) (units : List ℕ → List ℕ) (no_units : units [] ≡ []) where
+module _ {well_formed : List ℕ → Type 0} {units : List ℕ → List ℕ} (occurrence : OccurrenceLaws well_formed units) where
+  -- what follows a text at the start of a string is a string
+  pub rest_formed : {bytes text : List ℕ} (rest : List ℕ) → well_formed bytes → IsUtf8 text → bytes ≡ text ++ rest → well_formed rest
+  rest_formed {text = text} rest formed u e = (occurrence.prefixes text rest (occurrence.texts text u) (subst well_formed e formed)).0
+
   -- and its escape follows the text's
-  prefix_escape : (p r : List ℕ) → IsUtf8 p → escape_of shows units (p ++ r) ≡ text_escape shows p ++ escape_of shows units r
-  prefix_escape [] r u = ap (λ cs. item_texts (map (character_item shows) cs) ++ escape_of shows units r) (sym chars-nil)
-  prefix_escape (x ∷ p) r u = some_prefix (x ∷ p) r u (omega arith) shows units no_units
+  prefix_escape : (shows : ℕ → Bool) (p r : List ℕ) → IsUtf8 p → escape_of shows units (p ++ r) ≡ text_escape shows p ++ escape_of shows units r
+  prefix_escape shows [] r u = ap (λ cs. item_texts (map (character_item shows) cs) ++ escape_of shows units r) (sym chars-nil)
+  prefix_escape shows (x ∷ p) r u = some_prefix (x ∷ p) r u (omega arith) shows units (no_units well_formed units occurrence)
 
-  pub text_first : {bytes text : List ℕ} (rest : List ℕ) → IsUtf8 text → bytes ≡ text ++ rest → escape_of shows units bytes ≡ text_escape shows text ++ escape_of shows units rest
-  text_first {text = text} rest u e = ap (escape_of shows units) e ∙ prefix_escape text rest u
+  pub text_first : (shows : ℕ → Bool) {bytes text : List ℕ} (rest : List ℕ) → IsUtf8 text → bytes ≡ text ++ rest → escape_of shows units bytes ≡ text_escape shows text ++ escape_of shows units rest
+  text_first shows {text = text} rest u e = ap (escape_of shows units) e ∙ prefix_escape shows text rest u
 
-  pub token_first : {bytes rest : List ℕ} {c : ℕ} → IsCutAfterToken shows bytes c rest → escape_of shows units bytes ≡ item_text (token_of c) ++ escape_of shows units rest
-  token_first {bytes} {rest} {c} cut =
+  pub token_first : (shows : ℕ → Bool) {bytes rest : List ℕ} {c : ℕ} → IsCutAfterToken shows bytes c rest → escape_of shows units bytes ≡ item_text (token_of c) ++ escape_of shows units rest
+  token_first shows {bytes} {rest} {c} cut =
       let one : List ℕ = c ∷ [] in
       let u = ascii_text c cut.ascii in
       let at : IsCutAtToken shows one [] c [] =
       record { unchanged = subst (AllByRecursion (IsUnchanged shows)) (sym chars-nil) tt; hidden = cut.hidden; joined = sym (append-nil (encode_utf8 c) ∙ encode_ascii c cut.ascii); prefix_text = IsUtf8-nil; after_text = IsUtf8-nil } in
       let token : text_escape shows one ≡ item_text (token_of c) =
       cut_escape shows u at ∙ ap (λ cs. item_text (token_of c) ++ item_texts (map (character_item shows) cs)) chars-nil ∙ append-nil (item_text (token_of c)) in
-      text_first {text = one} rest u cut.joined ∙ ap (λ x. x ++ escape_of shows units rest) token
+      text_first shows {text = one} rest u cut.joined ∙ ap (λ x. x ++ escape_of shows units rest) token
 
-pub plain_first : (form : Form) (units : List ℕ → List ℕ) → units [] ≡ [] → {bytes prefix rest : List ℕ} → IsAfterPlain bytes prefix rest
-    → escape_of (shown_by form) units bytes ≡ prefix ++ escape_of (shown_by form) units rest
-plain_first form units none {prefix = prefix} {rest = rest} after =
-    text_first (shown_by form) units none rest (plain_is_text prefix after.plain) after.joined ∙ ap (λ x. x ++ escape_of (shown_by form) units rest) (plain_is_own form prefix after.plain)
+  pub plain_first : (form : Form) {bytes prefix rest : List ℕ} → IsAfterPlain bytes prefix rest → escape_of (shown_by form) units bytes ≡ prefix ++ escape_of (shown_by form) units rest
+  plain_first form {prefix = prefix} {rest = rest} after =
+      text_first (shown_by form) rest (plain_is_text prefix after.plain) after.joined ∙ ap (λ x. x ++ escape_of (shown_by form) units rest) (plain_is_own form prefix after.plain)
