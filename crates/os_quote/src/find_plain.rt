@@ -22,15 +22,11 @@ pub(crate) fn are_plain(bytes: &[u8]) -> bool
     bytes.len() <= PIECE && plain_end(bytes, 0) == bytes.len()
 }
 
-/// Plain bytes at the start, at most a piece, as a text, and the bytes after them. The first byte is
-/// asked by itself, since where one token or unit follows another there are none.
+/// Plain bytes at the start, at most a piece, as a text, and the bytes after them.
 pub(crate) fn split_plain(bytes: &[u8]) -> Option<(&str, &[u8])>
     ensures { MatchOption result (Unit {0})
         (λ parts. IsCutAfterPlain bytes.now parts.0.now parts.1.now) }
 {
-    if bytes.is_empty() || !is_plain(bytes[0]) {
-        return None;
-    }
     let len = plain_len(bytes);
     if len == 0 {
         return None;
