@@ -276,6 +276,7 @@ impl<'s, 'a, E: Platform> Arguments<'s, 'a, E> {
 }
 
 /// The last option once a word was read: the word, or the option before where the word is a value.
+#[inline(always)]
 fn last_option<'a, E: Platform>(
     before: Option<Word<'a, OsStr<'a, E>>>,
     read: Word<'a, OsStr<'a, E>>,

@@ -81,6 +81,7 @@ fn split_name<'a, E: Platform>(long: OsStr<'a, E>) -> (OsStr<'a, E>, OsStr<'a, E
 }
 
 /// Reads one of the flags that are left, of which there are some, and returns the rest of them.
+#[inline(always)]
 pub(crate) fn read_flag<'a, E: Platform>(
     flags: OsStr<'a, E>,
 ) -> (Word<'a, OsStr<'a, E>>, OsStr<'a, E>)

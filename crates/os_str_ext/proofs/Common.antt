@@ -4,7 +4,7 @@ pub use Rattle.memchr.specs.Find.{FindsLastNeedle, FindsNeedle, IsFirstByte, Now
 pub use Rattle.os_str_ext.specs.Characters.{IsOneCharacter}
 pub use Rattle.os_str_ext.specs.Chunks.{IsUncoveredUpTo, IsChunkOf, IsFirstChunk, chunks_of}
 pub use Rattle.os_str_ext.specs.Cuts.{AreOfRest, ArePieces, pieces_left}
-pub use Rattle.os_str_ext.specs.Symbols.{IsKnownPart, chunks_symbols, symbols_of, unit_symbol}
+pub use Rattle.os_str_ext.specs.Symbols.{chunks_symbols, symbols_of, unit_symbol}
 pub use Rattle.os_str_ext.specs.declared.symbols.Symbol.TheVariants.{Character}
 pub use Rattle.platform_str.specs.Laws.{IsFirstUnit}
 pub use Rattle.platform_str.specs.Strings.{bytes}

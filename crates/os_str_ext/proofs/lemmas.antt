@@ -14,5 +14,6 @@ pub mod Repeats
 pub mod Runs
 pub mod CutUnits
 pub mod SymbolSteps
+pub mod UnitAtStart
 pub mod EdgeCharacters
 pub mod SymbolBytes

@@ -1,5 +1,5 @@
 -- The first and the last character of a string, each with the rest of the string (std's `str` has the first by `chars`).
-use Rattle.std.specs.Prelude.{◌≡◌, ◌+◌, ◌-◌, ◌≤◌, ℕ, List, ◌++◌, length, take, Option, MatchOption}
+use Rattle.std.specs.Prelude.{◌≡◌, ◌-◌, ◌≤◌, ℕ, List, ◌++◌, length, Option, MatchOption}
 use Rattle.std.specs.Char.{IsScalar, encode_utf8}
 use Rattle.wtf8_core.specs.{Character.WholeCharacter, CodePoint.encode, Covered.StartsWithNoCharacter}
 

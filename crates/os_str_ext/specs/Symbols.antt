@@ -1,10 +1,10 @@
 -- A string as symbols, from the first on: the characters of its texts and the units of its parts (this project's own words).
-use Rattle.std.specs.Prelude.{◌≡◌, ◌<◌, ℕ, pos, List, ◌++◌, map}
+use Rattle.std.specs.Prelude.{◌≡◌, ℕ, pos, List, ◌++◌, map}
 use Rattle.std.specs.{Char.encode_utf8, Hash.HashWrites}
 use Rattle.std.specs.Hash as fed
 use Rattle.std.specs.{List.flat_map, Str.chars}
 use Rattle.wtf8_core.specs.{Chunks.Chunk, Chunks.AreChunks, PartUnits.unit_bytes}
-use Rattle.os_str_ext.specs.Chunks.{chunks_of, IsFirstChunk}
+use Rattle.os_str_ext.specs.Chunks.{chunks_of}
 use Rattle.os_str_ext.specs.{Parts.unit_number, declared.symbols.Symbol.Symbol}
 use Rattle.os_str_ext.specs.declared.symbols.Symbol.TheVariants.{Character}
 use Rattle.os_str_ext.specs.declared.symbols.Symbol.TheVariants as symbol
@@ -40,7 +40,3 @@ symbol_fed (symbol.Unit u) = fed.isize (pos 1) ++ fed.u16 (unit_number u)
 -- the one list of symbols of a string
 abbrev pub symbols_of : (List ℕ → List ℕ) → List ℕ → List Symbol
 symbols_of units s = chunks_symbols units (chunks_of s)
-
--- the first n bytes of s are the part of its first chunk, or n is 0
-abbrev pub IsKnownPart : List ℕ → ℕ → Type 0
-IsKnownPart s n = 0 < n → (e : ℕ) × IsFirstChunk s n e

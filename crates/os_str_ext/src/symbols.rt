@@ -1,17 +1,15 @@
 //! The symbols of a string: its whole characters, and the units of what isn't text.
-ghost use Rattle.std.specs.Prelude.{◌≡◌, ◌∷◌, [], ◌<◌, ℕ, length, MatchOption};
+ghost use Rattle.std.specs.Prelude.{◌≡◌, ◌∷◌, [], ◌<◌, length, MatchOption};
 ghost use Rattle.std.specs.Iterator.{YieldsFirst, item_count};
 ghost use Rattle.wtf8_core.specs.Covered.{StartsWithNoCharacter};
 ghost use Rattle.platform_str.specs.Strings.{bytes};
-ghost use Rattle.os_str_ext.specs.Chunks.{IsFirstChunk};
-ghost use Rattle.os_str_ext.specs.Symbols.{AreSymbols, IsKnownPart, symbols_of};
+ghost use Rattle.os_str_ext.specs.Symbols.{AreSymbols, symbols_of};
 
 use crate::characters::split_first_char;
 use crate::os_units::OsUnit;
 use platform_str::{OsStr, Platform};
 use std::alloc::AllocError;
 use std::marker::Model;
-use wtf8_core::char_at;
 
 /// One element of a string: a whole character, or a unit of what isn't text.
 ///
@@ -33,21 +31,17 @@ pub enum Symbol {
 #[derive(Drop)]
 pub struct Symbols<'a, E: Platform + 'a> {
     rest: OsStr<'a, E>,
-    // The length of the part at the start of the rest, or 0 if it isn't known.
-    part: usize,
 }
 
 impl<'a, E: Platform> Model for Symbols<'a, E> {
     ghost use Rattle.std.specs.Prelude.{List};
     ghost use Rattle.platform_str.specs.Strings.{bytes};
-    ghost use Rattle.os_str_ext.specs.Symbols.{IsKnownPart, symbols_of};
+    ghost use Rattle.os_str_ext.specs.Symbols.{symbols_of};
     ghost use Rattle.os_str_ext.specs.declared.symbols.Symbol.{Symbol};
 
     ghost Value = { List Symbol };
 
     ghost view = { λ it. symbols_of E.units (bytes it.rest) };
-
-    ghost invariant = { λ it. IsKnownPart (bytes it.rest) it.part };
 }
 
 impl<'a, E: Platform> Clone for Symbols<'a, E> {
@@ -56,10 +50,7 @@ impl<'a, E: Platform> Clone for Symbols<'a, E> {
     ghost is_infallible = { λ _. Unit {0} };
 
     fn clone(&self) -> Result<Self, AllocError> {
-        Ok(Symbols {
-            rest: self.rest,
-            part: self.part,
-        })
+        Ok(Symbols { rest: self.rest })
     }
 }
 
@@ -70,10 +61,7 @@ impl<'a, E: Platform> Symbols<'a, E> {
         ensures symbols { AreSymbols E.units (bytes string.entry) result }
         ensures value { result ≡ symbols_of E.units (bytes string.entry) }
     {
-        Symbols {
-            rest: string,
-            part: 0,
-        }
+        Symbols { rest: string }
     }
 
     /// The rest of the string, whose symbols are left (as std's `str::Chars::as_str`). It borrows
@@ -104,72 +92,41 @@ impl<'a, E: Platform> Iterator for Symbols<'a, E> {
 
     #[inline(always)]
     fn next(&mut self) -> Option<Symbol> {
-        let Some((symbol, rest)) = first_symbol(self.rest, self.part) else {
-            return None;
-        };
-        *self = rest;
+        let (symbol, rest) = split_first_symbol(self.rest)?;
+        self.rest = rest;
         Some(symbol)
     }
 }
 
-/// The first symbol of a string, and the symbols after it; `None` if the string is empty.
+/// The first symbol of a string, and what comes after it; `None` if the string is empty.
 #[inline(always)]
-fn first_symbol<'a, E: Platform>(
-    string: OsStr<'a, E>,
-    part: usize,
-) -> Option<(Symbol, Symbols<'a, E>)>
-    requires { IsKnownPart (bytes string) part }
+fn split_first_symbol<'a, E: Platform>(string: OsStr<'a, E>) -> Option<(Symbol, OsStr<'a, E>)>
     ensures { MatchOption result (symbols_of E.units (bytes string.entry) ≡ [])
-        (λ first. symbols_of E.units (bytes string.entry) ≡ first.0 ∷ first.1) }
+        (λ first. symbols_of E.units (bytes string.entry)
+        ≡ first.0 ∷ symbols_of E.units (bytes first.1)) }
 {
     if let Some((character, rest)) = split_first_char(string) {
-        return Some((Symbol::Character(character), Symbols { rest, part }));
+        return Some((Symbol::Character(character), rest));
     }
     if string.is_empty() {
         return None;
     }
-    Some(first_of_part(string, part))
+    Some(split_first_unit(string))
 }
 
-/// The first symbol and those after it if the string begins with a unit.
+/// The same if the string begins with a unit.
 #[inline(always)]
-fn first_of_part<'a, E: Platform>(string: OsStr<'a, E>, known: usize) -> (Symbol, Symbols<'a, E>)
+fn split_first_unit<'a, E: Platform>(string: OsStr<'a, E>) -> (Symbol, OsStr<'a, E>)
     requires some { 0 < length (bytes string) }
     requires uncovered { StartsWithNoCharacter (bytes string) }
-    requires known { IsKnownPart (bytes string) known }
-    ensures { symbols_of E.units (bytes string.entry) ≡ result.0 ∷ result.1 }
+    ensures { symbols_of E.units (bytes string.entry)
+        ≡ result.0 ∷ symbols_of E.units (bytes result.1) }
 {
     let bytes = string.as_encoded_bytes();
-    let len = part_len(bytes, known);
-    let (part, _) = bytes.split_at(len);
-    let (number, size) = E::first_unit(part);
+    let (number, size) = E::first_unit(bytes);
     let (_, rest) = bytes.split_at(size);
-    let symbols = Symbols {
-        rest: OsStr::from_encoded_bytes_unchecked(rest),
-        part: len - size,
-    };
-    (Symbol::Unit(OsUnit { number }), symbols)
-}
-
-/// The length of the part with which the bytes begin.
-#[cold]
-#[inline(never)]
-fn part_len(bytes: &[u8], known: usize) -> usize
-    requires some { 0 < length bytes.now }
-    requires uncovered { StartsWithNoCharacter bytes.now }
-    requires known { IsKnownPart bytes.now known }
-    ensures some { 0 < result }
-    ensures part { (e : ℕ) × IsFirstChunk bytes.now result e }
-{
-    if known > 0 {
-        return known;
-    }
-    let mut at = 1;
-    while at < bytes.len() {
-        match char_at(bytes, at) {
-            Some(_) => return at,
-            None => at += 1,
-        }
-    }
-    bytes.len()
+    (
+        Symbol::Unit(OsUnit { number }),
+        OsStr::from_encoded_bytes_unchecked(rest),
+    )
 }

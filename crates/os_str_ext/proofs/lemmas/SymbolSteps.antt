@@ -1,5 +1,5 @@
 -- The symbols of a string, taken off one by one.
-use Rattle.os_str_ext.proofs.Common.{◌≡◌, ⊎_elim, ℕ, ◌+◌, ◌-◌, ◌<◌, ◌≤◌, List, [], ◌∷◌, ◌++◌, map, length, take, drop, refl, sym, ap, ◌∙◌, subst, arith, append_assoc, append-nil, length-append, length-drop, take-append-drop, drop-drop, cases_lt, cases_eq, length-take-le, take-take, drop-take, drop_at, take_at, encode_same, IsScalar, encode_utf8, IsUtf8, chars, encode_utf8_all, WholeCharacter, encode, IsCovered, StartsWithNoCharacter, OccurrenceLaws, character_fits, whole_at, whole_within, form_encode, IsFirstUnit, IsUncoveredUpTo, IsFirstChunk, IsKnownPart, chunks_symbols, symbols_of, unit_symbol, Character}
+use Rattle.os_str_ext.proofs.Common.{◌≡◌, ⊎_elim, ℕ, ◌+◌, ◌-◌, ◌<◌, ◌≤◌, List, [], ◌∷◌, ◌++◌, map, length, take, drop, refl, sym, ap, ◌∙◌, subst, arith, append_assoc, append-nil, length-append, length-drop, take-append-drop, drop-drop, cases_lt, cases_eq, length-take-le, drop-take, drop_at, take_at, encode_same, IsScalar, encode_utf8, IsUtf8, chars, encode_utf8_all, WholeCharacter, encode, IsCovered, character_fits, whole_at, whole_within, form_encode, IsFirstUnit, IsUncoveredUpTo, IsFirstChunk, chunks_symbols, symbols_of, unit_symbol, Character}
 use Rattle.std.proofs.lemmas.Str.{IsUtf8-past_char, chars-nil, chars_past_char}
 use Rattle.wtf8_core.proofs.lemmas.characters.Seams.{covered_within}
 use Rattle.os_str_ext.proofs.lemmas.{EachChunk.text_end, FirstChunk.first_and_rest, FirstChunk.first_of_parts, FirstChunk.no_chunks}
@@ -54,15 +54,11 @@ module _ (s : List ℕ) (m e n : ℕ) (h : IsFirstChunk s m e) (within : n ≤ e
       }
 
 -- a part ends where a character begins
-pub part_before_character : (s : List ℕ) (i j : ℕ) → IsUncoveredUpTo s i → WholeCharacter s i j → (e : ℕ) × IsFirstChunk s i e
+part_before_character : (s : List ℕ) (i j : ℕ) → IsUncoveredUpTo s i → WholeCharacter s i j → (e : ℕ) × IsFirstChunk s i e
 part_before_character s i j uncovered w =
     let t = text_end s i uncovered.within in
     let some : i < t.0 = ⊎_elim (λ same. absurd (t.1.ended j (subst (λ k. WholeCharacter s k j) same w))) (λ ne. omega (arith, ne, t.1.ordered)) (cases_eq i t.0) in
     (t.0, first_of_parts s i t.0 uncovered.uncovered (λ _. some) t.1.ordered t.1.within t.1.text t.1.ended)
-
--- the first byte is in a part
-pub uncovered_first : (s : List ℕ) → 0 < length s → StartsWithNoCharacter s → IsUncoveredUpTo s 1
-uncovered_first s some uncovered = record { within = omega (arith, some); uncovered = λ k j low w. let z : k ≡ 0 = omega (arith, low) in uncovered j (subst (λ x. WholeCharacter s x j) z w) }
 
 -- after the first unit of the part
 module _ (well_formed : List ℕ → Type 0) (units : List ℕ → List ℕ) (s : List ℕ) (m e u n : ℕ) (h : IsFirstChunk s m e) (first : IsFirstUnit well_formed units (take m s) u n) where
@@ -78,9 +74,6 @@ module _ (well_formed : List ℕ → Type 0) (units : List ℕ → List ℕ) (s 
   chunk_left : n < e → IsFirstChunk (drop n s) (m - n) (e - n)
   chunk_left lt = first_left s m e n h in_chunk lt (subst IsUtf8 (sym same_text) h.text)
 
-  pub part_after_unit : IsKnownPart (drop n s) (m - n)
-  part_after_unit lt = (e - n, chunk_left (omega (arith, lt, h.ordered)))
-
   pub symbols_by_unit : 0 < length s → units [] ≡ [] → symbols_of units s ≡ unit_symbol u ∷ symbols_of units (drop n s)
   symbols_by_unit some none =
       let after = map Character (chars (drop m (take e s))) ++ symbols_of units (drop e s) in
@@ -91,14 +84,6 @@ module _ (well_formed : List ℕ → Type 0) (units : List ℕ → List ℕ) (s 
       ∙ ap (λ t. map unit_symbol (units (take (m - n) (drop n s))) ++ (map Character (chars t) ++ symbols_of units (drop e s))) (sym same_text)
       ∙ ap (λ r. map unit_symbol (units (take (m - n) (drop n s))) ++ (map Character (chars (drop (m - n) (take (e - n) (drop n s)))) ++ symbols_of units r)) (sym (left_after s n e in_chunk))
       ∙ sym (laid_out units (drop n s) (m - n) (e - n) none (omega (arith, h.ordered)) (λ pos. chunk_left (omega (arith, pos)))))
-
-  -- what is left is a string
-  pub formed_after_unit : OccurrenceLaws well_formed units → well_formed s → well_formed (take m s) → well_formed (drop n s)
-  formed_after_unit laws formed part_formed =
-      let part = take m s in
-      let prefix : well_formed (take n s) =
-      subst well_formed (take-take n m s in_part) (laws.ends (take n part) (drop n part) first.after (subst well_formed (sym (take-append-drop n part)) part_formed)) in
-      (laws.prefixes (take n s) (drop n s) prefix (subst well_formed (sym (take-append-drop n s)) formed)).0
 
 -- the first k bytes of s are a text that begins with c
 record BeginsText (s rest : List ℕ) (c k : ℕ) : Type 0 where
@@ -129,12 +114,6 @@ module _ (s rest : List ℕ) (c : ℕ) (scalar : IsScalar c) (is : s ≡ encode_
             utf8 = IsUtf8-past_char (take k s) left d u (sym e);
             rest_is = sym same.1;
           }
-
-  -- so it doesn't begin with a part
-  pub known_after_character : (part : ℕ) → IsKnownPart s part → IsKnownPart rest part
-  known_after_character part known lt =
-      let f = character_fits s 0 (0 + length (encode c)) starts in
-      absurd ((known lt).1.uncovered 0 lt (record { start = 0; end = 0 + length (encode c); whole = starts; from = omega arith; below = omega (arith, f) }))
 
   pub symbols_by_character : (units : List ℕ → List ℕ) → units [] ≡ [] → symbols_of units s ≡ Character c ∷ symbols_of units rest
   symbols_by_character units none =

@@ -16,7 +16,7 @@ no_beginning s a b n w =
     n.1 (subst First (sym same) (lead_of c w.scalar (past_ascii c (subst (λ x. 0x80 ≤ x) same n.0))))
 
 -- one byte more, if no character starts there
-pub uncovered_next : (s : List ℕ) (i : ℕ) → IsUncoveredUpTo s i → i < length s → ((j : ℕ) → ¬ (WholeCharacter s i j)) → IsUncoveredUpTo s (i + 1)
+uncovered_next : (s : List ℕ) (i : ℕ) → IsUncoveredUpTo s i → i < length s → ((j : ℕ) → ¬ (WholeCharacter s i j)) → IsUncoveredUpTo s (i + 1)
 uncovered_next s i p lt none = record {
   within = omega (arith, lt);
   uncovered = λ k j low w. ⊎_elim (λ e. none j (subst (λ x. WholeCharacter s x j) e w)) (λ ne. p.uncovered k j (omega (arith, low, ne)) w) (cases_eq k i);

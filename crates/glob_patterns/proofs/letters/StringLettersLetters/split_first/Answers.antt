@@ -2,7 +2,8 @@ use Rattle.std.proofs.Common.{rules, ◌≡◌, ◌+◌, ◌∙◌, sym, subst, 
 use Rattle.wtf8_core.specs.Character.{WholeCharacter}
 use Rattle.glob_patterns.specs.Letters.{letters_of}
 use Rattle.wildcards.specs.Reading.{IsFirstLetter}
-use Rattle.glob_patterns.proofs.lemmas.UnitLetters.{character_first, first_unit_symbol, unit_first}
+use Rattle.os_str_ext.proofs.lemmas.UnitAtStart.{symbols_from_unit}
+use Rattle.glob_patterns.proofs.lemmas.UnitLetters.{character_first, unit_first}
 use Rattle.glob_patterns.proofs.letters.StringLettersLetters.split_first.Goals as goal
 
 pub returns-in_default : goal.returns-in_default
@@ -11,7 +12,7 @@ returns-in_default g c =
     let formed = g.E.Platform.well_formed in
     let units = g.E.Platform.units in
     let laws = g.met.E.Platform.laws in
-    let symbols = first_unit_symbol formed units g.met.E.Platform.occurrence g.met.E.Platform.parts.encoded laws.cut_prefix s _ _ c.requires.formed c.first_unit-unit.ensures c.requires.some c.in_default.ensures in
+    let symbols = symbols_from_unit g.met.E.Platform.occurrence laws.cut_prefix c.requires.formed c.in_default.ensures c.first_unit-unit.ensures in
     subst (λ unit. IsFirstLetter formed (letters_of units) s (0x11_0000 + unit) c.split_at.result.1.now) (sym c.from.ensures)
     (unit_first formed units g.met.E.Platform.occurrence laws.cut_suffix s _ _ _ c.requires.some symbols c.first_unit-unit.ensures c.split_at.ensures.back)
 

@@ -1,10 +1,7 @@
 use Rattle.os_str_ext.proofs.Common.{no_units, bytes}
 use Rattle.std.proofs.Common.{rules}
-use Rattle.os_str_ext.proofs.lemmas.SymbolSteps.{known_after_character, no_symbols, symbols_by_character}
-use Rattle.os_str_ext.proofs.symbols.first_symbol.Goals as goal
-
-pub invariant_of-result : goal.invariant_of-result
-invariant_of-result g c = known_after_character (bytes c.args.string) (bytes c.in-Some.rest) c.in-Some.character (search rules) c.in-Some.ensures.bytes c.args.part c.requires
+use Rattle.os_str_ext.proofs.lemmas.SymbolSteps.{no_symbols, symbols_by_character}
+use Rattle.os_str_ext.proofs.symbols.split_first_symbol.Goals as goal
 
 pub returns-in-Some : goal.returns-in-Some
 returns-in-Some g c =
