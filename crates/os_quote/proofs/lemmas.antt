@@ -22,5 +22,7 @@ pub mod Hidden
 pub use Rattle.os_str_ext.proofs.lemmas.EachChunk
 pub mod Prefixes
 pub mod FirstUnits
+pub mod ByteTexts
+pub mod ByteStarts
 pub mod PlainBytes
 pub mod PlainLanes

@@ -1,13 +1,17 @@
 -- What a string begins with. Only private contracts name these.
-use Rattle.std.specs.Prelude.{◌≡◌, ℕ, ◌<◌, Bool, List, ◌∷◌, ◌++◌, length}
+use Rattle.std.specs.Prelude.{◌≡◌, ℕ, ◌<◌, nat_lt, if◌then◌else◌, List, ◌++◌, length}
 use Rattle.std.specs.Str.{IsUtf8}
-use Rattle.os_quote.specs.Hidden.{IsUnchanged}
+use Rattle.os_quote.specs.{Item.Item, Item.ByteUnit, Item.character_item, Shown.stays_on_line, Escaped.escape_of}
 
--- the bytes are a character of ASCII that isn't unchanged in the form that shows these characters, and then the rest
-pub record IsCutAfterToken (shows : ℕ → Bool) (bytes : List ℕ) (character : ℕ) (rest : List ℕ) : Type 0 where
-  pub hidden : ¬ (IsUnchanged shows character)
-  pub ascii : character < 0x80
-  pub joined : bytes ≡ character ∷ rest
+-- a byte that is written by itself on a line: a character of ASCII, or a unit
+abbrev pub byte_item : ℕ → Item
+byte_item b = if nat_lt b 0x80 then character_item stays_on_line b else ByteUnit b
+
+-- the escape of a string on one line begins with a text; what follows the text is the escape of the rest, a string
+pub record BeginsWith (well_formed : List ℕ → Type 0) (units : List ℕ → List ℕ) (bytes text rest : List ℕ) : Type 0 where
+  pub formed : well_formed rest
+  pub shorter : length rest < length bytes
+  pub escape : escape_of stays_on_line units bytes ≡ text ++ escape_of stays_on_line units rest
 
 -- the bytes are a text that isn't empty, and then the rest
 pub record IsCutAfterText (bytes text rest : List ℕ) : Type 0 where

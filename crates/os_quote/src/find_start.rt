@@ -1,28 +1,10 @@
-//! What a string begins with: a character of ASCII that is written as a token, or a text.
-ghost use Rattle.std.specs.Prelude.{◌<◌, IsTrue, IfSome, MatchOption, length};
+//! Whether a string begins with a text.
+ghost use Rattle.std.specs.Prelude.{◌<◌, IsTrue, MatchOption, length};
 ghost use Rattle.wtf8_core.specs.Covered.{StartsWithNoCharacter};
-ghost use Rattle.os_quote.specs.Shown.{shown_by};
-ghost use Rattle.os_quote.specs.Start.{IsCutAfterToken, IsCutAfterText};
+ghost use Rattle.os_quote.specs.Start.{IsCutAfterText};
 
-use crate::find_hidden::is_hidden_ascii;
-use crate::form::Form;
 use os_str_bytes::Platform;
 use wtf8_core::is_continuation;
-
-/// The character of ASCII at the start that is written as a token on a line, and the bytes after it. In
-/// the form that shows all, backslashes are found sooner by a search of the text that they are in.
-#[inline(always)]
-pub(crate) fn split_ascii_token(form: Form, bytes: &[u8]) -> Option<(char, &[u8])>
-    ensures { IfSome result
-        (λ start. IsCutAfterToken (shown_by form) bytes.now start.0 start.1.now) }
-{
-    let (first, rest) = bytes.split_first()?;
-    let character = char::from(*first);
-    match form {
-        Form::Line if is_hidden_ascii(character) => Some((character, rest)),
-        _ => None,
-    }
-}
 
 /// The text at the start, and the bytes after it; `None` if no whole character starts there.
 #[inline(always)]
@@ -49,7 +31,7 @@ pub(crate) fn split_text<E: Platform>(bytes: &[u8]) -> Option<(&str, &[u8])>
 /// Whether the first two bytes tell that no whole character starts at the first, as most often where
 /// none does.
 #[inline(always)]
-fn are_apart(bytes: &[u8]) -> bool
+pub(crate) fn are_apart(bytes: &[u8]) -> bool
     ensures { IsTrue result → StartsWithNoCharacter bytes.now }
 {
     if bytes.len() < 2 {

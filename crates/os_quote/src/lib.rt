@@ -23,6 +23,7 @@ mod read_buffer;
 mod read_string;
 mod read_token;
 mod write_buffer;
+mod write_bytes;
 mod write_display;
 mod write_string;
 mod write_token;

@@ -9,9 +9,10 @@ ghost use Rattle.os_quote.specs.{Shown.shown_by, Hidden.AreUnchanged, Hidden.IsC
 
 use crate::find_hidden::split_hidden;
 use crate::find_plain::split_plain;
-use crate::find_start::{split_ascii_token, split_text};
+use crate::find_start::split_text;
 use crate::form::Form;
 use crate::read_token::split_backslash;
+use crate::write_bytes::{TEXTS, put_texts, split_line_byte};
 use crate::write_token::TokenText;
 use os_str_bytes::{OsStr, Platform};
 use std::fmt;
@@ -61,12 +62,14 @@ pub(crate) fn write_escape_to<E: Platform, S: Sink>(
 {
     let mut rest = string.as_encoded_bytes();
     while !rest.is_empty() {
-        if let Some((character, following)) = split_ascii_token(form, rest) {
-            write_character(character, sink)?;
-            rest = following;
-        } else if let Some((plain, following)) = split_plain(rest) {
+        if let Some((plain, following)) = split_plain(rest) {
             sink.take(plain)?;
             rest = following;
+        } else if let Some((byte, following)) = split_line_byte::<E>(form, rest) {
+            let mut texts = [0; TEXTS];
+            let (len, after) = put_texts::<E>(&mut texts, byte, following);
+            sink.take(unsafe { str::from_utf8_unchecked(&texts[..len]) })?;
+            rest = after;
         } else if let Some((text, following)) = split_text::<E>(rest) {
             write_text(form, text, sink)?;
             rest = following;

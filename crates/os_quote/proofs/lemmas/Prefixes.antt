@@ -1,10 +1,9 @@
 -- Escapes of strings that begin with a text.
-use Rattle.os_quote.proofs.Common.{◌≡◌, ⊎_elim, ℕ, ◌+◌, ◌-◌, ◌<◌, Bool, List, [], ◌∷◌, ◌++◌, map, length, refl, sym, ap, ◌∙◌, subst, arith, append_assoc, length-append, IsUtf8, chars, cases_lt, chars-append, IsCovered, CrossesNoCharacter, Chunk, joined, AreChunks, AreChunksFrom, chunks_from_start, are_chunks, some_chunks, chunks_once, one_more_chunk, Covered, over_none, covered_after, seam_at_start, text_covered, chunks_of, Item, item_texts, unit_item, character_item, items_of, escape_of, item_text, flat_map-append, map-append, IsAfterPlain, shown_by, chars-nil, append-nil, encode_utf8, encode_ascii, AllByRecursion, IsUtf8-nil, IsUtf8-from_ascii, IsUnchanged, IsCutAtToken, token_of}
+use Rattle.os_quote.proofs.Common.{◌≡◌, ⊎_elim, ℕ, ◌+◌, ◌-◌, ◌<◌, Bool, List, [], ◌∷◌, ◌++◌, map, length, refl, sym, ap, ◌∙◌, subst, arith, append_assoc, length-append, IsUtf8, chars, cases_lt, chars-append, IsCovered, CrossesNoCharacter, Chunk, joined, AreChunks, AreChunksFrom, chunks_from_start, are_chunks, some_chunks, chunks_once, one_more_chunk, Covered, over_none, covered_after, seam_at_start, text_covered, chunks_of, Item, item_texts, unit_item, character_item, items_of, escape_of, item_text, flat_map-append, map-append, IsAfterPlain, shown_by, chars-nil, chars-IsAscii, append-nil, IsUtf8-from_ascii}
 use Rattle.os_quote.specs.declared.form.Form.{Form}
-use Rattle.os_quote.specs.Start.{IsCutAfterToken}
 use Rattle.wtf8_core.specs.OccurrenceLaws.{OccurrenceLaws}
 use Rattle.wtf8_core.proofs.lemmas.occurrence.Indices.{no_units}
-use Rattle.os_quote.proofs.lemmas.{PlainBytes.plain_is_text, PlainBytes.plain_is_own, Readings.ascii_all, Texts.text_items, Texts.text_escape, Texts.cut_escape}
+use Rattle.os_quote.proofs.lemmas.{PlainBytes.plain_is_text, PlainBytes.plain_is_own, Readings.ascii_all, Texts.text_items, Texts.text_escape}
 use Rattle.wtf8_core.proofs.lemmas.chunks.OneList.{after_seam}
 
 module _ (p r : List ℕ) (u : IsUtf8 p) (some : 0 < length p) where
@@ -104,15 +103,12 @@ module _ {well_formed : List ℕ → Type 0} {units : List ℕ → List ℕ} (oc
   pub text_first : (shows : ℕ → Bool) {bytes text : List ℕ} (rest : List ℕ) → IsUtf8 text → bytes ≡ text ++ rest → escape_of shows units bytes ≡ text_escape shows text ++ escape_of shows units rest
   text_first shows {text = text} rest u e = ap (escape_of shows units) e ∙ prefix_escape shows text rest u
 
-  pub token_first : (shows : ℕ → Bool) {bytes rest : List ℕ} {c : ℕ} → IsCutAfterToken shows bytes c rest → escape_of shows units bytes ≡ item_text (token_of c) ++ escape_of shows units rest
-  token_first shows {bytes} {rest} {c} cut =
-      let one : List ℕ = c ∷ [] in
-      let u = ascii_text c cut.ascii in
-      let at : IsCutAtToken shows one [] c [] =
-      record { unchanged = subst (AllByRecursion (IsUnchanged shows)) (sym chars-nil) tt; hidden = cut.hidden; joined = sym (append-nil (encode_utf8 c) ∙ encode_ascii c cut.ascii); prefix_text = IsUtf8-nil; after_text = IsUtf8-nil } in
-      let token : text_escape shows one ≡ item_text (token_of c) =
-      cut_escape shows u at ∙ ap (λ cs. item_text (token_of c) ++ item_texts (map (character_item shows) cs)) chars-nil ∙ append-nil (item_text (token_of c)) in
-      text_first shows {text = one} rest u cut.joined ∙ ap (λ x. x ++ escape_of shows units rest) token
+  pub ascii_first : (shows : ℕ → Bool) {bytes rest : List ℕ} {c : ℕ} → c < 0x80 → bytes ≡ c ∷ rest → escape_of shows units bytes ≡ item_text (character_item shows c) ++ escape_of shows units rest
+  ascii_first shows {bytes} {rest} {c} low e =
+      let own : chars (c ∷ []) ≡ c ∷ [] = chars-IsAscii (c ∷ []) (ascii_all (c ∷ []) (low, tt)) in
+      text_first shows {text = c ∷ []} rest (ascii_text c low) e
+      ∙ ap (λ cs. item_texts (map (character_item shows) cs) ++ escape_of shows units rest) own
+      ∙ ap (λ x. x ++ escape_of shows units rest) (append-nil (item_text (character_item shows c)))
 
   pub plain_first : (form : Form) {bytes prefix rest : List ℕ} → IsAfterPlain bytes prefix rest → escape_of (shown_by form) units bytes ≡ prefix ++ escape_of (shown_by form) units rest
   plain_first form {prefix = prefix} {rest = rest} after =

@@ -1,26 +1,26 @@
 use Rattle.os_quote.proofs.Common.{[], ◌++◌, ◌∷◌, ◌∙◌, sym, ap, subst, nil_from_length, eqb-true, escape_of, item_text, item_texts, items_of, shown_by, unit_item}
 use Rattle.std.proofs.lemmas.Result.{err_from_is_err_and}
 use Rattle.os_str_ext.proofs.lemmas.FirstChunk.{no_chunks}
-use Rattle.os_quote.proofs.lemmas.{FirstUnits.unit_first, PlainBytes.plain_is_text, Prefixes.ascii_text, Prefixes.plain_first, Prefixes.rest_formed, Prefixes.text_first, Prefixes.token_first, Taking.one_taken, Taking.all_taken, Taking.room_left, Taking.none_taken}
+use Rattle.os_quote.proofs.lemmas.{ByteStarts.texts_first, FirstUnits.unit_first, PlainBytes.plain_is_text, Prefixes.plain_first, Prefixes.rest_formed, Prefixes.text_first, Taking.one_taken, Taking.all_taken, Taking.room_left, Taking.none_taken}
 use Rattle.os_quote.proofs.write_walk.write_escape_to.Goals as goal
 
-pub write_character-requires : goal.write_character-requires
-write_character-requires g c = room_left g.S.Sink.rules c.loop-rest.invariant.1 _ _ c.requires (token_first g.met.E.Platform.occurrence (shown_by c.args.form) c.in-Some.ensures)
-
-pub returns-in_err-write_character : goal.returns-in_err-write_character
-returns-in_err-write_character g c = rw (err_from_is_err_and c.from_residual.result c.from_residual.ensures.1).1 (none_taken g.S.Sink.rules c.loop-rest.invariant.1 _ _ c.in_err-write_character.ensures (token_first g.met.E.Platform.occurrence (shown_by c.args.form) c.in-Some.ensures))
-
-pub loop-rest-preserved-in-Some : goal.loop-rest-preserved-in-Some
-loop-rest-preserved-in-Some g c = (rest_formed g.met.E.Platform.occurrence {text = c.in-Some.character ∷ []} _ c.loop-rest.invariant.0 (ascii_text _ c.in-Some.ensures.ascii) c.in-Some.ensures.joined, one_taken g.S.Sink.rules c.loop-rest.invariant.1 c.in_ok-write_character.ensures (token_first g.met.E.Platform.occurrence (shown_by c.args.form) c.in-Some.ensures))
-
 pub take-requires : goal.take-requires
-take-requires g c = room_left g.S.Sink.rules c.loop-rest.invariant.1 _ _ c.requires (plain_first g.met.E.Platform.occurrence c.args.form c.in-Some-split_plain.ensures.after)
+take-requires g c = room_left g.S.Sink.rules c.loop-rest.invariant.1 _ _ c.requires (plain_first g.met.E.Platform.occurrence c.args.form c.in-Some.ensures.after)
 
 pub returns-in_err-take : goal.returns-in_err-take
-returns-in_err-take g c = rw (err_from_is_err_and c.from_residual-in_err-take.result c.from_residual-in_err-take.ensures.1).1 (none_taken g.S.Sink.rules c.loop-rest.invariant.1 _ _ c.in_err-take.ensures (plain_first g.met.E.Platform.occurrence c.args.form c.in-Some-split_plain.ensures.after))
+returns-in_err-take g c = rw (err_from_is_err_and c.from_residual.result c.from_residual.ensures.1).1 (none_taken g.S.Sink.rules c.loop-rest.invariant.1 _ _ c.in_err-take.ensures (plain_first g.met.E.Platform.occurrence c.args.form c.in-Some.ensures.after))
 
-pub loop-rest-preserved-in-Some-split_plain : goal.loop-rest-preserved-in-Some-split_plain
-loop-rest-preserved-in-Some-split_plain g c = (rest_formed g.met.E.Platform.occurrence _ c.loop-rest.invariant.0 (plain_is_text _ c.in-Some-split_plain.ensures.after.plain) c.in-Some-split_plain.ensures.after.joined, one_taken g.S.Sink.rules c.loop-rest.invariant.1 c.in_ok-take.ensures (plain_first g.met.E.Platform.occurrence c.args.form c.in-Some-split_plain.ensures.after))
+pub loop-rest-preserved-in-Some : goal.loop-rest-preserved-in-Some
+loop-rest-preserved-in-Some g c = (rest_formed g.met.E.Platform.occurrence _ c.loop-rest.invariant.0 (plain_is_text _ c.in-Some.ensures.after.plain) c.in-Some.ensures.after.joined, one_taken g.S.Sink.rules c.loop-rest.invariant.1 c.in_ok-take.ensures (plain_first g.met.E.Platform.occurrence c.args.form c.in-Some.ensures.after))
+
+pub take-requires-in-Some-split_line_byte : goal.take-requires-in-Some-split_line_byte
+take-requires-in-Some-split_line_byte g c = room_left g.S.Sink.rules c.loop-rest.invariant.1 _ _ c.requires (texts_first g.met.E.Platform.occurrence _ _ _ c.in-Some-split_line_byte.ensures.0 c.in-Some-split_line_byte.ensures.1 c.put_texts-len.ensures.escape c.from_utf8_unchecked.ensures)
+
+pub returns-in_err-take-2 : goal.returns-in_err-take-2
+returns-in_err-take-2 g c = rw (err_from_is_err_and c.from_residual-in_err-take-2.result c.from_residual-in_err-take-2.ensures.1).1 (none_taken g.S.Sink.rules c.loop-rest.invariant.1 _ _ c.in_err-take-2.ensures (texts_first g.met.E.Platform.occurrence _ _ _ c.in-Some-split_line_byte.ensures.0 c.in-Some-split_line_byte.ensures.1 c.put_texts-len.ensures.escape c.from_utf8_unchecked.ensures))
+
+pub loop-rest-preserved-in-Some-split_line_byte : goal.loop-rest-preserved-in-Some-split_line_byte
+loop-rest-preserved-in-Some-split_line_byte g c = (c.put_texts-len.ensures.formed, one_taken g.S.Sink.rules c.loop-rest.invariant.1 c.in_ok-take-2.ensures (texts_first g.met.E.Platform.occurrence _ _ _ c.in-Some-split_line_byte.ensures.0 c.in-Some-split_line_byte.ensures.1 c.put_texts-len.ensures.escape c.from_utf8_unchecked.ensures))
 
 pub write_text-requires : goal.write_text-requires
 write_text-requires g c = room_left g.S.Sink.rules c.loop-rest.invariant.1 _ _ c.requires (text_first g.met.E.Platform.occurrence (shown_by c.args.form) _ c.in-Some-split_text.ensures.is_text c.in-Some-split_text.ensures.joined)
