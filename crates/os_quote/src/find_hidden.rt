@@ -12,53 +12,14 @@ use crate::form::stays_on_line;
 use wtf8_core::vectors::window::put_in_zeros;
 
 /// What comes before the first character that is written as a token, that character, and what comes
-/// after it.
-#[inline(always)]
+/// after it. Most often it is the first that isn't plain.
 pub(crate) fn split_hidden(text: &str) -> Option<(&str, char, &str)>
-    ensures { MatchOption result (AreUnchanged stays_on_line text.now)
-        (λ parts. IsCutAtToken stays_on_line text.now parts.0.now parts.1 parts.2.now) }
-{
-    if let Some((character, following)) = hidden_start(text) {
-        return Some(("", character, following));
-    }
-    split_after_plain(text)
-}
-
-/// The character of ASCII at the start that is written as a token, and what comes after it: where one
-/// token follows another, no search is begun.
-fn hidden_start(text: &str) -> Option<(char, &str)>
-    ensures { IfSome result (λ start. IsCutAtToken stays_on_line text.now [] start.0 start.1.now) }
-{
-    let mut characters = text.chars();
-    let character = characters.next()?;
-    if is_hidden_ascii(character) {
-        return Some((character, characters.as_str()));
-    }
-    None
-}
-
-/// Whether a character is one of ASCII that is written as a token.
-#[inline(always)]
-pub(crate) fn is_hidden_ascii(character: char) -> bool
-    ensures ascii { IsTrue result → character < 0x80 }
-    ensures hidden { IsTrue result → ¬ (IsUnchanged stays_on_line character) }
-{
-    matches!(character, '\0'..='\x1F' | '\\' | '\x7F') && !is_unchanged(character)
-}
-
-/// The same as [`split_hidden`], by a search. Most often the first character that isn't plain is the one
-/// that is searched for.
-fn split_after_plain(text: &str) -> Option<(&str, char, &str)>
     ensures { MatchOption result (AreUnchanged stays_on_line text.now)
         (λ parts. IsCutAtToken stays_on_line text.now parts.0.now parts.1 parts.2.now) }
 {
     let at = plain_len(text.as_bytes());
     if at == text.len() {
         return None;
-    }
-    let rest = &text[at..];
-    if let Some((character, following)) = hidden_start(rest) {
-        return Some((&text[..at], character, following));
     }
     split_at_suspect(text, at)
 }

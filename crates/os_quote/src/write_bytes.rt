@@ -18,51 +18,38 @@ const WORD: usize = 8;
 /// The bytes that texts are collected in, before they are written together.
 pub(crate) const TEXTS: usize = 104;
 
-/// The word of a byte that is shown is this and the byte.
-const SHOWN: u64 = 0x0100_0000_0000_0000;
-
-/// 16 words that end with a digit.
-macro_rules! with_digit {
-    ($head:literal, $one:literal) => {
+/// The words of 16 bytes from one that has this word on: each last digit is so much in the word, from
+/// `A` on this much more, and what is added to the words of two bytes.
+macro_rules! words {
+    ($first:literal, $one:literal, $gap:literal, $at_c:literal, $at_f:literal) => {
         [
-            $head + 0x30 * $one, $head + 0x31 * $one, $head + 0x32 * $one, $head + 0x33 * $one,
-            $head + 0x34 * $one, $head + 0x35 * $one, $head + 0x36 * $one, $head + 0x37 * $one,
-            $head + 0x38 * $one, $head + 0x39 * $one, $head + 0x41 * $one, $head + 0x42 * $one,
-            $head + 0x43 * $one, $head + 0x44 * $one, $head + 0x45 * $one, $head + 0x46 * $one,
-        ]
-    };
-}
-
-/// 16 words of bytes that are shown, but for two.
-macro_rules! shown {
-    ($first:literal, $at_c:expr, $at_f:expr) => {
-        [
-            SHOWN + $first, SHOWN + $first + 1, SHOWN + $first + 2, SHOWN + $first + 3,
-            SHOWN + $first + 4, SHOWN + $first + 5, SHOWN + $first + 6, SHOWN + $first + 7,
-            SHOWN + $first + 8, SHOWN + $first + 9, SHOWN + $first + 10, SHOWN + $first + 11,
-            $at_c, SHOWN + $first + 13, SHOWN + $first + 14, $at_f,
+            $first, $first + $one, $first + 2 * $one, $first + 3 * $one, $first + 4 * $one,
+            $first + 5 * $one, $first + 6 * $one, $first + 7 * $one, $first + 8 * $one,
+            $first + 9 * $one, $first + (10 + $gap) * $one, $first + (11 + $gap) * $one,
+            $first + (12 + $gap) * $one + $at_c, $first + (13 + $gap) * $one,
+            $first + (14 + $gap) * $one, $first + (15 + $gap) * $one + $at_f,
         ]
     };
 }
 
 /// The words of all bytes, by their halves.
 static WORDS: [[u64; 16]; 16] = [
-    with_digit!(0x0600_0030_3030_755C, 0x100_0000_0000),
-    with_digit!(0x0600_0031_3030_755C, 0x100_0000_0000),
-    shown!(0x20, SHOWN + 0x2C, SHOWN + 0x2F),
-    shown!(0x30, SHOWN + 0x3C, SHOWN + 0x3F),
-    shown!(0x40, SHOWN + 0x4C, SHOWN + 0x4F),
-    shown!(0x50, 0x0200_0000_0000_5C5C, SHOWN + 0x5F),
-    shown!(0x60, SHOWN + 0x6C, SHOWN + 0x6F),
-    shown!(0x70, SHOWN + 0x7C, 0x0600_4637_3030_755C),
-    with_digit!(0x0400_0000_0038_785C, 0x100_0000),
-    with_digit!(0x0400_0000_0039_785C, 0x100_0000),
-    with_digit!(0x0400_0000_0041_785C, 0x100_0000),
-    with_digit!(0x0400_0000_0042_785C, 0x100_0000),
-    with_digit!(0x0400_0000_0043_785C, 0x100_0000),
-    with_digit!(0x0400_0000_0044_785C, 0x100_0000),
-    with_digit!(0x0400_0000_0045_785C, 0x100_0000),
-    with_digit!(0x0400_0000_0046_785C, 0x100_0000),
+    words!(0x0600_3030_3030_755C, 0x100_0000_0000, 7, 0, 0),
+    words!(0x0600_3031_3030_755C, 0x100_0000_0000, 7, 0, 0),
+    words!(0x0100_0000_0000_0020, 1, 0, 0, 0),
+    words!(0x0100_0000_0000_0030, 1, 0, 0, 0),
+    words!(0x0100_0000_0000_0040, 1, 0, 0, 0),
+    words!(0x0100_0000_0000_0050, 1, 0, 0x0100_0000_0000_5C00, 0),
+    words!(0x0100_0000_0000_0060, 1, 0, 0, 0),
+    words!(0x0100_0000_0000_0070, 1, 0, 0, 0x0500_4637_3030_74DD),
+    words!(0x0400_0000_3038_785C, 0x100_0000, 7, 0, 0),
+    words!(0x0400_0000_3039_785C, 0x100_0000, 7, 0, 0),
+    words!(0x0400_0000_3041_785C, 0x100_0000, 7, 0, 0),
+    words!(0x0400_0000_3042_785C, 0x100_0000, 7, 0, 0),
+    words!(0x0400_0000_3043_785C, 0x100_0000, 7, 0, 0),
+    words!(0x0400_0000_3044_785C, 0x100_0000, 7, 0, 0),
+    words!(0x0400_0000_3045_785C, 0x100_0000, 7, 0, 0),
+    words!(0x0400_0000_3046_785C, 0x100_0000, 7, 0, 0),
 ];
 
 /// The byte at the start and the bytes after it, if on a line the byte is written by itself: if the
@@ -130,7 +117,7 @@ fn put_text(texts: &mut [u8; TEXTS], at: usize, byte: u8) -> usize
 {
     let word = word_of(byte);
     texts[at..at + WORD].copy_from_slice(&word.to_le_bytes());
-    at + (word / SHOWN) as usize
+    at + (word / 0x0100_0000_0000_0000) as usize
 }
 
 /// The word of a byte.
