@@ -1,6 +1,6 @@
 -- The names that most proofs cite, re-exported from one file. Declares nothing.
 pub use Rattle.memchr.specs.Find.{NoneBefore, Passes, is_byte}
-pub use Rattle.os_quote.specs.Buffers.{Pushes, part_escape, text_escape, token_of}
+pub use Rattle.os_quote.specs.Buffers.{Pushes, text_escape, token_of}
 pub use Rattle.os_quote.specs.Escape.{BeginsNoToken, IsBadEscapeBy, IsEscape, IsEscapeBy, IsLineEscape, chunk_items, items_of}
 pub use Rattle.os_quote.specs.Escaped.{escape_of, escaped_text}
 pub use Rattle.os_quote.specs.Item.{Backslash, ByteUnit, Character, HasLongTokens, IsItem, IsLong, Item, LongCharacter, WideUnit, backslash, byte_digits, character_item, hidden_item, high_digits, item_text, item_texts, long_digits, unit_item, wide_digits}

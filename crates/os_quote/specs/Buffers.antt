@@ -2,7 +2,7 @@
 use Rattle.std.specs.Prelude.{◌≡◌, ℕ, ◌+◌, nat_eq, Bool, if◌then◌else◌, List, ◌++◌, map, length}
 use Rattle.std.specs.Str.{chars}
 use Rattle.wtf8_core.specs.Truncated.{IsTruncated}
-use Rattle.os_quote.specs.Item.{Item, Backslash, backslash, item_texts, unit_item, hidden_item, character_item}
+use Rattle.os_quote.specs.Item.{Item, Backslash, backslash, item_texts, hidden_item, character_item}
 
 -- `more` is appended to a text of `count` bytes in a buffer, truncated to the buffer's length, and `len` is the length of both
 abbrev pub Pushes : List ℕ → List ℕ → ℕ → List ℕ → ℕ → Type 0
@@ -11,10 +11,6 @@ Pushes more old count new len = ((text buffer : List ℕ) → IsTruncated text b
 -- the token of a character that isn't shown, or is the backslash
 abbrev pub token_of : ℕ → Item
 token_of c = if nat_eq c backslash then Backslash else hidden_item c
-
--- the escape of a part, whose units these are
-abbrev pub part_escape : (List ℕ → List ℕ) → List ℕ → List ℕ
-part_escape units part = item_texts (map unit_item (units part))
 
 -- the escape of a text in the form that shows these characters
 abbrev pub text_escape : (ℕ → Bool) → List ℕ → List ℕ

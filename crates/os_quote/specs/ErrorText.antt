@@ -1,7 +1,6 @@
 -- What an error prints.
 use Rattle.std.specs.Prelude.{ℕ, List, ◌++◌, codes, decimal}
-use Rattle.os_quote.specs.declared.error.QuoteError.{QuoteError}
-use Rattle.os_quote.specs.declared.error.QuoteError.TheVariants.{BadEscape, NotCanonical, Memory}
+use Rattle.os_quote.specs.{declared.error.QuoteError.QuoteError, declared.error.QuoteError.TheVariants.BadEscape, declared.error.QuoteError.TheVariants.NotCanonical, declared.error.QuoteError.TheVariants.Memory}
 
 -- why a text is no escape
 abbrev pub error_text : QuoteError → List ℕ

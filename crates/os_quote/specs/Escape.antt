@@ -2,10 +2,7 @@
 use Rattle.std.specs.Prelude.{◌≡◌, ◌≢◌, ℕ, Bool, List, ◌∷◌, ◌++◌, map, length}
 use Rattle.std.specs.{List.flat_map, List.AllByRecursion, Str.chars}
 use Rattle.wtf8_core.specs.Chunks.{Chunk, AreChunks}
-use Rattle.os_quote.specs.Item.{Item, backslash, item_text, item_texts, IsItem, unit_item, character_item}
-use Rattle.os_quote.specs.Shown.{is_any, stays_on_line}
-use Rattle.os_quote.specs.declared.error.QuoteError.{QuoteError}
-use Rattle.os_quote.specs.declared.error.QuoteError.TheVariants.{BadEscape, NotCanonical, Memory}
+use Rattle.os_quote.specs.{Item.Item, Item.backslash, Item.item_text, Item.item_texts, Item.IsItem, Item.unit_item, Item.character_item, Shown.is_any, Shown.stays_on_line, declared.error.QuoteError.QuoteError, declared.error.QuoteError.TheVariants.BadEscape, declared.error.QuoteError.TheVariants.NotCanonical, declared.error.QuoteError.TheVariants.Memory}
 
 -- the items of a chunk: one for each unit of its part, then one for each character of its text
 abbrev pub chunk_items : (ℕ → Bool) → (List ℕ → List ℕ) → Chunk → List Item

@@ -1,7 +1,6 @@
 -- A formatter as a sink.
 use Rattle.std.specs.Prelude.{◌≡◌, ℕ, List, [], ◌∷◌, ◌++◌}
-use Rattle.std.specs.{Fmt.HasWrittenStyled, Fmt.IsFlush, List.concat, List.FoldsTo}
-use Rattle.std.specs.declared.fmt.Formatter.{Formatter}
+use Rattle.std.specs.{Fmt.HasWrittenStyled, Fmt.IsFlush, List.concat, List.FoldsTo, declared.fmt.Formatter.Formatter}
 use Rattle.std.proofs.Common.{refl, sym, ◌∙◌, ap, subst, append_assoc}
 use Rattle.os_quote.specs.Sinks.{SinkRules}
 

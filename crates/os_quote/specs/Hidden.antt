@@ -1,9 +1,7 @@
 -- What of a text is unchanged in its escape, found by its bytes. Only private contracts name these; `IsEscapeBy` says what an escape is.
 use Rattle.std.specs.Prelude.{◌≡◌, ◌≢◌, ℕ, ◌+◌, ◌/◌, ◌≤◌, ◌<◌, nat_eq, not, Bool, true, false, List, ◌++◌, length, slice_index, bit_and, bit_or}
-use Rattle.std.specs.{List.AllByRecursion, Char.encode_utf8}
-use Rattle.std.specs.Str.{IsUtf8, chars}
-use Rattle.os_quote.specs.Item.{backslash}
-use Rattle.os_quote.specs.declared.find_tables.TheConstants.{FIRST_HIGH, FIRST_LOW, SECOND_HIGH, SECOND_LOW, THIRD_HIGH, THIRD_LOW, OTHER_HIGH, OTHER_LOW}
+use Rattle.std.specs.{List.AllByRecursion, Char.encode_utf8, Str.IsUtf8, Str.chars}
+use Rattle.os_quote.specs.{Item.backslash, declared.find_tables.TheConstants.FIRST_HIGH, declared.find_tables.TheConstants.FIRST_LOW, declared.find_tables.TheConstants.SECOND_HIGH, declared.find_tables.TheConstants.SECOND_LOW, declared.find_tables.TheConstants.THIRD_HIGH, declared.find_tables.TheConstants.THIRD_LOW, declared.find_tables.TheConstants.OTHER_HIGH, declared.find_tables.TheConstants.OTHER_LOW}
 
 -- the character is unchanged in the escape of the form that shows these characters
 abbrev pub IsUnchanged : (ℕ → Bool) → ℕ → Type 0

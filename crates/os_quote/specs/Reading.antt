@@ -1,10 +1,8 @@
 -- How far an escape has been read, step by step. Only private contracts name these; `IsEscape` says what an escape is.
 use Rattle.std.specs.Prelude.{◌≡◌, ◌≢◌, ℕ, ◌+◌, ◌/◌, ◌%◌, ◌<◌, ◌≤◌, Bool, List, [], ◌∷◌, ◌++◌, length}
-use Rattle.std.specs.List.{flat_map, AllByRecursion}
-use Rattle.std.specs.{Char.encode_utf8, Str.IsUtf8}
+use Rattle.std.specs.{List.flat_map, List.AllByRecursion, Char.encode_utf8, Str.IsUtf8}
 use Rattle.wtf8_core.specs.{CodePoint.encode, FaultText.upper_hex_digit}
-use Rattle.os_quote.specs.Item.{Item, Character, Backslash, ByteUnit, WideUnit, LongCharacter, backslash, wide_digits, long_digits, item_texts, IsLong, HasLongTokens, IsItem}
-use Rattle.os_quote.specs.declared.read_token.Token.{Token}
+use Rattle.os_quote.specs.{Item.Item, Item.Character, Item.Backslash, Item.ByteUnit, Item.WideUnit, Item.LongCharacter, Item.backslash, Item.wide_digits, Item.long_digits, Item.item_texts, Item.IsLong, Item.HasLongTokens, Item.IsItem, declared.read_token.Token.Token}
 use Rattle.os_quote.specs.declared.read_token.Token.TheVariants as token
 
 -- the item that a token is

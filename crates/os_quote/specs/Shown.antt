@@ -1,9 +1,7 @@
 -- Which characters an escape shows unchanged: its two forms differ only in this.
 use Rattle.std.specs.Prelude.{◌≡◌, ℕ, not, Bool, true, List}
 use Rattle.std.specs.{List.AllByRecursion, Str.chars}
-use Rattle.os_quote.specs.HiddenCharacters.{hidden_ranges, is_in_ranges}
-use Rattle.os_quote.specs.declared.form.Form.{Form}
-use Rattle.os_quote.specs.declared.form.Form.TheVariants.{Text, Line}
+use Rattle.os_quote.specs.{HiddenCharacters.hidden_ranges, HiddenCharacters.is_in_ranges, declared.form.Form.Form, declared.form.Form.TheVariants.Text, declared.form.Form.TheVariants.Line}
 
 -- every character
 abbrev pub is_any : ℕ → Bool

@@ -2,8 +2,7 @@
 use Rattle.std.specs.Prelude.{◌≡◌, ◌≢◌, ℕ, ◌≤◌, Bool, List, length, Option, Result, MatchOption, MatchResult}
 use Rattle.std.specs.Str.{IsUtf8}
 use Rattle.wtf8_core.specs.Truncated.{IsTruncated}
-use Rattle.os_quote.specs.{Shown.is_any, Shown.stays_on_line, Escape.IsEscapeBy, Escape.IsBadEscapeBy, Escape.IsQuoteFaultBy}
-use Rattle.os_quote.specs.declared.error.QuoteError.{QuoteError, TheVariants.Memory}
+use Rattle.os_quote.specs.{Shown.is_any, Shown.stays_on_line, Escape.IsEscapeBy, Escape.IsBadEscapeBy, Escape.IsQuoteFaultBy, declared.error.QuoteError.QuoteError, declared.error.QuoteError.TheVariants.Memory}
 
 -- the buffer has what the text means, truncated to the buffer's length: the string with this escape, if there is room for it, and else the only one that may have it
 pub record IsUnescapedBy (shows : ℕ → Bool) (well_formed : List ℕ → Type 0) (units : List ℕ → List ℕ) (text old new : List ℕ) (count : ℕ) : Type 0 where

@@ -2,8 +2,7 @@
 //! that is written as a token: suspects.
 ghost use Rattle.std.specs.Prelude.{◌≡◌, ◌↔◌, [], take, IsTrue, IfSome, MatchOption, ◌+◌, ◌≤◌, ◌<◌, length, slice_index};
 ghost use Rattle.std.specs.Str.{IsCharBoundary};
-ghost use Rattle.os_quote.specs.Hidden.{IsUnchanged, AreUnchanged, IsCutAtToken, AllClear, IsNextSuspect, is_suspect};
-ghost use Rattle.os_quote.specs.Shown.{IsOnOneLine, stays_on_line};
+ghost use Rattle.os_quote.specs.{Hidden.IsUnchanged, Hidden.AreUnchanged, Hidden.IsCutAtToken, Hidden.AllClear, Hidden.IsNextSuspect, Hidden.is_suspect, Shown.IsOnOneLine, Shown.stays_on_line};
 
 use crate::find_lanes::{BLOCK, clear_len};
 use crate::find_plain::plain_len;

@@ -1,9 +1,7 @@
 //! Laws of escapes. Each is the contract of a function that does nothing.
 ghost use Rattle.std.specs.Prelude.{◌≡◌, ℕ, List, IsTrue};
-ghost use Rattle.std.specs.List.{All};
-ghost use Rattle.std.specs.Str.{IsUtf8, chars};
-ghost use Rattle.os_quote.specs.Shown.{stays_on_line};
-ghost use Rattle.os_quote.specs.Escape.{IsEscape, IsLineEscape, IsBadEscape, IsBadLineEscape};
+ghost use Rattle.std.specs.{List.All, Str.IsUtf8, Str.chars};
+ghost use Rattle.os_quote.specs.{Shown.stays_on_line, Escape.IsEscape, Escape.IsLineEscape, Escape.IsBadEscape, Escape.IsBadLineEscape};
 
 use os_str_bytes::Platform;
 

@@ -219,13 +219,10 @@ fn write_tokens<E: Platform>(
         buffer.new result }
 {
     let read = write_by::<E>(form, escape, buffer);
-    match read {
-        Ok(count) => {
-            if count <= buffer.len() {
-                return Some(Ok(count));
-            }
+    if let Ok(count) = read {
+        if count <= buffer.len() {
+            return Some(Ok(count));
         }
-        Err(_) => {}
     }
     if is_utf8(escape) { Some(read) } else { None }
 }

@@ -2,11 +2,9 @@
 ghost use Rattle.std.specs.Prelude.{◌*◌, ◌<◌, ◌^◌, ℕ, List, length};
 ghost use Rattle.wtf8_core.specs.Truncated.{IsTruncated};
 ghost use Rattle.platform_str.specs.Strings.{bytes};
-ghost use Rattle.os_quote.specs.{Escaped.escape_of, Shown.shown_by};
-ghost use Rattle.os_quote.specs.Escape.{IsEscape, IsLineEscape};
+ghost use Rattle.os_quote.specs.{Escaped.escape_of, Shown.shown_by, Escape.IsEscape, Escape.IsLineEscape};
 
 use crate::form::Form;
-use crate::write_token::TokenText;
 use crate::write_walk::{Sink, write_escape_to};
 use os_str_bytes::{OsStr, Platform};
 use std::fmt;
@@ -88,10 +86,5 @@ impl<'a> Sink for Buffer<'a> {
     fn take(&mut self, piece: &str) -> fmt::Result {
         self.count = push_truncated(self.bytes, self.count, piece.as_bytes());
         Ok(())
-    }
-
-    #[inline(always)]
-    fn take_token(&mut self, token: TokenText) -> fmt::Result {
-        self.take(token.as_str())
     }
 }

@@ -1,25 +1,18 @@
 //! The texts of bytes that are written one by one on a line: characters of ASCII, and units of one byte.
 ghost use Rattle.std.specs.Prelude.{◌≡◌, ◌++◌, ◌+◌, ◌/◌, ◌≤◌, IfSome, length, take};
-ghost use Rattle.std.specs.Int.{w64, to_le_bytes};
-ghost use Rattle.std.specs.Str.{IsUtf8};
-ghost use Rattle.os_quote.specs.Item.{item_text};
-ghost use Rattle.os_quote.specs.Shown.{stays_on_line};
-ghost use Rattle.os_quote.specs.Escaped.{escape_of};
-ghost use Rattle.os_quote.specs.Start.{BeginsWith, byte_item};
-ghost use Rattle.os_quote.specs.declared.form.Form.TheVariants.{Line};
+ghost use Rattle.std.specs.{Int.w64, Int.to_le_bytes, Str.IsUtf8};
+ghost use Rattle.os_quote.specs.{Item.item_text, Shown.stays_on_line, Escaped.escape_of, Start.BeginsWith, Start.byte_item, declared.form.Form.TheVariants.Line};
 
 use crate::find_start::are_apart;
 use crate::form::Form;
 use os_str_bytes::Platform;
 
-/// The bytes of a word: a text, from the lowest bits on, and in the highest how many bytes it has.
-const WORD: usize = 8;
-
 /// The bytes that texts are collected in, before they are written together.
 pub(crate) const TEXTS: usize = 104;
 
-/// The words of 16 bytes from one that has this word on: each last digit is so much in the word, from
-/// `A` on this much more, and what is added to the words of two bytes.
+/// The words of 16 bytes, of which the first has this one: how much a digit is in a word, how many
+/// characters are between `9` and `A` in what the last digit is, and what is added to two of the words.
+/// A word has the text of a byte, from the lowest bits on, and in the highest how long the text is.
 macro_rules! words {
     ($first:literal, $one:literal, $gap:literal, $at_c:literal, $at_f:literal) => {
         [
@@ -96,7 +89,7 @@ pub(crate) fn put_texts<'a, E: Platform>(
 {
     let mut len = put_text(texts, 0, first);
     let mut rest = following;
-    while len <= TEXTS - WORD {
+    while len <= TEXTS - 8 {
         let Some((byte, after)) = split_line_byte::<E>(Form::Line, rest) else {
             break;
         };
@@ -116,7 +109,7 @@ fn put_text(texts: &mut [u8; TEXTS], at: usize, byte: u8) -> usize
     ensures utf8 { IsUtf8 (item_text (byte_item byte)) }
 {
     let word = word_of(byte);
-    texts[at..at + WORD].copy_from_slice(&word.to_le_bytes());
+    texts[at..at + 8].copy_from_slice(&word.to_le_bytes());
     at + (word / 0x0100_0000_0000_0000) as usize
 }
 

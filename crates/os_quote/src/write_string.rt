@@ -1,8 +1,7 @@
 //! From strings to escapes.
 ghost use Rattle.std.specs.Prelude.{IfOk, string_bytes};
 ghost use Rattle.platform_str.specs.Strings.{bytes};
-ghost use Rattle.os_quote.specs.{Shown.shown_by, Escaped.escaped_text};
-ghost use Rattle.os_quote.specs.Escape.{IsEscape, IsLineEscape, IsEscapeBy};
+ghost use Rattle.os_quote.specs.{Shown.shown_by, Escaped.escaped_text, Escape.IsEscape, Escape.IsLineEscape, Escape.IsEscapeBy};
 
 use crate::form::Form;
 use crate::write_display::Escaped;

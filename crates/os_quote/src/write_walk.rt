@@ -1,11 +1,7 @@
 //! The escape of a string, piece by piece, for whatever takes it.
-ghost use Rattle.os_quote.specs.Sinks.{SinkRules, Takes};
+ghost use Rattle.os_quote.specs.{Sinks.SinkRules, Sinks.Takes, Buffers.text_escape, Buffers.token_of, Escaped.escape_of, Item.item_text, Item.unit_item, Shown.shown_by, Hidden.AreUnchanged, Hidden.IsCutAtToken};
 ghost use Rattle.std.specs.Prelude.{MatchOption};
 ghost use Rattle.platform_str.specs.Strings.{bytes};
-ghost use Rattle.os_quote.specs.Buffers.{text_escape, token_of};
-ghost use Rattle.os_quote.specs.Escaped.{escape_of};
-ghost use Rattle.os_quote.specs.Item.{item_text, unit_item};
-ghost use Rattle.os_quote.specs.{Shown.shown_by, Hidden.AreUnchanged, Hidden.IsCutAtToken};
 
 use crate::find_hidden::split_hidden;
 use crate::find_plain::split_plain;
@@ -27,9 +23,13 @@ pub(crate) trait Sink {
         ensures { Takes rules self.old piece.now result self.new };
 
     /// The same of a token.
+    #[inline(always)]
     fn take_token(&mut self, token: TokenText) -> fmt::Result
         requires { rules.has_room self.old token }
-        ensures { Takes rules self.old token result self.new };
+        ensures { Takes rules self.old token result self.new }
+    {
+        self.take(token.as_str())
+    }
 }
 
 impl<W: fmt::Write> Sink for fmt::Formatter<W> {
@@ -40,11 +40,6 @@ impl<W: fmt::Write> Sink for fmt::Formatter<W> {
     #[inline(always)]
     fn take(&mut self, piece: &str) -> fmt::Result {
         self.write_str(piece)
-    }
-
-    #[inline(always)]
-    fn take_token(&mut self, token: TokenText) -> fmt::Result {
-        self.take(token.as_str())
     }
 }
 

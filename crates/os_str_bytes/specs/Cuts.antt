@@ -2,8 +2,7 @@
 use Rattle.std.specs.Prelude.{◌≡◌, ◌++◌, ℕ, List, take, drop}
 use Rattle.platform_str.specs.declared.platform.Platform.{Ghosts}
 use Rattle.os_str_ext.specs.Range.{IsPartInUnits}
-use Rattle.os_str_bytes.specs.declared.raw_str.RawOsStr.{RawOsStr}
-use Rattle.os_str_bytes.specs.Raw.{raw_bytes, raw_units}
+use Rattle.os_str_bytes.specs.{declared.raw_str.RawOsStr.RawOsStr, Raw.raw_bytes, Raw.raw_units}
 
 module _ {E : Type 0} {P : Ghosts E} where
   -- prefix and suffix are the bytes of s before index `at` and from it on, and the units of both, joined, are those of s

@@ -3,8 +3,7 @@ use Rattle.std.specs.Prelude.{◌≡◌, ◌↔◌, ◌<◌, ℕ, List, length, 
 use Rattle.wtf8_core.specs.{Boundary.IsBoundary, declared.fault.EncodingError.EncodingError}
 use Rattle.os_str_ext.specs.Pieces.{Splits}
 use Rattle.platform_str.specs.declared.platform.Platform.{Ghosts}
-use Rattle.os_str_bytes.specs.declared.{raw_str.RawOsStr.RawOsStr, cuts.Cuts.Cuts}
-use Rattle.os_str_bytes.specs.{Raw.raw_bytes, Raw.raw_vec_of, Cuts.AreBothParts, Cuts.IsPart}
+use Rattle.os_str_bytes.specs.{declared.raw_str.RawOsStr.RawOsStr, declared.cuts.Cuts.Cuts, Raw.raw_bytes, Raw.raw_vec_of, Cuts.AreBothParts, Cuts.IsPart}
 
 -- the strings of the platform P are the bytes that are `formed`; `has_units` says what their units are, `listed` which lists are units, and `faults` which the first fault of other bytes is; `safe` says which bytes are IO-safe, `lossy_is` what the lossy text of a string is, `replaced` how many bytes one U+FFFD replaces there, and `parts` what the units of a part are
 pub record IsPlatform {E : Type 0} (P : Ghosts E) (formed : List ℕ → Type 0) (has_units : List ℕ → List ℕ → Type 0) (listed : List ℕ → Type 0) (faults : List ℕ → EncodingError → Type 0) (safe : List ℕ → Type 0) (lossy_is : List ℕ → List ℕ → Type 0) (replaced : List ℕ → ℕ → Type 0) (parts : List ℕ → Type 0) : Type 0 where

@@ -3,8 +3,7 @@ use Rattle.std.specs.Prelude.{ℕ, ◌≤◌, List, length}
 use Rattle.std.specs.{declared.vec.Vec.Vec, Box.boxed_slice_items}
 use Rattle.wtf8_core.specs.Boundary.{IsBoundary}
 use Rattle.platform_str.specs.{declared.platform.Platform.Ghosts, Strings.bytes}
-use Rattle.os_str_bytes.specs.declared.{raw_str.RawOsStr.RawOsStr, raw_string.RawOsString.RawOsString}
-use Rattle.os_str_bytes.specs.declared.raw_box.RawOsStrBox.{RawOsStrBox}
+use Rattle.os_str_bytes.specs.{declared.raw_str.RawOsStr.RawOsStr, declared.raw_string.RawOsString.RawOsString, declared.raw_box.RawOsStrBox.RawOsStrBox}
 
 module _ {E : Type 0} {P : Ghosts E} where
   -- the bytes of a borrowed raw string

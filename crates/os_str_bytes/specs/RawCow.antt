@@ -1,11 +1,8 @@
 -- The bytes of a raw string that is borrowed or owned, and what a conversion between the two types keeps of it.
 use Rattle.std.specs.Prelude.{◌≡◌, ℕ, List}
-use Rattle.platform_str.specs.declared.{platform.Platform.Ghosts, cow.OsStrCow.OsStrCow}
+use Rattle.platform_str.specs.{declared.platform.Platform.Ghosts, declared.cow.OsStrCow.OsStrCow, Strings.bytes, Strings.string_vec_of}
 use Rattle.platform_str.specs.declared.cow.OsStrCow.TheVariants as string
-use Rattle.platform_str.specs.Strings.{bytes, string_vec_of}
-use Rattle.os_str_bytes.specs.declared.raw_cow.CowRawOsStr.{CowRawOsStr}
-use Rattle.os_str_bytes.specs.declared.raw_cow.CowRawOsStr.TheVariants.{Borrowed, Owned}
-use Rattle.os_str_bytes.specs.Raw.{raw_bytes, raw_vec_of}
+use Rattle.os_str_bytes.specs.{declared.raw_cow.CowRawOsStr.CowRawOsStr, declared.raw_cow.CowRawOsStr.TheVariants.Borrowed, declared.raw_cow.CowRawOsStr.TheVariants.Owned, Raw.raw_bytes, Raw.raw_vec_of}
 
 module _ {E A : Type 0} {P : Ghosts E} where
   abbrev pub raw_cow_bytes : CowRawOsStr E A P → List ℕ

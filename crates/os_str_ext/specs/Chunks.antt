@@ -1,8 +1,7 @@
 -- The chunks of bytes as a function, and where the first one ends. `AreChunks` of wtf8_core says what chunks are.
 use Rattle.std.specs.Prelude.{ℕ, ◌<◌, ◌≤◌, List, ◌++◌, length, take, drop}
 use Rattle.std.specs.{Int.IsInRange, Str.IsUtf8}
-use Rattle.wtf8_core.specs.{Character.WholeCharacter, Chunks.Chunk}
-use Rattle.wtf8_core.specs.Covered.{IsCovered, HasNoCharacter}
+use Rattle.wtf8_core.specs.{Character.WholeCharacter, Chunks.Chunk, Covered.IsCovered, Covered.HasNoCharacter}
 use Rattle.wtf8_core.proofs.lemmas.chunks.OneList.{some_chunks}
 
 -- the one list of chunks of bytes

@@ -1,8 +1,7 @@
 -- Pieces, strips and trims of lists, of bytes as well as of units (std's `str` has the calls).
 use Rattle.std.specs.Prelude.{◌≡◌, ℕ, ◌+◌, ◌<◌, List, [], ◌∷◌, ◌++◌, length, map, Option, IfSome, MatchOption}
 use Rattle.std.specs.List.{repeat}
-use Rattle.wtf8_core.specs.Occurrence.{OccursAt, OccursNowhere, IsFirstIndex, IsLastIndex, IsPrefix, IsSuffix}
-use Rattle.wtf8_core.specs.Boundary.{IsBoundary}
+use Rattle.wtf8_core.specs.{Occurrence.OccursAt, Occurrence.OccursNowhere, Occurrence.IsFirstIndex, Occurrence.IsLastIndex, Occurrence.IsPrefix, Occurrence.IsSuffix, Boundary.IsBoundary}
 
 -- p occurs somewhere in s
 abbrev pub OccursSomewhere : List ℕ → List ℕ → Type 0

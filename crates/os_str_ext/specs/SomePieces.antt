@@ -3,8 +3,7 @@ use Rattle.std.proofs.Common.{◌≡◌, ℕ, zero, suc, ◌<◌, ◌≤◌, Lis
 use Rattle.std.proofs.lemmas.{Bool.cases_eq, Bool.cases_lt, List.append_cancel_left, List.take_at, List.drop_at}
 use Rattle.std.specs.Prelude.{take, drop}
 use Rattle.wtf8_core.specs.Occurrence.{OccursAt, OccursNowhere, IsPrefix}
-use Rattle.os_str_ext.specs.Pieces.SplitsInto.{whole, cut}
-use Rattle.os_str_ext.specs.Cuts.{FirstCut, LastCut, ArePieces, PiecesOf, CutLaws}
+use Rattle.os_str_ext.specs.{Pieces.SplitsInto.whole, Pieces.SplitsInto.cut, Cuts.FirstCut, Cuts.LastCut, Cuts.ArePieces, Cuts.PiecesOf, Cuts.CutLaws}
 
 -- p is a prefix of s, or it isn't
 has_same_prefix : (p s : List ℕ) → IsPrefix p s ⊎ (IsPrefix p s → ⊥)

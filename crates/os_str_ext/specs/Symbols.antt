@@ -1,12 +1,9 @@
 -- A string as symbols, from the first on: the characters of its texts and the units of its parts (this project's own words).
 use Rattle.std.specs.Prelude.{◌≡◌, ℕ, pos, List, ◌++◌, map}
-use Rattle.std.specs.{Char.encode_utf8, Hash.HashWrites}
+use Rattle.std.specs.{Char.encode_utf8, Hash.HashWrites, List.flat_map, Str.chars}
 use Rattle.std.specs.Hash as fed
-use Rattle.std.specs.{List.flat_map, Str.chars}
 use Rattle.wtf8_core.specs.{Chunks.Chunk, Chunks.AreChunks, PartUnits.unit_bytes}
-use Rattle.os_str_ext.specs.Chunks.{chunks_of}
-use Rattle.os_str_ext.specs.{Parts.unit_number, declared.symbols.Symbol.Symbol}
-use Rattle.os_str_ext.specs.declared.symbols.Symbol.TheVariants.{Character}
+use Rattle.os_str_ext.specs.{Chunks.chunks_of, Parts.unit_number, declared.symbols.Symbol.Symbol, declared.symbols.Symbol.TheVariants.Character}
 use Rattle.os_str_ext.specs.declared.symbols.Symbol.TheVariants as symbol
 
 -- the symbol of a unit

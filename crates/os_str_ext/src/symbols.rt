@@ -1,7 +1,6 @@
 //! The symbols of a string: its whole characters, and the units of what isn't text.
-ghost use Rattle.std.specs.Prelude.{◌≡◌, ◌∷◌, [], ◌<◌, length, MatchOption};
+ghost use Rattle.std.specs.Prelude.{◌≡◌, ◌∷◌, [], MatchOption};
 ghost use Rattle.std.specs.Iterator.{YieldsFirst, item_count};
-ghost use Rattle.wtf8_core.specs.Covered.{StartsWithNoCharacter};
 ghost use Rattle.platform_str.specs.Strings.{bytes};
 ghost use Rattle.os_str_ext.specs.Symbols.{AreSymbols, symbols_of};
 
@@ -111,22 +110,9 @@ fn split_first_symbol<'a, E: Platform>(string: OsStr<'a, E>) -> Option<(Symbol, 
     if string.is_empty() {
         return None;
     }
-    Some(split_first_unit(string))
-}
-
-/// The same if the string begins with a unit.
-#[inline(always)]
-fn split_first_unit<'a, E: Platform>(string: OsStr<'a, E>) -> (Symbol, OsStr<'a, E>)
-    requires some { 0 < length (bytes string) }
-    requires uncovered { StartsWithNoCharacter (bytes string) }
-    ensures { symbols_of E.units (bytes string.entry)
-        ≡ result.0 ∷ symbols_of E.units (bytes result.1) }
-{
     let bytes = string.as_encoded_bytes();
     let (number, size) = E::first_unit(bytes);
     let (_, rest) = bytes.split_at(size);
-    (
-        Symbol::Unit(OsUnit { number }),
-        OsStr::from_encoded_bytes_unchecked(rest),
-    )
+    let rest = OsStr::from_encoded_bytes_unchecked(rest);
+    Some((Symbol::Unit(OsUnit { number }), rest))
 }

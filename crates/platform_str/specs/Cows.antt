@@ -1,14 +1,11 @@
 -- The bytes of values that are borrowed or owned.
 use Rattle.std.specs.Prelude.{◌≡◌, ℕ, List}
-use Rattle.std.specs.declared.vec.Vec.{Vec}
-use Rattle.std.specs.String.{string_bytes}
-use Rattle.platform_str.specs.declared.platform.Platform.{Ghosts}
-use Rattle.platform_str.specs.declared.cow.{OsStrCow.OsStrCow, PathCow.PathCow, ByteCow.ByteCow, StrCow.StrCow}
+use Rattle.std.specs.{declared.vec.Vec.Vec, String.string_bytes}
+use Rattle.platform_str.specs.{declared.platform.Platform.Ghosts, declared.cow.OsStrCow.OsStrCow, declared.cow.PathCow.PathCow, declared.cow.ByteCow.ByteCow, declared.cow.StrCow.StrCow, Strings.bytes, Strings.path_bytes, Strings.string_vec_of, Strings.path_vec_of}
 use Rattle.platform_str.specs.declared.cow.OsStrCow.TheVariants as string
 use Rattle.platform_str.specs.declared.cow.PathCow.TheVariants as path
 use Rattle.platform_str.specs.declared.cow.ByteCow.TheVariants as byte
 use Rattle.platform_str.specs.declared.cow.StrCow.TheVariants as text
-use Rattle.platform_str.specs.Strings.{bytes, path_bytes, string_vec_of, path_vec_of}
 
 module _ {E A : Type 0} {P : Ghosts E} where
   -- of a string

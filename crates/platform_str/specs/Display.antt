@@ -1,11 +1,7 @@
 -- What `{}` writes of a string, and how it is filled to a width (like std's `Display` of an `OsStr` on Unix).
 use Rattle.std.specs.Prelude.{ℕ, ◌-◌, ◌/◌, List, ◌++◌, Option, Some, None}
-use Rattle.std.specs.{Option.unwrap_or, Char.encode_utf8, List.repeat, Fmt.char_count}
-use Rattle.std.specs.declared.fmt.Alignment.{Alignment}
-use Rattle.std.specs.declared.fmt.Alignment.TheVariants.{Left, Right, Center}
-use Rattle.platform_str.specs.declared.platform.Platform.{Ghosts}
-use Rattle.platform_str.specs.declared.display.OsStrDisplay.{OsStrDisplay}
-use Rattle.platform_str.specs.Strings.{bytes}
+use Rattle.std.specs.{Option.unwrap_or, Char.encode_utf8, List.repeat, Fmt.char_count, declared.fmt.Alignment.Alignment, declared.fmt.Alignment.TheVariants.Left, declared.fmt.Alignment.TheVariants.Right, declared.fmt.Alignment.TheVariants.Center}
+use Rattle.platform_str.specs.{declared.platform.Platform.Ghosts, declared.display.OsStrDisplay.OsStrDisplay, Strings.bytes}
 
 module _ {E : Type 0} {P : Ghosts E} where
   -- the bytes of the string that is shown

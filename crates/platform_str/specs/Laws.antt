@@ -1,8 +1,7 @@
 -- What each platform proves of its strings: of all, of their parts without whole characters, and of lossy reading. What it proves of occurrences and of joins is `OccurrenceLaws` of wtf8_core.
 use Rattle.std.specs.Prelude.{◌≡◌, ℕ, ◌<◌, ◌≤◌, List, ◌∷◌, ◌++◌, length, take, drop, slice_index}
 use Rattle.std.specs.{List.All, List.flat_map, Str.IsUtf8, Str.IsValidUpTo}
-use Rattle.wtf8_core.specs.{Byte.IsByte, Byte.IsContinuation, Covered.StartsWithNoCharacter, Covered.HasNoCharacter, PartUnits.unit_bytes, Boundary.IsBoundary, Lossy.replacement}
-use Rattle.wtf8_core.specs.declared.fault.EncodingError.{EncodingError}
+use Rattle.wtf8_core.specs.{Byte.IsByte, Byte.IsContinuation, Covered.StartsWithNoCharacter, Covered.HasNoCharacter, PartUnits.unit_bytes, Boundary.IsBoundary, Lossy.replacement, declared.fault.EncodingError.EncodingError}
 use Rattle.platform_str.specs.PlatformWords.{AreWideUnits}
 
 -- one U+FFFD replaces the first n bytes, and what follows them is well formed

@@ -1,10 +1,7 @@
 -- What contracts say of a string: its bytes, and for an owned one its vector.
 use Rattle.std.specs.Prelude.{ℕ, List}
 use Rattle.std.specs.declared.vec.Vec.{Vec}
-use Rattle.platform_str.specs.declared.platform.Platform.{Ghosts}
-use Rattle.platform_str.specs.declared.os_str.OsStr.{OsStr}
-use Rattle.platform_str.specs.declared.os_string.OsString.{OsString}
-use Rattle.platform_str.specs.declared.path.{Path.Path, PathBuf.PathBuf}
+use Rattle.platform_str.specs.{declared.platform.Platform.Ghosts, declared.os_str.OsStr.OsStr, declared.os_string.OsString.OsString, declared.path.Path.Path, declared.path.PathBuf.PathBuf}
 
 module _ {E : Type 0} {P : Ghosts E} where
   -- the bytes of a borrowed string, and of a path

@@ -1,30 +1,20 @@
 -- The first letter of a string: a character, or a unit where no character is first.
-use Rattle.std.proofs.Common.{◌≡◌, ⊎_elim, ℕ, ◌+◌, ◌-◌, ◌<◌, ◌≤◌, List, [], ◌∷◌, ◌++◌, length, take, drop, refl, sym, ap, ◌∙◌, subst, arith, length-drop, take-append-drop}
-use Rattle.std.proofs.lemmas.List.{take-take, length-take-le}
-use Rattle.std.proofs.lemmas.Bool.{cases_lt}
-use Rattle.std.specs.List.{flat_map}
-use Rattle.std.specs.Str.{IsUtf8}
+use Rattle.std.proofs.Common.{◌≡◌, ℕ, ◌+◌, ◌-◌, ◌<◌, List, ◌∷◌, ◌++◌, length, take, drop, sym, ap, ◌∙◌, subst, arith, length-drop, take-append-drop}
 use Rattle.wtf8_core.specs.Boundary.{IsBoundary}
-use Rattle.wtf8_core.specs.Covered.{HasNoCharacter, IsCovered, StartsWithNoCharacter}
 use Rattle.wtf8_core.specs.Character.{WholeCharacter}
 use Rattle.wtf8_core.specs.OccurrenceLaws.{OccurrenceLaws}
 use Rattle.platform_str.specs.Laws.{IsFirstUnit}
-use Rattle.os_str_ext.specs.Chunks.{IsFirstChunk}
 use Rattle.os_str_ext.specs.Symbols.{symbols_of, unit_symbol}
 use Rattle.std.proofs.Common.{inr, map}
-use Rattle.std.proofs.lemmas.List.{append_cancel_right, take_at}
+use Rattle.std.proofs.lemmas.List.{take_at}
 use Rattle.std.specs.Char.{IsScalar, encode_utf8}
 use Rattle.wtf8_core.specs.CodePoint.{encode}
 use Rattle.wtf8_core.proofs.lemmas.characters.AtIndices.{character_fits, begins_at}
 use Rattle.os_str_ext.specs.Characters.{IsOneCharacter}
 use Rattle.glob_patterns.specs.Letters.{letters_of, symbol_letter}
 use Rattle.wildcards.specs.Reading.{IsFirstLetter}
-use Rattle.wtf8_core.specs.PartUnits.{unit_bytes}
-use Rattle.wtf8_core.proofs.lemmas.characters.Seams.{text_covered, seam_at_start}
-use Rattle.wtf8_core.proofs.lemmas.occurrence.Indices.{no_units, nil_formed}
-use Rattle.os_str_ext.proofs.lemmas.FirstChunk.{edges, part_is_uncovered}
-use Rattle.os_str_ext.proofs.lemmas.SymbolSteps.{symbols_by_unit, symbols_by_character}
-use Rattle.glob_patterns.specs.LetterCuts.{some_first}
+use Rattle.wtf8_core.proofs.lemmas.occurrence.Indices.{no_units}
+use Rattle.os_str_ext.proofs.lemmas.SymbolSteps.{symbols_by_character}
 
 module _ (well_formed : List ℕ → Type 0) (units : List ℕ → List ℕ) (occurrence : OccurrenceLaws well_formed units)
     (cut_suffix : (b : List ℕ) (i : ℕ) → well_formed b → IsBoundary b i → well_formed (drop i b)) where

@@ -1,8 +1,7 @@
 -- Escapes of strings that begin with a byte that is written by itself.
-use Rattle.os_quote.proofs.Common.{◌≡◌, ℕ, ◌<◌, ◌≤◌, ltb, List, [], ◌∷◌, ◌++◌, length, take, drop, sym, ap, ◌∙◌, subst, arith, length-drop, lt-ltb, le-ltb, ByteUnit, WideUnit, shown_by, item_text, unit_item, character_item, stays_on_line, escape_of}
+use Rattle.os_quote.proofs.Common.{◌≡◌, ℕ, ◌<◌, ◌≤◌, List, [], ◌∷◌, ◌++◌, length, take, drop, sym, ap, ◌∙◌, subst, arith, length-drop, lt-ltb, le-ltb, ByteUnit, WideUnit, shown_by, item_text, unit_item, character_item, stays_on_line, escape_of}
 use Rattle.std.specs.Bool.{if◌then◌else◌}
-use Rattle.os_quote.specs.Start.{BeginsWith, byte_item}
-use Rattle.os_quote.specs.declared.form.Form.{Form, TheVariants.Line}
+use Rattle.os_quote.specs.{Start.BeginsWith, Start.byte_item, declared.form.Form.Form, declared.form.Form.TheVariants.Line}
 use Rattle.wtf8_core.specs.{Covered.StartsWithNoCharacter, Boundary.IsBoundary, OccurrenceLaws.OccurrenceLaws}
 use Rattle.platform_str.specs.Laws.{IsFirstUnit}
 use Rattle.os_quote.proofs.lemmas.{Prefixes.ascii_text, Prefixes.ascii_first, Prefixes.rest_formed, FirstUnits.unit_first}

@@ -1,13 +1,11 @@
 -- The words of bytes have their texts.
 use Rattle.os_quote.proofs.Common.{◌≡◌, ℕ, ◌/◌, ◌%◌, ◌<◌, ◌≤◌, Bool, true, false, true≢false, ◌&&◌, eqb, ltb, ◌+◌, List, [], ◌∷◌, ◌++◌, length, length-take-le, take, refl, sym, ap, ◌∙◌, subst, arith, and_parts, all_below, each_below, AllByRecursion, IsUtf8, IsUtf8-from_ascii, item_text}
-use Rattle.std.proofs.lemmas.Bool.{eqb-true, ltb-true}
-use Rattle.std.proofs.lemmas.{Slice.take-put_mid, List.take-take}
+use Rattle.std.proofs.lemmas.{Bool.eqb-true, Bool.ltb-true, Slice.take-put_mid, List.take-take}
 use Rattle.std.proofs.Math.Seq.{take-append-add}
 use borrow.Rule.Slice.PartMut.{put_mid}
 use Rattle.std.specs.Prelude.{slice_index_or}
 use Rattle.std.specs.Int.{w64, to_le_bytes}
-use Rattle.os_quote.specs.Start.{byte_item}
-use Rattle.os_quote.specs.declared.write_bytes.TheConstants.{WORDS}
+use Rattle.os_quote.specs.{Start.byte_item, declared.write_bytes.TheConstants.WORDS}
 use Rattle.os_quote.proofs.lemmas.Readings.{ascii_all}
 
 abbrev word_at : ℕ → ℕ → ℕ
@@ -49,6 +47,10 @@ each_has_text : all_below has_text 256 ≡ true
 unfolding lib.Utf8.encode
 each_has_text = refl
 
+-- the word has the text of a byte
+abbrev HasText : ℕ → ℕ → Type 0
+HasText b word = (word / 0x100_0000_0000_0000 ≤ 8) × (take (word / 0x100_0000_0000_0000) (to_le_bytes w64 word) ≡ item_text (byte_item b))
+
 module _ (b : ℕ) (byte : b < 256) where
   parts : (same (take (word_len b) (to_le_bytes w64 (word_of b))) (item_text (byte_item b)) ≡ true) × ((ltb (word_len b) 9 && are_low (item_text (byte_item b))) ≡ true)
   parts = and_parts _ _ (each_below has_text 256 b each_has_text byte)
@@ -56,15 +58,10 @@ module _ (b : ℕ) (byte : b < 256) where
   pub byte_is_utf8 : IsUtf8 (item_text (byte_item b))
   byte_is_utf8 = IsUtf8-from_ascii _ (ascii_all _ (all_low _ (and_parts _ _ parts.1).1))
 
-  few : word_len b ≤ 8
-  few = let low = ltb-true (word_len b) 9 (and_parts (ltb (word_len b) 9) _ parts.1).0 in omega (arith, low)
-
-  module _ (i j : ℕ) (high : i ≡ b / 16) (low : j ≡ b % 16) where
-    pub text_of_word : take (word_at i j / 0x100_0000_0000_0000) (to_le_bytes w64 (word_at i j)) ≡ item_text (byte_item b)
-    text_of_word = ap (λ n. take (word_at n j / 0x100_0000_0000_0000) (to_le_bytes w64 (word_at n j))) high ∙ ap (λ n. take (word_at (b / 16) n / 0x100_0000_0000_0000) (to_le_bytes w64 (word_at (b / 16) n))) low ∙ are_same _ _ parts.0
-
-    pub few_in_word : word_at i j / 0x100_0000_0000_0000 ≤ 8
-    few_in_word = subst (λ n. word_at n j / 0x100_0000_0000_0000 ≤ 8) (sym high) (subst (λ n. word_at (b / 16) n / 0x100_0000_0000_0000 ≤ 8) (sym low) (few))
+  pub word_has_text : (i j : ℕ) → i ≡ b / 16 → j ≡ b % 16 → HasText b (word_at i j)
+  word_has_text i j high low =
+      let few = ltb-true (word_len b) 9 (and_parts (ltb (word_len b) 9) _ parts.1).0 in
+      subst (λ n. HasText b (word_at n j)) (sym high) (subst (λ n. HasText b (word_at (b / 16) n)) (sym low) (omega (arith, few), are_same _ _ parts.0))
 
 -- a word is stored at an index, and what its text doesn't have is written over next
 pub placed : (a ys : List ℕ) (i k n : ℕ) → i + k ≤ length a → length ys ≡ k → n ≤ k → take (i + n) (put_mid i k a ys) ≡ take i a ++ take n ys

@@ -1,5 +1,5 @@
 -- Escapes, and their strings.
-use Rattle.os_quote.proofs.Common.{◌≡◌, ⊎_elim, inl, inr, ℕ, ◌<◌, ◌^◌, Bool, List, [], ◌∷◌, ◌++◌, map, length, refl, sym, ap, ◌∙◌, arith, append_assoc, append-nil, length-append, AllByRecursion, flat_map, IsUtf8, lt-ltb, le-ltb, cases_lt, recursion_from_All, Chunk, joined, AreChunks, HasNoCharacter, some_chunks, chunks_once, form_bounds, PartLaws, chunks_of, Item, item_texts, IsItem, unit_item, chunk_items, items_of, IsEscapeBy, IsBadEscapeBy, item_bytes, IsChunkOf, flat_map-append, item_text, escape_of}
+use Rattle.os_quote.proofs.Common.{◌≡◌, ⊎_elim, inl, inr, ℕ, ◌<◌, ◌^◌, Bool, List, [], ◌∷◌, ◌++◌, map, length, refl, sym, ap, ◌∙◌, arith, append_assoc, append-nil, length-append, AllByRecursion, flat_map, IsUtf8, lt-ltb, le-ltb, cases_lt, recursion_from_All, Chunk, joined, AreChunks, HasNoCharacter, some_chunks, chunks_once, form_bounds, PartLaws, chunks_of, Item, item_texts, IsItem, unit_item, chunk_items, items_of, IsEscapeBy, IsBadEscapeBy, item_bytes, IsChunkOf, flat_map-append, escape_of}
 use Rattle.wtf8_core.specs.PartUnits.{unit_bytes}
 use Rattle.wtf8_core.proofs.lemmas.characters.AtIndices.{character_fits}
 use Rattle.os_quote.proofs.lemmas.{Items.same_items, Texts.text_items, Texts.text_escape, Texts.text_is_items, Chunks.own_chunks, Chunks.text_chunks}
@@ -7,11 +7,6 @@ use Rattle.os_quote.proofs.lemmas.{Items.same_items, Texts.text_items, Texts.tex
 pub all-append : {X : Type 0} (P : X → Type 0) (xs ys : List X) → AllByRecursion P xs → AllByRecursion P ys → AllByRecursion P (xs ++ ys)
 all-append P [] ys a b = b
 all-append P (x ∷ xs) ys a b = (a.0, all-append P xs ys a.1 b)
-
--- the text of a chunk's items comes before that of the others
-pub next_text : (shows : ℕ → Bool) (units : List ℕ → List ℕ) {all cs : List Chunk} {c : Chunk} → all ≡ c ∷ cs
-    → item_texts (items_of shows units all) ≡ item_texts (map unit_item (units c.0)) ++ (item_texts (text_items shows c.1) ++ item_texts (items_of shows units cs))
-next_text shows units {all} {cs} {c} e = grind (arith, unit_item, text_items, items_of, item_texts, flat_map-append, item_text, append_assoc)
 
 -- the items of units
 pub unit_is_item : (shows : ℕ → Bool) (u : ℕ) → u < 2 ^ 16 → IsItem shows (unit_item u) × (item_bytes (unit_item u) ≡ unit_bytes u)

@@ -1,14 +1,12 @@
 -- Escapes of strings that begin with a unit.
-use Rattle.os_quote.proofs.Common.{◌≡◌, ⊎_elim, ℕ, ◌+◌, ◌<◌, ◌≤◌, Bool, true, false, not, ◌||◌, true≢false, List, [], ◌∷◌, ◌++◌, map, length, take, drop, get_or, refl, sym, ap, ◌∙◌, subst, arith, append_cancel_right, length-append, length-drop, length-take-le, take-append-drop, cases_lt, map-append, nil_from_length, chars, Chunk, AreChunks, chunks_of, some_chunks, encode, form_bounds, form_two, form_three, form_past, IsUtf8, Item, item_text, item_texts, unit_item, character_item, items_of, escape_of}
-use Rattle.std.proofs.lemmas.List.{get_or_append_left, take-take}
+use Rattle.os_quote.proofs.Common.{◌≡◌, ⊎_elim, ℕ, ◌+◌, ◌<◌, ◌≤◌, Bool, true, false, not, ◌||◌, true≢false, List, [], ◌∷◌, ◌++◌, map, length, take, drop, get_or, refl, sym, ap, ◌∙◌, subst, arith, take-append-drop, cases_lt, map-append, chars, Chunk, chunks_of, encode, form_bounds, form_two, form_three, form_past, IsUtf8, Item, item_text, item_texts, unit_item, character_item, items_of, escape_of}
+use Rattle.std.proofs.lemmas.List.{get_or_append_left}
 use Rattle.std.specs.Str.{IsValidUpTo}
 use Rattle.os_quote.specs.Start.{IsCutAfterText}
-use Rattle.wtf8_core.specs.{Covered.StartsWithNoCharacter, Character.WholeCharacter, OccurrenceLaws.OccurrenceLaws, Byte.IsContinuation, Boundary.IsBoundary}
-use Rattle.wtf8_core.proofs.lemmas.occurrence.Indices.{no_units, nothing}
-use Rattle.wtf8_core.proofs.lemmas.characters.{AtIndices.begins_at, FourBytes.past_ascii, Overlaps.continued, Overlaps.no_start}
+use Rattle.wtf8_core.specs.{Covered.StartsWithNoCharacter, OccurrenceLaws.OccurrenceLaws, Byte.IsContinuation, Boundary.IsBoundary}
+use Rattle.wtf8_core.proofs.lemmas.{characters.AtIndices.begins_at, characters.FourBytes.past_ascii, characters.Overlaps.continued, characters.Overlaps.no_start}
 use Rattle.platform_str.specs.Laws.{IsFirstUnit}
-use Rattle.os_str_ext.specs.{Chunks.IsFirstChunk, Parts.unit_number, Symbols.unit_symbol, Symbols.symbols_of, Symbols.chunks_symbols, declared.symbols.Symbol.Symbol}
-use Rattle.os_str_ext.specs.declared.symbols.Symbol.TheVariants.{Character}
+use Rattle.os_str_ext.specs.{Parts.unit_number, Symbols.unit_symbol, Symbols.symbols_of, Symbols.chunks_symbols, declared.symbols.Symbol.Symbol, declared.symbols.Symbol.TheVariants.Character}
 use Rattle.os_str_ext.specs.declared.symbols.Symbol.TheVariants as symbol
 use Rattle.os_str_ext.proofs.lemmas.{FirstChunk.no_character_after, UnitAtStart.symbols_from_unit}
 

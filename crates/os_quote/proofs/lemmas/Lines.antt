@@ -1,5 +1,5 @@
 -- That an escape on one line stays there.
-use Rattle.os_quote.proofs.Common.{◌≡◌, ◌≢◌, ⊎_elim, Bool, ℕ, ◌/◌, ◌%◌, ◌<◌, true, List, [], ◌∷◌, ◌++◌, map, length, IsTrue, refl, sym, ap, ◌∙◌, subst, arith, append-nil, length-append, encode_utf8, All, AllByRecursion, IsUtf8, chars, cases_lt, cases_eq, cases_Bool, ne_eqb, lt-ltb, le-ltb, All-from_recursion, chars-append, chars-nil, chars_past_char, chars-IsAscii, IsUtf8-encode, IsUtf8-nil, length-encode, len_utf8_bounds, Chunk, AreChunks, upper_hex_digit, PartLaws, Item, Character, Backslash, ByteUnit, WideUnit, LongCharacter, backslash, wide_digits, long_digits, item_text, item_texts, IsLong, IsItem, unit_item, hidden_item, character_item, stays_on_line, IsUnchanged, AreUnchanged, IsCutAtToken, chunk_items, items_of, IsLineEscape, IsChunkOf}
+use Rattle.os_quote.proofs.Common.{◌≡◌, ◌≢◌, ⊎_elim, Bool, ℕ, ◌/◌, ◌%◌, ◌<◌, true, List, [], ◌∷◌, ◌++◌, map, length, IsTrue, refl, sym, ap, ◌∙◌, subst, arith, append-nil, length-append, encode_utf8, All, AllByRecursion, IsUtf8, chars, cases_lt, cases_eq, cases_Bool, ne_eqb, lt-ltb, le-ltb, All-from_recursion, chars-append, chars-nil, chars_past_char, chars-IsAscii, IsUtf8-encode, length-encode, len_utf8_bounds, Chunk, AreChunks, upper_hex_digit, PartLaws, Item, Character, Backslash, ByteUnit, WideUnit, LongCharacter, backslash, wide_digits, long_digits, item_text, item_texts, IsLong, IsItem, unit_item, hidden_item, character_item, stays_on_line, IsUnchanged, AreUnchanged, IsCutAtToken, chunk_items, items_of, IsLineEscape, IsChunkOf}
 use Rattle.os_quote.proofs.lemmas.{Items.digit_low, Items.digit_high, Items.five_digits, Items.six_digits, Shown.ascii_stays, Texts.text_after, Escapes.all-append, Escapes.escape_is_items, Readings.ascii_all, Readings.ascii_byte_unit, Readings.ascii_wide_unit, Readings.ascii_long_character, Readings.item_is_text}
 
 -- the characters stay on the line
@@ -72,10 +72,6 @@ escape_is_on_line well_formed units part_units parts each s text w e =
     let items = items_of stays_on_line units e.chunks in
     let k = escape_is_items stays_on_line well_formed units part_units parts each s text w e in
     All-from_recursion (λ c. stays_on_line c ≡ true) (chars text) (subst (λ x. AllStay (chars x)) (sym e.text_is) (texts_stay items k.0 (chunks_stay units e.chunks)))
-
--- the first character is written as a token
-pub hidden_first : (t following : List ℕ) (c : ℕ) → ¬ (IsUnchanged stays_on_line c) → t ≡ encode_utf8 c ++ following → IsUtf8 following → IsCutAtToken stays_on_line t [] c following
-hidden_first t following c h e u = record { unchanged = subst (AllByRecursion (IsUnchanged stays_on_line)) (sym chars-nil) tt; hidden = h; joined = e; prefix_text = IsUtf8-nil; after_text = u }
 
 pub cut_is_shorter : (shows : ℕ → Bool) (t prefix : List ℕ) (c : ℕ) (following : List ℕ) → IsCutAtToken shows t prefix c following → length following < length t
 cut_is_shorter shows t prefix c following k =

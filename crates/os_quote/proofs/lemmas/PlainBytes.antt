@@ -1,5 +1,5 @@
 -- Plain bytes: texts that both forms show unchanged.
-use Rattle.os_quote.proofs.Common.{◌≡◌, ◌⊎◌, ⊎_elim, ℕ, zero, suc, ◌+◌, ◌-◌, ◌<◌, ◌≤◌, true, List, [], ◌∷◌, ◌++◌, length, take, get_or, refl, sym, subst, arith, AllByRecursion, IsUtf8, cases_lt, chars-IsAscii, IsUtf8-from_ascii, shown_by, IsPlain, IsPlainUpTo, AreUnchanged, IsUnchanged}
+use Rattle.os_quote.proofs.Common.{◌≡◌, ◌⊎◌, ⊎_elim, ℕ, zero, suc, ◌+◌, ◌-◌, ◌<◌, ◌≤◌, true, List, [], ◌∷◌, length, take, get_or, refl, sym, subst, arith, AllByRecursion, IsUtf8, cases_lt, chars-IsAscii, IsUtf8-from_ascii, shown_by, IsPlain, IsPlainUpTo, AreUnchanged, IsUnchanged}
 use Rattle.os_quote.specs.declared.form.Form.{Form, TheVariants.Text, TheVariants.Line}
 use Rattle.os_quote.proofs.lemmas.{Readings.ascii_all, Shown.ascii_stays, Texts.text_escape, Texts.unchanged_text}
 
@@ -55,10 +55,5 @@ up_to_later bs at last n m before low room more which = record {
       (λ ge. let e : last + (i - last) ≡ i = omega (arith, ge, low) in subst (λ k. IsPlain (get_or bs k 0)) e (more (i - last) (⊎_elim (λ k. omega (arith, k, lt, ge)) (λ k. omega (arith, k, lt, ge, low)) which)))
       (cases_lt i at);
 }
-
--- some more after others
-pub all_plain : (xs ys : List ℕ) → AllByRecursion IsPlain xs → AllByRecursion IsPlain ys → AllByRecursion IsPlain (xs ++ ys)
-all_plain [] ys a b = b
-all_plain (x ∷ xs) ys a b = (a.0, all_plain xs ys a.1 b)
 
 pub ruleset plain_bytes = (none_plain, more_plain, one_plain)

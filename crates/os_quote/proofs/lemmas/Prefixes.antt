@@ -2,9 +2,8 @@
 use Rattle.os_quote.proofs.Common.{◌≡◌, ⊎_elim, ℕ, ◌+◌, ◌-◌, ◌<◌, Bool, List, [], ◌∷◌, ◌++◌, map, length, refl, sym, ap, ◌∙◌, subst, arith, append_assoc, length-append, IsUtf8, chars, cases_lt, chars-append, IsCovered, CrossesNoCharacter, Chunk, joined, AreChunks, AreChunksFrom, chunks_from_start, are_chunks, some_chunks, chunks_once, one_more_chunk, Covered, over_none, covered_after, seam_at_start, text_covered, chunks_of, Item, item_texts, unit_item, character_item, items_of, escape_of, item_text, flat_map-append, map-append, IsAfterPlain, shown_by, chars-nil, chars-IsAscii, append-nil, IsUtf8-from_ascii}
 use Rattle.os_quote.specs.declared.form.Form.{Form}
 use Rattle.wtf8_core.specs.OccurrenceLaws.{OccurrenceLaws}
-use Rattle.wtf8_core.proofs.lemmas.occurrence.Indices.{no_units}
+use Rattle.wtf8_core.proofs.lemmas.{occurrence.Indices.no_units, chunks.OneList.after_seam}
 use Rattle.os_quote.proofs.lemmas.{PlainBytes.plain_is_text, PlainBytes.plain_is_own, Readings.ascii_all, Texts.text_items, Texts.text_escape}
-use Rattle.wtf8_core.proofs.lemmas.chunks.OneList.{after_seam}
 
 module _ (p r : List ℕ) (u : IsUtf8 p) (some : 0 < length p) where
   -- what is known of the text at the start

@@ -8,9 +8,6 @@ module _ {S : Type 0} (sink : SinkRules S) where
   abbrev pub TakesRest : S → S → List ℕ → List ℕ → Type 0
   TakesRest s t left all = (done : List ℕ) × sink.took s done t × (done ++ left ≡ all)
 
-  pub nothing_taken : (s : S) (left all : List ℕ) → left ≡ all → TakesRest s s left all
-  nothing_taken s left all e = ([], sink.took_nothing s, e)
-
   module _ {s t : S} {left all : List ℕ} (so_far : TakesRest s t left all) where
     pub one_taken : {u : S} {more rest : List ℕ} → sink.took t more u → left ≡ more ++ rest → TakesRest s u rest all
     one_taken {u} {more} {rest} next e = (so_far.0 ++ more, sink.took_both s t u so_far.0 more so_far.1 next, append_assoc so_far.0 more rest ∙ ap (λ x. so_far.0 ++ x) (sym e) ∙ so_far.2)

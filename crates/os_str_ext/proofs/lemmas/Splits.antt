@@ -1,8 +1,7 @@
 -- A string has one list of pieces, and a cut takes the first of them off.
 use Rattle.os_str_ext.proofs.Common.{◌≡◌, ℕ, ◌<◌, List, [], ◌∷◌, length, Option, None, Some, refl, sym, ap, subst, ◌∙◌, arith, option_map, OccursNowhere, ArePieces, AreOfRest, pieces_left}
 use Rattle.std.specs.Iterator.{MakesProgress, item_count}
-use Rattle.os_str_ext.specs.Pieces.SplitsInto.{whole, cut}
-use Rattle.os_str_ext.specs.Cuts.{PiecesOf, CutLaws}
+use Rattle.os_str_ext.specs.{Pieces.SplitsInto.whole, Pieces.SplitsInto.cut, Cuts.PiecesOf, Cuts.CutLaws}
 
 module _ (Cuts : List ℕ → List ℕ → List ℕ → List ℕ → Type 0) (laws : CutLaws Cuts) (p : List ℕ) where
   one_list : (s : List ℕ) (qs rs : List (List ℕ)) → ArePieces Cuts p s qs → ArePieces Cuts p s rs → qs ≡ rs

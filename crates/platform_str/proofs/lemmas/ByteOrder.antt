@@ -1,9 +1,6 @@
 -- The order of lists of bytes, as the derives build it.
 use Rattle.platform_str.proofs.Common.{◌≡◌, ℕ, List, Some, refl, ap, ◌∙◌}
-use Rattle.std.specs.Ordering.{nat_cmp, partial_ordering_then}
-use Rattle.std.specs.declared.cmp.Ordering.{Ordering}
-use Rattle.std.specs.declared.cmp.Ordering.TheVariants.{Less, Equal, Greater}
-use Rattle.std.specs.Cmp.Lexicographic.{slice_cmp, slice_partial_cmp, lists_agrees}
+use Rattle.std.specs.{Ordering.nat_cmp, Ordering.partial_ordering_then, declared.cmp.Ordering.Ordering, declared.cmp.Ordering.TheVariants.Less, declared.cmp.Ordering.TheVariants.Equal, declared.cmp.Ordering.TheVariants.Greater, Cmp.Lexicographic.slice_cmp, Cmp.Lexicographic.slice_partial_cmp, Cmp.Lexicographic.lists_agrees}
 
 -- a field whose values are all equal doesn't affect the order
 then_equal : (o : Ordering) → partial_ordering_then (Some o) (Some Equal) ≡ Some o

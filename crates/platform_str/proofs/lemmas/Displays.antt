@@ -1,10 +1,8 @@
 -- Characters of lossy texts, and texts that are filled.
 use Rattle.std.proofs.Common.{◌≡◌, ℕ, ◌+◌, ◌-◌, List, [], ◌∷◌, ◌++◌, length, cond, Option, Some, refl, sym, ap, ◌∙◌, arith, append_assoc, unwrap_or}
-use Rattle.std.specs.{Char.encode_utf8, List.repeat, Fmt.is_char_start, Fmt.char_count, List.FoldsTo, List.concat}
-use Rattle.std.specs.declared.fmt.Alignment.{Alignment}
-use Rattle.platform_str.specs.{Lossy.IsFirstText, Display.fill_before, Display.filled}
+use Rattle.std.specs.{Char.encode_utf8, List.repeat, Fmt.is_char_start, Fmt.char_count, List.FoldsTo, List.concat, declared.fmt.Alignment.Alignment}
+use Rattle.platform_str.specs.{Lossy.IsFirstText, Display.fill_before, Display.filled, declared.writeable.Shortfall.Shortfall}
 use Rattle.platform_str.proofs.lemmas.LossyLoops.{encode_fffd}
-use Rattle.platform_str.specs.declared.writeable.Shortfall.{Shortfall}
 
 count_none : (text : List ℕ) → length text ≡ 0 → char_count text ≡ 0
 unfolding char_count

@@ -1,7 +1,6 @@
 -- Bytes as the type of a slice knows them, and marks.
 use Rattle.std.proofs.Common.{◌≡◌, ⊎_elim, ℕ, suc, ◌<◌, ◌≤◌, Bool, cond, List, ◌∷◌, length, take, get_or, w8, Fits, sym, subst, arith}
-use Rattle.std.proofs.lemmas.{List.get_or_past, Bool.cond_both, Bool.cases_lt}
-use Rattle.std.proofs.lemmas.List.Elements.{All-from_get_or}
+use Rattle.std.proofs.lemmas.{List.get_or_past, Bool.cond_both, Bool.cases_lt, List.Elements.All-from_get_or}
 use Rattle.std.specs.List.{All}
 
 pub all_bytes : (bytes : List ℕ) → ((i : ℕ) → Fits w8 (get_or bytes i 0)) → All (λ x. x < 256) bytes

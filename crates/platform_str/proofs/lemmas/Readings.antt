@@ -1,7 +1,6 @@
 -- One step of the loop over the faults of bytes that aren't WTF-8.
 use Rattle.platform_str.proofs.Common.{◌≡◌, ℕ, List, ◌++◌, take, drop, sym, ap, ◌∙◌, subst, append_assoc, take_at, drop_at, IsWtf8, replacement, IsLeftToRead}
-use Rattle.wtf8_core.specs.{Fault.IsFaultAt, LossyReading.IsLossyReading}
-use Rattle.wtf8_core.specs.LossyReading.IsLossyReading.{formed, replaced}
+use Rattle.wtf8_core.specs.{Fault.IsFaultAt, LossyReading.IsLossyReading, LossyReading.IsLossyReading.formed, LossyReading.IsLossyReading.replaced}
 use Rattle.wtf8_core.proofs.lemmas.reader.LossyReadings.{reading_wtf8}
 
 module _ {rest : List ℕ} {v n : ℕ} (f : IsFaultAt rest v n) where

@@ -1,8 +1,7 @@
 -- Vectors of 16 lanes, lane by lane.
 use Rattle.std.proofs.Common.{◌≡◌, ℕ, ◌+◌, ◌≤◌, ◌<◌, Bool, false, cond, List, map, length, take, drop, get_or, replicate, sym, ap, ◌∙◌, arith}
 use Rattle.platform_str.proofs.Common.{zip2, top, length-map}
-use Rattle.std.proofs.lemmas.List.{get_or-map, get_or-take}
-use Rattle.std.proofs.lemmas.Simd.{length-chunk, get_or-chunk, get_or-zip2, get_or-replicate, length-replicate, length-zip2, tops_compared, length-sel_l, get_or-sel_l}
+use Rattle.std.proofs.lemmas.{List.get_or-map, List.get_or-take, Simd.length-chunk, Simd.get_or-chunk, Simd.get_or-zip2, Simd.get_or-replicate, Simd.length-replicate, Simd.length-zip2, Simd.tops_compared, Simd.length-sel_l, Simd.get_or-sel_l}
 use lib.Lanes.{sel_l}
 use mir.Syntax.{w16}
 

@@ -1,15 +1,10 @@
 -- The strings of Unix: any bytes. What its words mean, and its four records of laws, proved.
 use Rattle.std.proofs.Common.{◌≡◌, ℕ, ◌<◌, ◌≤◌, List, ◌++◌, length, refl, sym, ◌∙◌, subst, take-append-drop}
-use Rattle.std.specs.List.{All}
-use Rattle.std.specs.Str.Lossy.{utf8_lossy}
+use Rattle.std.specs.{List.All, Str.Lossy.utf8_lossy}
 use Rattle.std.proofs.Math.Bridge.{le_prop}
-use Rattle.std.proofs.lemmas.{List.take_at, List.drop_at, Str.utf8_lossy-IsUtf8}
-use Rattle.std.proofs.lemmas.List.Elements.{All-append, All-take, All-drop, All-from_recursion, recursion_from_All}
-use Rattle.wtf8_core.specs.{Byte.IsByte, OccurrenceLaws.OccurrenceLaws, Utf8.IsIllFormedPart}
-use Rattle.wtf8_core.specs.declared.fault.EncodingError.{EncodingError}
-use Rattle.wtf8_core.proofs.lemmas.characters.AtIndices.{none_begins}
-use Rattle.wtf8_core.proofs.lemmas.chunks.PartUnits.{uncovered_bytes}
-use Rattle.wtf8_core.proofs.lemmas.texts.AreWtf8.{text_bytes, lossy_prefix, lossy_text, lossy_is_utf8, part_first}
+use Rattle.std.proofs.lemmas.{List.take_at, List.drop_at, Str.utf8_lossy-IsUtf8, List.Elements.All-append, List.Elements.All-take, List.Elements.All-drop, List.Elements.All-from_recursion, List.Elements.recursion_from_All}
+use Rattle.wtf8_core.specs.{Byte.IsByte, OccurrenceLaws.OccurrenceLaws, Utf8.IsIllFormedPart, declared.fault.EncodingError.EncodingError}
+use Rattle.wtf8_core.proofs.lemmas.{characters.AtIndices.none_begins, chunks.PartUnits.uncovered_bytes, texts.AreWtf8.text_bytes, texts.AreWtf8.lossy_prefix, texts.AreWtf8.lossy_text, texts.AreWtf8.lossy_is_utf8, texts.AreWtf8.part_first}
 use Rattle.platform_str.specs.{Laws.PlatformLaws, Laws.PartLaws, Laws.ReadingLaws, PlatformWords.itself, PlatformWords.wide_bytes}
 
 -- no bytes are refused

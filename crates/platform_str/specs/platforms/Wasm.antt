@@ -1,19 +1,11 @@
 -- The strings of wasm: UTF-8. What its words mean, and its four records of laws, proved.
 use Rattle.std.proofs.Common.{◌≡◌, ⊎_elim, get_or, ℕ, ◌<◌, List, [], ◌∷◌, ◌++◌, length, length-append, drop, refl, sym, ap, ◌∙◌, subst, take-append-drop, arith}
-use Rattle.std.specs.{List.flat_map, Str.IsUtf8}
-use Rattle.std.specs.Str.Lossy.{utf8_lossy}
+use Rattle.std.specs.{List.flat_map, Str.IsUtf8, Str.Lossy.utf8_lossy}
 use Rattle.std.proofs.Math.Seq.{take-length}
-use Rattle.std.proofs.lemmas.{List.take_at, List.drop_at, Bool.cases_lt}
-use Rattle.std.proofs.lemmas.Str.{IsUtf8-append, IsUtf8-take, IsUtf8-drop, IsCharBoundary-from_drop}
-use Rattle.wtf8_core.specs.{Covered.StartsWithNoCharacter, Covered.HasNoCharacter, Lossy.IsLossyText, PartUnits.unit_bytes, OccurrenceLaws.OccurrenceLaws, Utf8.IsUtf8Fault}
+use Rattle.std.proofs.lemmas.{List.take_at, List.drop_at, Bool.cases_lt, Str.IsUtf8-append, Str.IsUtf8-take, Str.IsUtf8-drop, Str.IsCharBoundary-from_drop}
+use Rattle.wtf8_core.specs.{Covered.StartsWithNoCharacter, Covered.HasNoCharacter, Lossy.IsLossyText, PartUnits.unit_bytes, OccurrenceLaws.OccurrenceLaws, Utf8.IsUtf8Fault, declared.fault.EncodingError.EncodingError, declared.fault.EncodingError.TheVariants.Byte, declared.fault.EncodingError.TheVariants.CodePoint, declared.fault.EncodingError.TheVariants.End, declared.fault.EncodingError.TheVariants.Utf8}
 use Rattle.wtf8_core.specs.Lossy.IsLossyText.{text as kept_text}
-use Rattle.wtf8_core.specs.declared.fault.EncodingError.{EncodingError}
-use Rattle.wtf8_core.specs.declared.fault.EncodingError.TheVariants.{Byte, CodePoint, End, Utf8}
-use Rattle.wtf8_core.proofs.lemmas.characters.AtIndices.{none_begins}
-use Rattle.wtf8_core.proofs.lemmas.forms.Cuts.{utf8_cut, utf8_after}
-use Rattle.wtf8_core.proofs.lemmas.occurrence.Boundaries.{edges_of_text}
-use Rattle.wtf8_core.proofs.lemmas.texts.AreWtf8.{text_bytes, lossy_is_utf8, lossy_text, no_text_begins}
-use Rattle.wtf8_core.proofs.lemmas.texts.LossyTexts.{no_text, one_utf8_fault, lossy_text_is}
+use Rattle.wtf8_core.proofs.lemmas.{characters.AtIndices.none_begins, forms.Cuts.utf8_cut, forms.Cuts.utf8_after, occurrence.Boundaries.edges_of_text, texts.AreWtf8.text_bytes, texts.AreWtf8.lossy_is_utf8, texts.AreWtf8.lossy_text, texts.AreWtf8.no_text_begins, texts.LossyTexts.no_text, texts.LossyTexts.one_utf8_fault, texts.LossyTexts.lossy_text_is}
 use Rattle.platform_str.specs.{Laws.PlatformLaws, Laws.PartLaws, Laws.ReadingLaws, PlatformWords.itself, PlatformWords.IsThree, PlatformWords.wide_bytes}
 
 -- the first fault of bytes that aren't UTF-8

@@ -1,15 +1,8 @@
 -- The strings of Windows: WTF-8. What its words mean, and its records of laws, proved; that of occurrences is wtf8_core's.
 use Rattle.std.proofs.Common.{◌≤◌, ◌++◌, length, drop, sym, ap, ◌∙◌, subst, arith}
 use Rattle.std.specs.Str.{IsUtf8}
-use Rattle.wtf8_core.specs.{Checker.HasFirstFault, Wtf8.IsWtf8, UnitsOf.units_of, UnitsOf.wtf8_lossy, Lossy.replacement, LossyReading.IsLossyReading, PartUnits.AreLoneSurrogates}
-use Rattle.wtf8_core.specs.LossyReading.IsLossyReading.{formed}
-use Rattle.wtf8_core.proofs.lemmas.reader.{Complete.never_both, Complete.one_fault, LossyReadings.one_reading, LossyReadings.some_reading, LossyReadings.reading_wtf8}
-use Rattle.wtf8_core.proofs.lemmas.units.AsFunction.{one_encoding, some_encoding, units_listed, units_cut}
-use Rattle.wtf8_core.proofs.lemmas.characters.AtIndices.{none_begins}
-use Rattle.wtf8_core.proofs.lemmas.forms.Cuts.{wtf8_cut}
-use Rattle.wtf8_core.proofs.lemmas.chunks.PartUnits.{uncovered_wtf8}
-use Rattle.wtf8_core.proofs.lemmas.texts.{LossyTexts.wtf8_lossy_prefix, LossyTexts.surrogate_first, WithoutSurrogates.cut_at_lead}
-use Rattle.wtf8_core.proofs.lemmas.texts.AreWtf8.{wtf8_of_text, wtf8_lossy_text, wtf8_lossy_is_utf8, wtf8_after_text}
+use Rattle.wtf8_core.specs.{Checker.HasFirstFault, Wtf8.IsWtf8, UnitsOf.units_of, UnitsOf.wtf8_lossy, Lossy.replacement, LossyReading.IsLossyReading, PartUnits.AreLoneSurrogates, LossyReading.IsLossyReading.formed}
+use Rattle.wtf8_core.proofs.lemmas.{reader.Complete.never_both, reader.Complete.one_fault, reader.LossyReadings.one_reading, reader.LossyReadings.some_reading, reader.LossyReadings.reading_wtf8, units.AsFunction.one_encoding, units.AsFunction.some_encoding, units.AsFunction.units_listed, units.AsFunction.units_cut, characters.AtIndices.none_begins, forms.Cuts.wtf8_cut, chunks.PartUnits.uncovered_wtf8, texts.LossyTexts.wtf8_lossy_prefix, texts.LossyTexts.surrogate_first, texts.WithoutSurrogates.cut_at_lead, texts.AreWtf8.wtf8_of_text, texts.AreWtf8.wtf8_lossy_text, texts.AreWtf8.wtf8_lossy_is_utf8, texts.AreWtf8.wtf8_after_text}
 use Rattle.platform_str.specs.{Laws.PlatformLaws, Laws.PartLaws, Laws.ReadingLaws, PlatformWords.AreWideUnits, PlatformWords.IsThree}
 
 pub windows_laws : PlatformLaws HasFirstFault IsWtf8 units_of AreWideUnits IsUtf8 wtf8_lossy IsThree

@@ -1,4 +1,4 @@
-use Rattle.os_quote.proofs.Common.{◌≡◌, ◌++◌, ◌∷◌, ◌∙◌, ◌<◌, length, take, sym, ap, subst, arith, append_assoc, IsUtf8, IsUtf8-append, escape_of, item_text, stays_on_line}
+use Rattle.os_quote.proofs.Common.{◌++◌, ◌∙◌, take, sym, ap, subst, arith, append_assoc, IsUtf8, IsUtf8-append, escape_of, item_text, stays_on_line}
 use Rattle.os_quote.specs.Start.{byte_item}
 use Rattle.os_quote.proofs.write_bytes.put_texts.Goals as goal
 

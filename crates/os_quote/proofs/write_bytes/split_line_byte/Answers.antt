@@ -1,4 +1,4 @@
-use Rattle.os_quote.proofs.Common.{◌≡◌, ◌<◌, ◌≤◌, ◌∷◌, ◌∙◌, ltb, ⊎_elim, ℕ, List, drop, sym, ap, subst, arith, item_text}
+use Rattle.os_quote.proofs.Common.{◌<◌, ◌≤◌, ◌∷◌, ◌∙◌, ltb, ⊎_elim, ℕ, List, drop, sym, ap, subst, arith, item_text}
 use Rattle.std.proofs.lemmas.{Bool.or_cases, Bool.ltb-true, Bool.Decides.nat_tests}
 use Rattle.os_quote.specs.Start.{BeginsWith, byte_item}
 use Rattle.os_quote.proofs.lemmas.ByteStarts.{from_ascii, from_unit}

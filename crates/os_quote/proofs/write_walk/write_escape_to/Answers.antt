@@ -1,4 +1,4 @@
-use Rattle.os_quote.proofs.Common.{[], ◌++◌, ◌∷◌, ◌∙◌, sym, ap, subst, nil_from_length, eqb-true, escape_of, item_text, item_texts, items_of, shown_by, unit_item}
+use Rattle.os_quote.proofs.Common.{◌++◌, ◌∙◌, sym, ap, subst, nil_from_length, eqb-true, escape_of, item_text, item_texts, items_of, shown_by, unit_item}
 use Rattle.std.proofs.lemmas.Result.{err_from_is_err_and}
 use Rattle.os_str_ext.proofs.lemmas.FirstChunk.{no_chunks}
 use Rattle.os_quote.proofs.lemmas.{ByteStarts.texts_first, FirstUnits.unit_first, PlainBytes.plain_is_text, Prefixes.plain_first, Prefixes.rest_formed, Prefixes.text_first, Taking.one_taken, Taking.all_taken, Taking.room_left, Taking.none_taken}

@@ -1,7 +1,6 @@
 use Rattle.std.proofs.Common.{ℕ, ◌+◌, ◌*◌, ◌/◌, ◌%◌, ◌^◌, ltb, leb, eqb, get_or, ap, ◌∙◌, arith}
 use Rattle.platform_str.specs.FromWide.{word_bytes}
-use Rattle.platform_str.proofs.lemmas.SixteenLanes.{loaded, loaded_first, widened, splat, both, choice}
-use Rattle.platform_str.proofs.lemmas.FromWideLanes.{six_bits, lane_given}
+use Rattle.platform_str.proofs.lemmas.{SixteenLanes.loaded, SixteenLanes.loaded_first, SixteenLanes.widened, SixteenLanes.splat, SixteenLanes.both, SixteenLanes.choice, FromWideLanes.six_bits, FromWideLanes.lane_given}
 use Rattle.platform_str.proofs.from_wide.unit_words.Goals as goal
 
 pub returns : goal.returns

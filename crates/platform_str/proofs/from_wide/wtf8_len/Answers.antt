@@ -1,6 +1,5 @@
 use Rattle.platform_str.proofs.Common.{rules, ◌≤◌, ◌<◌, ◌*◌, ◌^◌, length, ap, sym, subst, arith, AllByRecursion, IsUnit, pairs}
-use Rattle.platform_str.proofs.lemmas.FromWideCounts.{counted, counted_prefix, counted_few, count_few, counted_none, pairs_few, all_counted, string_counted}
-use Rattle.platform_str.proofs.lemmas.FromWide.{are_units, units_after}
+use Rattle.platform_str.proofs.lemmas.{FromWideCounts.counted, FromWideCounts.counted_prefix, FromWideCounts.counted_few, FromWideCounts.count_few, FromWideCounts.counted_none, FromWideCounts.pairs_few, FromWideCounts.all_counted, FromWideCounts.string_counted, FromWide.are_units, FromWide.units_after}
 use Rattle.platform_str.proofs.from_wide.wtf8_len.Goals as goal
 
 pub overflow_add-len : goal.overflow_add-len

@@ -1,7 +1,6 @@
 use Rattle.std.proofs.Common.{ℕ, ◌<◌, subst, ◌+◌, ◌*◌, ◌/◌, ◌%◌, ◌^◌, ltb, leb, get_or, ◌∙◌, arith}
 use Rattle.std.proofs.lemmas.Simd.{Each1-all, Each2-splat}
-use Rattle.platform_str.proofs.lemmas.SixteenLanes.{HasLanes, splat, both, choice, from_first, loaded, loaded_first}
-use Rattle.platform_str.proofs.lemmas.ToWide.{lane_is_unit, lane_without_pair}
+use Rattle.platform_str.proofs.lemmas.{SixteenLanes.HasLanes, SixteenLanes.splat, SixteenLanes.both, SixteenLanes.choice, SixteenLanes.from_first, SixteenLanes.loaded, SixteenLanes.loaded_first, ToWide.lane_is_unit, ToWide.lane_without_pair}
 use Rattle.platform_str.proofs.to_wide.unit_lanes.Goals as goal
 
 pub nonzero_rem-two : goal.nonzero_rem-two

@@ -1,7 +1,6 @@
 use Rattle.std.proofs.Common.{◌+◌, ◌/◌, leb, eqb, not, get_or, ◌∙◌, arith}
 use Rattle.std.proofs.lemmas.Simd.{Each1-all, Each2-splat}
-use Rattle.platform_str.proofs.lemmas.SixteenLanes.{HasLanes, splat, both, choice, from_first}
-use Rattle.platform_str.proofs.lemmas.ToWide.{lane_is_mark}
+use Rattle.platform_str.proofs.lemmas.{SixteenLanes.HasLanes, SixteenLanes.splat, SixteenLanes.both, SixteenLanes.choice, SixteenLanes.from_first, ToWide.lane_is_mark}
 use Rattle.platform_str.proofs.to_wide.unit_marks.Goals as goal
 
 pub nonzero_div-halves : goal.nonzero_div-halves
