@@ -2,6 +2,7 @@ pub mod CharacterForms
 pub mod Fish
 pub mod FishOneReading
 pub mod Lists
+pub mod Writing
 pub mod PowerShell
 pub mod ShellBare
 pub mod ShellDollar

@@ -1,7 +1,7 @@
 use Rattle.std.proofs.Common.{[], ◌∷◌, refl, true}
 use Rattle.std.specs.List.{flat_map}
 use Rattle.std.specs.Char.{encode_utf8}
-use Rattle.os_quote.proofs.lemmas.Writing.{nothing_yet, one_more, last_written}
+use Rattle.os_command_line.proofs.lemmas.Writing.{nothing_yet, one_more, last_written}
 use Rattle.os_command_line.specs.Fish.{fish_byte, fish_quoted}
 use Rattle.os_command_line.proofs.lemmas.Fish.{inner_text, one_character, no_byte}
 use Rattle.os_command_line.proofs.lemmas.PowerShell.{shorter}

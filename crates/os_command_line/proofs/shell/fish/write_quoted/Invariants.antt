@@ -1,7 +1,7 @@
 use Rattle.std.proofs.Common.{length}
 use denote.Shadow.{shadow}
 use denote.Text.{Utf8}
-use Rattle.os_quote.proofs.lemmas.Writing.{WritesRest}
+use Rattle.os_command_line.proofs.lemmas.Writing.{WritesRest}
 use Rattle.os_command_line.specs.Fish.{fish_quoted}
 use Rattle.os_command_line.proofs.lemmas.Fish.{inner_text}
 use Rattle.os_command_line.proofs.shell.fish.write_quoted.Given as goal

@@ -1,7 +1,7 @@
 use Rattle.std.proofs.Common.{if◌then◌else◌, ◌++◌, ◌∙◌, ap, sym, subst, refl, true}
 use Rattle.std.specs.Char.{encode_utf8}
 use Rattle.std.specs.Fmt.{HasWrittenStyled}
-use Rattle.os_quote.proofs.lemmas.Writing.{both}
+use Rattle.os_command_line.proofs.lemmas.Writing.{both}
 use Rattle.os_command_line.proofs.shell.powershell.write_character.Goals as goal
 
 pub returns-then-is_single_quote : goal.returns-then-is_single_quote

@@ -1,6 +1,6 @@
 use Rattle.std.proofs.Common.{[], ◌∷◌, refl, true}
 use Rattle.std.specs.Str.{chars}
-use Rattle.os_quote.proofs.lemmas.Writing.{nothing_yet, one_more, last_written}
+use Rattle.os_command_line.proofs.lemmas.Writing.{nothing_yet, one_more, last_written}
 use Rattle.os_command_line.specs.PowerShell.{powershell_character, powershell_string}
 use Rattle.os_command_line.proofs.lemmas.PowerShell.{inner_text, one_more as one_more_character, no_more, shorter}
 use Rattle.os_command_line.proofs.shell.powershell.write_string.Goals as goal

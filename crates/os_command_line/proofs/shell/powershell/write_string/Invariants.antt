@@ -2,7 +2,7 @@ use Rattle.std.proofs.Common.{length}
 use denote.Shadow.{shadow}
 use denote.Text.{Utf8}
 use Rattle.std.specs.Str.{chars}
-use Rattle.os_quote.proofs.lemmas.Writing.{WritesRest}
+use Rattle.os_command_line.proofs.lemmas.Writing.{WritesRest}
 use Rattle.os_command_line.specs.PowerShell.{powershell_string}
 use Rattle.os_command_line.proofs.lemmas.PowerShell.{inner_text}
 use Rattle.os_command_line.proofs.shell.powershell.write_string.Given as goal

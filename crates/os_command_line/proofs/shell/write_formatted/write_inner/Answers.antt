@@ -1,5 +1,5 @@
 use Rattle.std.proofs.Common.{refl, true}
-use Rattle.os_quote.proofs.lemmas.Writing.{one_more, last_written}
+use Rattle.os_command_line.proofs.lemmas.Writing.{one_more, last_written}
 use Rattle.os_command_line.proofs.lemmas.ShellForms.{cut_texts}
 use Rattle.os_command_line.proofs.lemmas.ShellWritten.{single_cut, single_plain, cut_shorter, quote_text}
 use Rattle.os_command_line.proofs.shell.write_formatted.write_inner.Goals as goal

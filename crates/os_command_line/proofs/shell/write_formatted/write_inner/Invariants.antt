@@ -1,6 +1,6 @@
 use Rattle.std.proofs.Common.{length}
 use Rattle.std.specs.List.{flat_map}
-use Rattle.os_quote.proofs.lemmas.Writing.{WritesRest}
+use Rattle.os_command_line.proofs.lemmas.Writing.{WritesRest}
 use Rattle.os_command_line.specs.ShellWriting.{single_byte}
 use Rattle.os_command_line.proofs.shell.write_formatted.write_inner.Given as goal
 use denote.Shadow.{shadow}

@@ -1,7 +1,7 @@
 use Rattle.std.proofs.Common.{ap, refl, true}
 use Rattle.std.specs.List.{flat_map}
 use Rattle.std.proofs.lemmas.List.{nil_from_length}
-use Rattle.os_quote.proofs.lemmas.Writing.{one_more, all_written}
+use Rattle.os_command_line.proofs.lemmas.Writing.{one_more, all_written}
 use Rattle.os_command_line.specs.ShellWriting.{octal_text}
 use Rattle.os_command_line.proofs.shell.write_formatted.write_octals.Goals as goal
 

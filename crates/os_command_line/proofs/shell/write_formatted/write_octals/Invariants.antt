@@ -1,6 +1,6 @@
 use Rattle.std.proofs.Common.{length}
 use Rattle.std.specs.List.{flat_map}
-use Rattle.os_quote.proofs.lemmas.Writing.{WritesRest}
+use Rattle.os_command_line.proofs.lemmas.Writing.{WritesRest}
 use Rattle.os_command_line.specs.ShellWriting.{octal_text}
 use Rattle.os_command_line.proofs.shell.write_formatted.write_octals.Given as goal
 

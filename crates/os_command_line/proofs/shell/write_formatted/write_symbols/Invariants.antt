@@ -2,7 +2,7 @@ use Rattle.std.specs.List.{flat_map}
 use Rattle.platform_str.specs.PlatformWords.{itself}
 use Rattle.platform_str.specs.Strings.{bytes}
 use Rattle.os_str_ext.specs.Symbols.{symbols_of}
-use Rattle.os_quote.proofs.lemmas.Writing.{WritesRest}
+use Rattle.os_command_line.proofs.lemmas.Writing.{WritesRest}
 use Rattle.os_command_line.specs.ShellWriting.{symbol_text}
 use Rattle.os_command_line.proofs.shell.write_formatted.write_symbols.Given as goal
 
