@@ -2,8 +2,7 @@
 ghost use Rattle.std.specs.Prelude.{◌≡◌, ◌≢◌, ◌≤◌, length, IfOk, IfErr, IfSome, MatchOption, MatchResult};
 ghost use Rattle.std.specs.Str.{IsUtf8};
 ghost use Rattle.os_quote.specs.{Shown.shown_by, declared.error.QuoteError.TheVariants.Memory, Reading.HasNoBackslash};
-ghost use Rattle.os_quote.specs.Escape.{IsQuoteFault, IsLineFault, IsQuoteFaultBy};
-ghost use Rattle.os_quote.specs.Unescaped.{IsUnescaped, IsLineUnescaped, IsUnescapedBy, AreReadBy};
+ghost use Rattle.os_quote.specs.{Escape.IsQuoteFault, Escape.IsLineFault, Escape.IsQuoteFaultBy, Unescaped.IsUnescaped, Unescaped.IsLineUnescaped, Unescaped.IsUnescapedBy, Unescaped.AreReadBy};
 
 use crate::error::QuoteError;
 use crate::find_hidden::split_hidden;

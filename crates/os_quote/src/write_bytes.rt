@@ -53,6 +53,9 @@ pub(crate) fn split_line_byte<E: Platform>(form: Form, bytes: &[u8]) -> Option<(
     ensures { IfSome result (λ start. (form ≡ Line) × BeginsWith E.well_formed E.units bytes.now
         (item_text (byte_item start.0)) start.1.now) }
 {
+    let Form::Line = form else {
+        return None;
+    };
     let (first, _) = bytes.split_first()?;
     let is_ascii = *first < 0x80;
     if !(is_ascii | are_apart(bytes)) {
@@ -63,12 +66,12 @@ pub(crate) fn split_line_byte<E: Platform>(form: Form, bytes: &[u8]) -> Option<(
     } else {
         E::first_unit(bytes)
     };
-    let (_, rest) = bytes.split_at(size);
-    match form {
-        // no unit is below 80 (hexadecimal)
-        Form::Line if unit < 0x100 && (unit < 0x80) == is_ascii => Some((unit as u8, rest)),
-        _ => None,
+    // no unit is below 80 (hexadecimal)
+    if unit >= 0x100 || (unit < 0x80) != is_ascii {
+        return None;
     }
+    let (_, rest) = bytes.split_at(size);
+    Some((unit as u8, rest))
 }
 
 /// Writes the text of a byte, and those of bytes after it as long as there is room for one more, and

@@ -9,8 +9,8 @@ pub first_unit-requires-clause-uncovered : goal.first_unit-requires-clause-uncov
 first_unit-requires-clause-uncovered g c =
     ⊎_elim (λ low. absurd (let lt = ltb-true c.in_ok-first.first.now 128 low in omega (arith, lt, c.if-is_ascii.false))) (λ apart. c.are_apart.ensures apart) (or_cases (ltb c.in_ok-first.first.now 128) c.are_apart.result c.if-not-is_ascii-are_apart.false)
 
-pub returns-in-Line : goal.returns-in-Line
-returns-in-Line g c =
+pub returns : goal.returns
+returns g c =
     let P = g.E.Platform in
     let bytes = c.args.bytes.now in
     let starts = λ (u : ℕ) (rest : List ℕ). BeginsWith P.well_formed P.units bytes (item_text (byte_item u)) rest in
@@ -23,7 +23,7 @@ returns-in-Line g c =
             subst (λ u. starts u c.split_at.result.1.now) (sym same) (from_ascii g.met.E.Platform.occurrence c.requires w.if-is_ascii.true (joined ∙ ap (λ xs. c.in_ok-first.first.now ∷ xs) (sym rest)))
         | else-is_ascii w ↦
             let uncovered = ⊎_elim (λ low. absurd (let lt = ltb-true c.in_ok-first.first.now 128 low in omega (arith, lt, w.if-is_ascii.false))) (λ apart. c.are_apart.ensures apart) (or_cases (ltb c.in_ok-first.first.now 128) c.are_apart.result c.if-not-is_ascii-are_apart.false) in
-            let high = subst (λ p. p.0 < 256) w.unit-is c.if-unit-lt256.true in
+            let high = subst (λ p. p.0 < 256) w.unit-is c.if-unit-ge256.false in
             let low : 0x80 ≤ c.if-is_ascii.unit.0 = grind (arith, nat_tests) in
             subst (λ rest. starts c.if-is_ascii.unit.0 rest) (sym c.split_at.ensures.back) (subst (λ p. starts p.0 (drop p.1 bytes)) (sym w.unit-is) (from_unit g.met.E.Platform.occurrence g.met.E.Platform.laws.cut_prefix c.requires uncovered w.first_unit.ensures high (subst (λ p. 0x80 ≤ p.0) w.unit-is low)))
       ],
