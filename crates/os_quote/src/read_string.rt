@@ -1,11 +1,9 @@
 //! From escapes to strings: what their tokens mean, and whether a text is the escape of that string.
 ghost use Rattle.std.specs.Prelude.{◌≡◌, ◌↔◌, length, IsOk, IfOk, IfErr, IsTrue, ◌+◌, ◌<◌, ◌^◌, ◌++◌, [], ℕ, List, MatchResult, MatchOption};
 ghost use Rattle.platform_str.specs.Strings.{string_vec_of, bytes};
-ghost use Rattle.os_quote.specs.{Shown.shown_by, Buffers.Pushes, Stripping.StartsNot, Escape.IsEscape, Escape.IsLineEscape, Escape.IsEscapeBy, Escape.IsQuoteFault, Escape.IsLineFault, Escape.IsQuoteFaultBy, Escape.IsBadEscapeBy};
+ghost use Rattle.os_quote.specs.{Shown.shown_by, Buffers.Pushes, Stripping.StartsNot, Escape.IsEscape, Escape.IsLineEscape, Escape.IsEscapeBy, Escape.IsQuoteFault, Escape.IsLineFault, Escape.IsQuoteFaultBy, Escape.IsBadEscapeBy, Reading.AreBytesRead, Reading.item_bytes, Reading.token_item};
 ghost use Rattle.std.specs.Str.{IsUtf8};
-ghost use Rattle.wtf8_core.specs.CodePoint.{IsCodePoint, encode};
-ghost use Rattle.wtf8_core.specs.Truncated.{IsTruncated};
-ghost use Rattle.os_quote.specs.Reading.{AreBytesRead, item_bytes, token_item};
+ghost use Rattle.wtf8_core.specs.{CodePoint.IsCodePoint, CodePoint.encode, Truncated.IsTruncated};
 
 use crate::error::QuoteError;
 use crate::form::Form;

@@ -1,8 +1,7 @@
 //! Tokens, and the backslashes that begin them.
 ghost use Rattle.std.specs.Prelude.{◌≡◌, ◌≢◌, ◌<◌, ◌∷◌, ◌++◌, ℕ, List, MatchOption, ◌+◌, ◌*◌, ◌≤◌};
 ghost use Rattle.wtf8_core.specs.FaultText.{upper_hex_digit};
-ghost use Rattle.os_quote.specs.{Item.backslash, Item.byte_digits, Item.wide_digits, Item.item_text, Item.IsItem, Item.long_digits, Item.IsLong, Shown.shown_by, Shown.is_any, Escape.BeginsNoToken, Hidden.AreUnchanged, Hidden.IsCutAtToken};
-ghost use Rattle.os_quote.specs.Reading.{HasNoBackslash, IsCutAtFirst, HasNoNumber, token_item, HasNoLong, HasNoFive, HasNoSix, HasNoFour, IsFour, IsFive, IsSix};
+ghost use Rattle.os_quote.specs.{Item.backslash, Item.byte_digits, Item.wide_digits, Item.item_text, Item.IsItem, Item.long_digits, Item.IsLong, Shown.shown_by, Shown.is_any, Escape.BeginsNoToken, Hidden.AreUnchanged, Hidden.IsCutAtToken, Reading.HasNoBackslash, Reading.IsCutAtFirst, Reading.HasNoNumber, Reading.token_item, Reading.HasNoLong, Reading.HasNoFive, Reading.HasNoSix, Reading.HasNoFour, Reading.IsFour, Reading.IsFive, Reading.IsSix};
 
 use crate::form::Form;
 use memchr::memchr;

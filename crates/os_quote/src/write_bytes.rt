@@ -1,7 +1,7 @@
-//! The texts of bytes that are written one by one on a line: characters of ASCII, and units of one byte.
+//! The texts of bytes that are written one by one: characters of ASCII, and units of one byte.
 ghost use Rattle.std.specs.Prelude.{◌≡◌, ◌++◌, ◌+◌, ◌/◌, ◌≤◌, IfSome, length, take};
 ghost use Rattle.std.specs.{Int.w64, Int.to_le_bytes, Str.IsUtf8};
-ghost use Rattle.os_quote.specs.{Item.item_text, Shown.stays_on_line, Escaped.escape_of, Start.BeginsWith, Start.byte_item, declared.form.Form.TheVariants.Line};
+ghost use Rattle.os_quote.specs.{Item.item_text, Shown.shown_by, Escaped.escape_of, Start.BeginsWith, Start.byte_item, declared.form.Form.Form};
 
 use crate::find_start::are_apart;
 use crate::form::Form;
@@ -9,6 +9,9 @@ use os_str_bytes::Platform;
 
 /// The bytes that texts are collected in, before they are written together.
 pub(crate) const TEXTS: usize = 104;
+
+/// How many bytes in a row are shown as they are before it is asked how far more are.
+const SHOWN: usize = 4;
 
 /// The words of 16 bytes, of which the first has this one: how much a digit is in a word, how many
 /// characters are between `9` and `A` in what the last digit is, and what is added to two of the words.
@@ -25,7 +28,7 @@ macro_rules! words {
     };
 }
 
-/// The words of all bytes, by their halves.
+/// The words of all bytes on a line, by their halves.
 static WORDS: [[u64; 16]; 16] = [
     words!(0x0600_3030_3030_755C, 0x100_0000_0000, 7, 0, 0),
     words!(0x0600_3031_3030_755C, 0x100_0000_0000, 7, 0, 0),
@@ -45,17 +48,28 @@ static WORDS: [[u64; 16]; 16] = [
     words!(0x0400_0000_3046_785C, 0x100_0000, 7, 0, 0),
 ];
 
-/// The byte at the start and the bytes after it, if on a line the byte is written by itself: if the
-/// next byte tells that it is a character of ASCII or begins none.
+/// The byte at the start and the bytes after it, if its text is to be taken from a table: where all is
+/// shown, a text is searched for backslashes as a whole.
 #[inline(always)]
-pub(crate) fn split_line_byte<E: Platform>(form: Form, bytes: &[u8]) -> Option<(u8, &[u8])>
+pub(crate) fn split_first_byte<E: Platform>(form: Form, bytes: &[u8]) -> Option<(u8, &[u8])>
     requires { E.well_formed bytes.now }
-    ensures { IfSome result (λ start. (form ≡ Line) × BeginsWith E.well_formed E.units bytes.now
-        (item_text (byte_item start.0)) start.1.now) }
+    ensures { IfSome result (λ start. BeginsWith (shown_by form) E.well_formed E.units bytes.now
+        (item_text (byte_item (shown_by form) start.0)) start.1.now) }
 {
-    let Form::Line = form else {
-        return None;
-    };
+    match form {
+        Form::Text if *bytes.first()? < 0x80 => None,
+        _ => split_byte::<E>(bytes),
+    }
+}
+
+/// The byte at the start and the bytes after it, if the byte is written by itself: if the next byte
+/// tells that it is a character of ASCII or begins none.
+#[inline(always)]
+fn split_byte<E: Platform>(bytes: &[u8]) -> Option<(u8, &[u8])>
+    requires { E.well_formed bytes.now }
+    ensures { IfSome result (λ start. (f : Form) → BeginsWith (shown_by f) E.well_formed E.units
+        bytes.now (item_text (byte_item (shown_by f) start.0)) start.1.now) }
+{
     let (first, _) = bytes.split_first()?;
     let is_ascii = *first < 0x80;
     if !(is_ascii | are_apart(bytes)) {
@@ -74,10 +88,11 @@ pub(crate) fn split_line_byte<E: Platform>(form: Form, bytes: &[u8]) -> Option<(
     Some((unit as u8, rest))
 }
 
-/// Writes the text of a byte, and those of bytes after it as long as there is room for one more, and
-/// returns how long they are and what is left.
+/// Writes the text of a byte, and those of bytes after it as long as there is room for one more and not
+/// too many in a row are shown as they are. Returns how long the texts are and what is left.
 #[inline(always)]
 pub(crate) fn put_texts<'a, E: Platform>(
+    form: Form,
     texts: &mut [u8; TEXTS],
     first: u8,
     following: &'a [u8],
@@ -87,16 +102,20 @@ pub(crate) fn put_texts<'a, E: Platform>(
     ensures utf8 { IsUtf8 (take result.0 texts.new) }
     ensures formed { E.well_formed result.1.now }
     ensures shorter { length result.1.now ≤ length following.now }
-    ensures escape { item_text (byte_item first) ++ escape_of stays_on_line E.units following.now
-        ≡ take result.0 texts.new ++ escape_of stays_on_line E.units result.1.now }
+    ensures escape { item_text (byte_item (shown_by form) first)
+        ++ escape_of (shown_by form) E.units following.now
+        ≡ take result.0 texts.new ++ escape_of (shown_by form) E.units result.1.now }
 {
-    let mut len = put_text(texts, 0, first);
+    let mut len = put_text(form, texts, 0, first);
     let mut rest = following;
-    while len <= TEXTS - 8 {
-        let Some((byte, after)) = split_line_byte::<E>(Form::Line, rest) else {
+    let mut shown = 0;
+    while len <= TEXTS - 8 && shown < SHOWN {
+        let Some((byte, after)) = split_byte::<E>(rest) else {
             break;
         };
-        len = put_text(texts, len, byte);
+        let end = put_text(form, texts, len, byte);
+        shown = (shown + 1) * usize::from(end == len + 1);
+        len = end;
         rest = after;
     }
     (len, rest)
@@ -105,24 +124,30 @@ pub(crate) fn put_texts<'a, E: Platform>(
 /// Writes the text of a byte from an index on, and returns the index after it. It also overwrites up to
 /// seven bytes after it.
 #[inline(always)]
-fn put_text(texts: &mut [u8; TEXTS], at: usize, byte: u8) -> usize
+fn put_text(form: Form, texts: &mut [u8; TEXTS], at: usize, byte: u8) -> usize
     requires { at + 8 ≤ 104 }
     ensures within { result ≤ at + 8 }
-    ensures written { take result texts.new ≡ take at texts.old ++ item_text (byte_item byte) }
-    ensures utf8 { IsUtf8 (item_text (byte_item byte)) }
+    ensures written { take result texts.new
+        ≡ take at texts.old ++ item_text (byte_item (shown_by form) byte) }
+    ensures utf8 { IsUtf8 (item_text (byte_item (shown_by form) byte)) }
 {
-    let word = word_of(byte);
+    let word = word_of(form, byte);
     texts[at..at + 8].copy_from_slice(&word.to_le_bytes());
     at + (word / 0x0100_0000_0000_0000) as usize
 }
 
-/// The word of a byte.
+/// The word of a byte. Where all is shown, a character other than the backslash is its own text.
 #[inline(always)]
-fn word_of(byte: u8) -> u64
+fn word_of(form: Form, byte: u8) -> u64
     ensures few { result / 0x0100_0000_0000_0000 ≤ 8 }
     ensures text { take (result / 0x0100_0000_0000_0000) (to_le_bytes w64 result)
-        ≡ item_text (byte_item byte) }
-    ensures utf8 { IsUtf8 (item_text (byte_item byte)) }
+        ≡ item_text (byte_item (shown_by form) byte) }
+    ensures utf8 { IsUtf8 (item_text (byte_item (shown_by form) byte)) }
 {
-    WORDS[usize::from(byte / 16)][usize::from(byte % 16)]
+    let on_line = WORDS[usize::from(byte / 16)][usize::from(byte % 16)];
+    let is_shown = (byte < 0x80) & (byte != b'\\');
+    match form {
+        Form::Text if is_shown => 0x0100_0000_0000_0000 + u64::from(byte),
+        _ => on_line,
+    }
 }

@@ -8,7 +8,7 @@ use crate::find_plain::split_plain;
 use crate::find_start::split_text;
 use crate::form::Form;
 use crate::read_token::split_backslash;
-use crate::write_bytes::{TEXTS, put_texts, split_line_byte};
+use crate::write_bytes::{TEXTS, put_texts, split_first_byte};
 use crate::write_token::TokenText;
 use os_str_bytes::{OsStr, Platform};
 use std::fmt;
@@ -60,9 +60,9 @@ pub(crate) fn write_escape_to<E: Platform, S: Sink>(
         if let Some((plain, following)) = split_plain(rest) {
             sink.take(plain)?;
             rest = following;
-        } else if let Some((byte, following)) = split_line_byte::<E>(form, rest) {
+        } else if let Some((byte, following)) = split_first_byte::<E>(form, rest) {
             let mut texts = [0; TEXTS];
-            let (len, after) = put_texts::<E>(&mut texts, byte, following);
+            let (len, after) = put_texts::<E>(form, &mut texts, byte, following);
             sink.take(unsafe { str::from_utf8_unchecked(&texts[..len]) })?;
             rest = after;
         } else if let Some((text, following)) = split_text::<E>(rest) {

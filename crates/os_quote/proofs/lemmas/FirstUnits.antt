@@ -1,5 +1,5 @@
 -- Escapes of strings that begin with a unit.
-use Rattle.os_quote.proofs.Common.{◌≡◌, ⊎_elim, ℕ, ◌+◌, ◌<◌, ◌≤◌, Bool, true, false, not, ◌||◌, true≢false, List, [], ◌∷◌, ◌++◌, map, length, take, drop, get_or, refl, sym, ap, ◌∙◌, subst, arith, take-append-drop, cases_lt, map-append, chars, Chunk, chunks_of, encode, form_bounds, form_two, form_three, form_past, IsUtf8, Item, item_text, item_texts, unit_item, character_item, items_of, escape_of}
+use Rattle.os_quote.proofs.Common.{◌≡◌, ⊎_elim, ℕ, ◌<◌, ◌≤◌, Bool, true, false, not, ◌||◌, true≢false, List, [], ◌∷◌, ◌++◌, map, length, take, drop, get_or, refl, sym, ap, ◌∙◌, subst, arith, take-append-drop, cases_lt, map-append, chars, Chunk, chunks_of, encode, form_bounds, form_two, form_three, form_past, IsUtf8, Item, item_text, item_texts, unit_item, character_item, items_of, escape_of}
 use Rattle.std.proofs.lemmas.List.{get_or_append_left}
 use Rattle.std.specs.Str.{IsValidUpTo}
 use Rattle.os_quote.specs.Start.{IsCutAfterText}

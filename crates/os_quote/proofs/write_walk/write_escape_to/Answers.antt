@@ -13,14 +13,14 @@ returns-in_err-take g c = rw (err_from_is_err_and c.from_residual.result c.from_
 pub loop-rest-preserved-in-Some : goal.loop-rest-preserved-in-Some
 loop-rest-preserved-in-Some g c = (rest_formed g.met.E.Platform.occurrence _ c.loop-rest.invariant.0 (plain_is_text _ c.in-Some.ensures.after.plain) c.in-Some.ensures.after.joined, one_taken g.S.Sink.rules c.loop-rest.invariant.1 c.in_ok-take.ensures (plain_first g.met.E.Platform.occurrence c.args.form c.in-Some.ensures.after))
 
-pub take-requires-in-Some-split_line_byte : goal.take-requires-in-Some-split_line_byte
-take-requires-in-Some-split_line_byte g c = room_left g.S.Sink.rules c.loop-rest.invariant.1 _ _ c.requires (texts_first g.met.E.Platform.occurrence _ _ _ c.in-Some-split_line_byte.ensures.0 c.in-Some-split_line_byte.ensures.1 c.put_texts-len.ensures.escape c.from_utf8_unchecked.ensures)
+pub take-requires-in-Some-split_first_byte : goal.take-requires-in-Some-split_first_byte
+take-requires-in-Some-split_first_byte g c = room_left g.S.Sink.rules c.loop-rest.invariant.1 _ _ c.requires (texts_first g.met.E.Platform.occurrence (shown_by c.args.form) _ _ _ c.in-Some-split_first_byte.ensures c.put_texts-len.ensures.escape c.from_utf8_unchecked.ensures)
 
 pub returns-in_err-take-2 : goal.returns-in_err-take-2
-returns-in_err-take-2 g c = rw (err_from_is_err_and c.from_residual-in_err-take-2.result c.from_residual-in_err-take-2.ensures.1).1 (none_taken g.S.Sink.rules c.loop-rest.invariant.1 _ _ c.in_err-take-2.ensures (texts_first g.met.E.Platform.occurrence _ _ _ c.in-Some-split_line_byte.ensures.0 c.in-Some-split_line_byte.ensures.1 c.put_texts-len.ensures.escape c.from_utf8_unchecked.ensures))
+returns-in_err-take-2 g c = rw (err_from_is_err_and c.from_residual-in_err-take-2.result c.from_residual-in_err-take-2.ensures.1).1 (none_taken g.S.Sink.rules c.loop-rest.invariant.1 _ _ c.in_err-take-2.ensures (texts_first g.met.E.Platform.occurrence (shown_by c.args.form) _ _ _ c.in-Some-split_first_byte.ensures c.put_texts-len.ensures.escape c.from_utf8_unchecked.ensures))
 
-pub loop-rest-preserved-in-Some-split_line_byte : goal.loop-rest-preserved-in-Some-split_line_byte
-loop-rest-preserved-in-Some-split_line_byte g c = (c.put_texts-len.ensures.formed, one_taken g.S.Sink.rules c.loop-rest.invariant.1 c.in_ok-take-2.ensures (texts_first g.met.E.Platform.occurrence _ _ _ c.in-Some-split_line_byte.ensures.0 c.in-Some-split_line_byte.ensures.1 c.put_texts-len.ensures.escape c.from_utf8_unchecked.ensures))
+pub loop-rest-preserved-in-Some-split_first_byte : goal.loop-rest-preserved-in-Some-split_first_byte
+loop-rest-preserved-in-Some-split_first_byte g c = (c.put_texts-len.ensures.formed, one_taken g.S.Sink.rules c.loop-rest.invariant.1 c.in_ok-take-2.ensures (texts_first g.met.E.Platform.occurrence (shown_by c.args.form) _ _ _ c.in-Some-split_first_byte.ensures c.put_texts-len.ensures.escape c.from_utf8_unchecked.ensures))
 
 pub write_text-requires : goal.write_text-requires
 write_text-requires g c = room_left g.S.Sink.rules c.loop-rest.invariant.1 _ _ c.requires (text_first g.met.E.Platform.occurrence (shown_by c.args.form) _ c.in-Some-split_text.ensures.is_text c.in-Some-split_text.ensures.joined)
