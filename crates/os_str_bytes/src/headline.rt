@@ -1,16 +1,10 @@
 //! The headline: the purpose of this library, as the contract of one call.
 ghost use Rattle.std.specs.Prelude.{◌≡◌, ◌↔◌, ◌++◌, ℕ, List, IsTrue, IsOk, IfOk, length, map};
 ghost use Rattle.std.specs.{List.repeat, Cmp.Lexicographic.slice_cmp, Ordering.nat_cmp, Str.IsUtf8};
-ghost use Rattle.wtf8_core.specs.Wtf8.{Encodes, HasUnits};
-ghost use Rattle.wtf8_core.specs.Occurrence.{IsFirstIndex, IsLastIndex, IsPrefix, IsSuffix};
-ghost use Rattle.wtf8_core.specs.{UnitIndex.FindsInUnits, Boundary.IsBoundary};
-ghost use Rattle.wtf8_core.specs.Chunks.{Chunk, AreChunks};
-ghost use Rattle.wtf8_core.specs.Runs.{AreRuns, form_chunk};
+ghost use Rattle.wtf8_core.specs.{Wtf8.Encodes, Wtf8.HasUnits, Occurrence.IsFirstIndex, Occurrence.IsLastIndex, Occurrence.IsPrefix, Occurrence.IsSuffix, UnitIndex.FindsInUnits, Boundary.IsBoundary, Chunks.Chunk, Chunks.AreChunks, Runs.AreRuns, Runs.form_chunk};
 ghost use Rattle.os_str_ext.specs.Pieces.{OccursSomewhere, MayBeCutAround, StripsPrefix, StripsSuffix, IsStartTrim, IsEndTrim, IsTrim, IsSplit, IsRSplit, SplitsOnce, Trims};
 ghost use Rattle.platform_str.specs.Strings.{string_vec_of};
-ghost use Rattle.os_str_bytes.specs.Raw.{raw_bytes, raw_units, raw_vec_of};
-ghost use Rattle.os_str_bytes.specs.RawCow.{raw_cow_bytes};
-ghost use Rattle.os_str_bytes.specs.Headline.{AreOneToOne, AcceptsOrRefuses, CutsAt, SplitsUnlessEmpty};
+ghost use Rattle.os_str_bytes.specs.{Raw.raw_bytes, Raw.raw_units, Raw.raw_vec_of, RawCow.raw_cow_bytes, Headline.AreOneToOne, Headline.AcceptsOrRefuses, Headline.CutsAt, Headline.SplitsUnlessEmpty};
 
 pub use crate::cuts::Cuts;
 use crate::cuts::{split_copy, truncated_copy};

@@ -2,18 +2,11 @@
 //! nothing. The laws of bytes, code points and units are in [`crate::wtf8_laws`]; [`order`], which
 //! says what the order of Windows strings is, is here too.
 ghost use Rattle.std.specs.Prelude.{◌≡◌, ◌↔◌, ℕ, List, IsTrue, Some};
-ghost use Rattle.std.specs.{Cmp.Lexicographic.slice_cmp, Ordering.nat_cmp};
+ghost use Rattle.std.specs.{Cmp.Lexicographic.slice_cmp, Ordering.nat_cmp, List.All, Str.IsUtf8};
 ghost use Rattle.std.specs.Hash as fed;
-ghost use Rattle.std.specs.{List.All, Str.IsUtf8};
-ghost use Rattle.wtf8_core.specs.{Byte.IsByte, Checker.HasFirstFault, PartUnits.AreLoneSurrogates};
-ghost use Rattle.wtf8_core.specs.Wtf8.{IsWtf8, HasUnits};
-ghost use Rattle.wtf8_core.specs.Lossy.{IsLossyText, IsWtf8LossyText};
-ghost use Rattle.wtf8_core.specs.{Utf8.IsIllFormedPart, LossyReading.IsLossyReading};
-ghost use Rattle.platform_str.specs.PlatformWords.{AreWideUnits, IsThree};
-ghost use Rattle.platform_str.specs.platforms.Unix.{AreAboveAscii, IsNoFault, IsSame};
-ghost use Rattle.platform_str.specs.platforms.Wasm.{AreNone, IsTextFault};
-ghost use Rattle.os_str_bytes.specs.Raw.{raw_bytes, raw_vec_of};
-ghost use Rattle.os_str_bytes.specs.Headline.{IsPlatform, AreItself};
+ghost use Rattle.wtf8_core.specs.{Byte.IsByte, Checker.HasFirstFault, PartUnits.AreLoneSurrogates, Wtf8.IsWtf8, Wtf8.HasUnits, Lossy.IsLossyText, Lossy.IsWtf8LossyText, Utf8.IsIllFormedPart, LossyReading.IsLossyReading};
+ghost use Rattle.platform_str.specs.{PlatformWords.AreWideUnits, PlatformWords.IsThree, platforms.Unix.AreAboveAscii, platforms.Unix.IsNoFault, platforms.Unix.IsSame, platforms.Wasm.AreNone, platforms.Wasm.IsTextFault};
+ghost use Rattle.os_str_bytes.specs.{Raw.raw_bytes, Raw.raw_vec_of, Headline.IsPlatform, Headline.AreItself};
 
 use crate::wtf8_laws::{functions, lossy_text};
 use crate::{Platform, RawOsStr, RawOsString, Unix, Wasm, Windows};

@@ -2,13 +2,8 @@
 //! contracts.
 ghost use Rattle.std.specs.Prelude.{◌≡◌, ◌<◌, ◌↔◌, ◌++◌, ◌+◌, ◌*◌, ◌^◌, IsTrue, IsOk, IsErr, IfOk, IfSome, length, take, drop};
 ghost use Rattle.std.specs.{Char.encode_utf8, List.repeat};
-ghost use Rattle.wtf8_core.specs.Occurrence.{Finds, IsFirstIndex, IsLastIndex, IsPrefix, IsSuffix};
-ghost use Rattle.wtf8_core.specs.{UnitIndex.FindsInUnits, Boundary.IsBoundary, Chunks.AreChunks};
-ghost use Rattle.os_str_ext.specs.Pieces.{OccursSomewhere, MayBeCutAround, StripsPrefix, StripsSuffix, IsStartTrim, IsEndTrim, IsTrim, IsSplit, IsRSplit, SplitsOnce, Splits, Trims};
-ghost use Rattle.os_str_ext.specs.Characters.{SplitsFirstChar, SplitsLastChar};
-ghost use Rattle.os_str_ext.specs.Chunks.{chunks_of};
-ghost use Rattle.os_str_ext.specs.Range.{FitsIn, IsPartInUnits};
-ghost use Rattle.os_str_ext.specs.Symbols.{AreSymbols, symbols_of};
+ghost use Rattle.wtf8_core.specs.{Occurrence.Finds, Occurrence.IsFirstIndex, Occurrence.IsLastIndex, Occurrence.IsPrefix, Occurrence.IsSuffix, UnitIndex.FindsInUnits, Boundary.IsBoundary, Chunks.AreChunks};
+ghost use Rattle.os_str_ext.specs.{Pieces.OccursSomewhere, Pieces.MayBeCutAround, Pieces.StripsPrefix, Pieces.StripsSuffix, Pieces.IsStartTrim, Pieces.IsEndTrim, Pieces.IsTrim, Pieces.IsSplit, Pieces.IsRSplit, Pieces.SplitsOnce, Pieces.Splits, Pieces.Trims, Characters.SplitsFirstChar, Characters.SplitsLastChar, Chunks.chunks_of, Range.FitsIn, Range.IsPartInUnits, Symbols.AreSymbols, Symbols.symbols_of};
 ghost use Rattle.os_str_bytes.specs.Raw.{raw_bytes, raw_units, raw_vec_of};
 
 use crate::iter::{RawPieces, RawRSplit, RawSplit};
