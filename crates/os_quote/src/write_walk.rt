@@ -44,13 +44,26 @@ impl<W: fmt::Write> Sink for fmt::Formatter<W> {
 }
 
 /// Gives a sink the escape of a string in a form, piece by piece: each piece right after it was looked
-/// at, and before the next one is.
+/// at, and before the next one is. Each form has a loop of its own, which asks nothing about forms.
 #[inline(always)]
 pub(crate) fn write_escape_to<E: Platform, S: Sink>(
     form: Form,
     string: OsStr<'_, E>,
     sink: &mut S,
 ) -> fmt::Result
+    requires { S.rules.has_room sink.old (escape_of (shown_by form) E.units (bytes string)) }
+    ensures { Takes S.rules sink.old (escape_of (shown_by form) E.units (bytes string.entry))
+        result sink.new }
+{
+    match form {
+        Form::Text => walk(Form::Text, string, sink),
+        Form::Line => walk(Form::Line, string, sink),
+    }
+}
+
+/// The same.
+#[inline(always)]
+fn walk<E: Platform, S: Sink>(form: Form, string: OsStr<'_, E>, sink: &mut S) -> fmt::Result
     requires { S.rules.has_room sink.old (escape_of (shown_by form) E.units (bytes string)) }
     ensures { Takes S.rules sink.old (escape_of (shown_by form) E.units (bytes string.entry))
         result sink.new }
@@ -78,21 +91,9 @@ pub(crate) fn write_escape_to<E: Platform, S: Sink>(
     Ok(())
 }
 
-/// Gives it a text in a form. Each form has a loop of its own.
+/// Gives it a text in a form, piece by piece: what is shown as it is, and the token after it.
 #[inline(always)]
 fn write_text<S: Sink>(form: Form, text: &str, sink: &mut S) -> fmt::Result
-    requires { S.rules.has_room sink.old (text_escape (shown_by form) text.now) }
-    ensures { Takes S.rules sink.old (text_escape (shown_by form) text.now) result sink.new }
-{
-    match form {
-        Form::Text => write_pieces(Form::Text, text, sink),
-        Form::Line => write_pieces(Form::Line, text, sink),
-    }
-}
-
-/// Gives it the same piece by piece: what is shown as it is, and the token after it.
-#[inline(always)]
-fn write_pieces<S: Sink>(form: Form, text: &str, sink: &mut S) -> fmt::Result
     requires { S.rules.has_room sink.old (text_escape (shown_by form) text.now) }
     ensures { Takes S.rules sink.old (text_escape (shown_by form) text.now) result sink.new }
 {

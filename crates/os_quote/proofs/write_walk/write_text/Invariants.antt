@@ -1,6 +1,6 @@
 use Rattle.os_quote.proofs.Common.{length, shadow, Utf8, text_escape, shown_by}
 use Rattle.os_quote.proofs.lemmas.Taking.{TakesRest}
-use Rattle.os_quote.proofs.write_walk.write_pieces.Given as goal
+use Rattle.os_quote.proofs.write_walk.write_text.Given as goal
 
 abbrev pub invariant-loop-prefix : goal.invariant-loop-prefix
 invariant-loop-prefix g l =

@@ -1,6 +1,6 @@
 use Rattle.os_quote.proofs.Common.{length, bytes, shown_by, escape_of}
 use Rattle.os_quote.proofs.lemmas.Taking.{TakesRest}
-use Rattle.os_quote.proofs.write_walk.write_escape_to.Given as goal
+use Rattle.os_quote.proofs.write_walk.walk.Given as goal
 
 abbrev pub invariant-loop-rest : goal.invariant-loop-rest
 invariant-loop-rest g l =
