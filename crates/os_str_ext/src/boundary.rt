@@ -2,8 +2,7 @@
 ghost use Rattle.std.specs.Prelude.{◌≡◌, ◌<◌, ◌≤◌, ◌+◌, ◌-◌, ◌↔◌, ◌++◌, IsTrue, length, take, drop};
 ghost use Rattle.wtf8_core.specs.{Character.WholeCharacter, Boundary.IsBoundary};
 ghost use Rattle.platform_str.specs.Strings.{bytes};
-ghost use Rattle.os_str_ext.specs.Characters.{IsCharacterBefore};
-ghost use Rattle.os_str_ext.specs.Range.{FitsIn, IsPartInUnits};
+ghost use Rattle.os_str_ext.specs.{Characters.IsCharacterBefore, Range.FitsIn, Range.IsPartInUnits};
 
 use platform_str::{OsStr, Platform};
 use wtf8_core::{char_at, laws};

@@ -17,7 +17,12 @@ pub(crate) fn split_first_char<'a, E: Platform>(
     ensures units { IfSome result (λ parts. E.units (bytes string.entry)
         ≡ E.units (encode_utf8 parts.0) ++ E.units (bytes parts.1)) }
 {
-    let Some((character, size)) = first_char(string.as_encoded_bytes()) else {
+    let bytes = string.as_encoded_bytes();
+    if !bytes.is_empty() && bytes[0] < 0x80 {
+        let (_, rest) = split_at(string, 1);
+        return Some((char::from(bytes[0]), rest));
+    }
+    let Some((character, size)) = first_char(bytes) else {
         return None;
     };
     let (_, rest) = split_at(string, size);

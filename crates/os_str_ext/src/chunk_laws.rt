@@ -2,8 +2,7 @@
 //!
 //! Each law is the contract of a function that does nothing.
 ghost use Rattle.std.specs.Prelude.{◌≡◌, ◌↔◌, [], ◌++◌, ℕ, List};
-ghost use Rattle.std.specs.List.{All, flat_map};
-ghost use Rattle.std.specs.Str.{IsUtf8};
+ghost use Rattle.std.specs.{List.All, List.flat_map, Str.IsUtf8};
 ghost use Rattle.wtf8_core.specs.Chunks.{Chunk, AreChunks};
 ghost use Rattle.os_str_ext.specs.Chunks.{IsChunkOf};
 

@@ -1,8 +1,7 @@
 //! The chunks of a string: its parts that contain no whole character, each with the text after it.
 ghost use Rattle.std.specs.Prelude.{◌≡◌, ◌+◌, ◌∷◌, ◌<◌, ◌≤◌, ◌↔◌, length, drop, IsTrue};
 ghost use Rattle.std.specs.Iterator.{YieldsFirstBy, item_count};
-ghost use Rattle.wtf8_core.specs.Chunks.{AreChunks};
-ghost use Rattle.wtf8_core.specs.Utf8.{IsUtf8Fault, part_end};
+ghost use Rattle.wtf8_core.specs.{Chunks.AreChunks, Utf8.IsUtf8Fault, Utf8.part_end};
 ghost use Rattle.platform_str.specs.Strings.{bytes};
 ghost use Rattle.os_str_ext.specs.Chunks.{chunks_of, BeginsNoCharacter, IsUncoveredUpTo, IsFirstChunk};
 ghost use Rattle.os_str_ext.specs.Parts.{part_bytes};

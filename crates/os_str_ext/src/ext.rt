@@ -5,10 +5,8 @@ ghost use Rattle.wtf8_core.specs.{UnitIndex.FindsInUnits, Boundary.IsBoundary, C
 ghost use Rattle.os_str_ext.specs.Pieces.{OccursSomewhere, MayBeCutAround, StripsPrefix, StripsSuffix, IsStartTrim, IsEndTrim, IsTrim, IsSplit, IsRSplit, SplitsOnce, Splits, Trims};
 ghost use Rattle.std.specs.{Char.encode_utf8, List.repeat};
 ghost use Rattle.platform_str.specs.Strings.{string_vec_of};
-ghost use Rattle.os_str_ext.specs.Characters.{SplitsFirstChar, SplitsLastChar};
-ghost use Rattle.os_str_ext.specs.Chunks.{chunks_of};
-ghost use Rattle.os_str_ext.specs.Range.{FitsIn, IsPartInUnits};
-ghost use Rattle.os_str_ext.specs.Symbols.{AreSymbols, symbols_of};
+ghost use Rattle.os_str_ext.specs.{Characters.SplitsFirstChar, Characters.SplitsLastChar, Chunks.chunks_of};
+ghost use Rattle.os_str_ext.specs.{Range.FitsIn, Range.IsPartInUnits, Symbols.AreSymbols, Symbols.symbols_of};
 
 use crate::chunks::Utf8Chunks;
 use crate::iter::{RSplit, Split};

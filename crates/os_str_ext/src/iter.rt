@@ -1,7 +1,6 @@
 //! The pieces of a string.
 ghost use Rattle.std.specs.Prelude.{◌≡◌, ◌<◌, ℕ, List, MatchOption, length};
-ghost use Rattle.std.specs.Iterator.{YieldsFirstBy, item_count};
-ghost use Rattle.std.specs.{Option.option_map, Str.IsUtf8};
+ghost use Rattle.std.specs.{Iterator.YieldsFirstBy, Iterator.item_count, Option.option_map, Str.IsUtf8};
 ghost use Rattle.wtf8_core.specs.Occurrence.{OccursNowhere};
 ghost use Rattle.os_str_ext.specs.Pieces.{IsSplit, IsRSplit, Splits};
 ghost use Rattle.platform_str.specs.Strings.{bytes};

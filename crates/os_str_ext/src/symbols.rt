@@ -35,8 +35,7 @@ pub struct Symbols<'a, E: Platform + 'a> {
 impl<'a, E: Platform> Model for Symbols<'a, E> {
     ghost use Rattle.std.specs.Prelude.{List};
     ghost use Rattle.platform_str.specs.Strings.{bytes};
-    ghost use Rattle.os_str_ext.specs.Symbols.{symbols_of};
-    ghost use Rattle.os_str_ext.specs.declared.symbols.Symbol.{Symbol};
+    ghost use Rattle.os_str_ext.specs.{Symbols.symbols_of, declared.symbols.Symbol.Symbol};
 
     ghost Value = { List Symbol };
 

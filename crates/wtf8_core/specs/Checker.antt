@@ -1,10 +1,8 @@
 -- What the few fields of a checker say of the bytes that were fed so far (this project's own).
 use Rattle.std.specs.Prelude.{◌≡◌, ◌≢◌, ◌⊎◌, ℕ, zero, suc, ◌+◌, ◌*◌, ◌%◌, ◌≤◌, Bool, true, false, if◌then◌else◌, List, [], ◌∷◌, ◌++◌, map, Option, Some, None, Result, Ok}
 use Rattle.std.specs.List.{All}
-use Rattle.wtf8_core.specs.Byte.{IsByte, is_continuation}
-use Rattle.wtf8_core.specs.{Fault.IsFirstFault, Table.state_at, declared.checker.SavedChecker.SavedChecker}
-use Rattle.wtf8_core.specs.Reader.{split_within, items_from, items_after}
-use Rattle.wtf8_core.specs.declared.{fault.EncodingError.EncodingError, table.State.State}
+use Rattle.wtf8_core.specs.{Byte.IsByte, Byte.is_continuation, Fault.IsFirstFault, Table.state_at, declared.checker.SavedChecker.SavedChecker}
+use Rattle.wtf8_core.specs.{Reader.split_within, Reader.items_from, Reader.items_after, declared.fault.EncodingError.EncodingError, declared.table.State.State}
 use Rattle.wtf8_core.specs.declared.fault.EncodingError.TheVariants.{Byte, CodePoint, End}
 use Rattle.wtf8_core.specs.declared.table.State.TheVariants.{Between, AfterHigh, OneMore, TwoMore, AfterE0, AfterEd, HighThenEd, LastOfHigh, AfterF0, AfterF1, AfterF4, AfterF5, BadLastTwo, BadFourth, Refused, BadThird}
 

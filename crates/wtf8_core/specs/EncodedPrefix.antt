@@ -1,9 +1,7 @@
 -- A prefix of bytes that encodes code points: what vectors find. No contract of another crate names it.
 use Rattle.std.specs.Prelude.{Bool, ◌≡◌, ℕ, ◌-◌, ◌≤◌, List, ◌∷◌, ◌++◌, length, take, drop}
 use Rattle.std.specs.{List.AllByRecursion, Char.IsScalar}
-use Rattle.wtf8_core.specs.{Surrogate.is_high, Neighbours.EachMayFollow, declared.vectors.Encoding.Encoding}
-use Rattle.wtf8_core.specs.Wtf8.{Encodes, last_or}
-use Rattle.wtf8_core.specs.declared.vectors.Encoding.TheVariants.{Utf8}
+use Rattle.wtf8_core.specs.{Surrogate.is_high, Neighbours.EachMayFollow, declared.vectors.Encoding.Encoding, Wtf8.Encodes, Wtf8.last_or, declared.vectors.Encoding.TheVariants.Utf8}
 
 -- the bytes before the rest encode code points, of which the last is a high surrogate or not, as `after_high` says
 pub record IsReadUpTo (bytes : List ℕ) (after_high : Bool) (rest : List ℕ) : Type 0 where

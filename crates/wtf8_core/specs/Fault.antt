@@ -1,12 +1,8 @@
 -- The first fault of bytes that aren't WTF-8. RFC 3629, section 3, and WTF-8 don't say which it is; the order here is this project's own, as os_str_bytes 7.2.1 reads.
 use Rattle.std.specs.Prelude.{◌≡◌, ◌≢◌, ℕ, ◌+◌, ◌*◌, ◌%◌, ◌<◌, ◌⊎◌, List, ◌∷◌, ◌++◌, length, []}
-use Rattle.std.specs.List.{fold, AllByRecursion}
-use Rattle.std.specs.Int.{IsInRange}
-use Rattle.wtf8_core.specs.Byte.{IsContinuation, IsLead, needed_continuations, lead_bits}
-use Rattle.wtf8_core.specs.Surrogate.{IsHigh, IsLow}
-use Rattle.wtf8_core.specs.CodePoint.{IsCodePoint, encode}
-use Rattle.wtf8_core.specs.Wtf8.{Encodes, last_or}
-use Rattle.wtf8_core.specs.declared.fault.EncodingError.{EncodingError}
+use Rattle.std.specs.{List.fold, List.AllByRecursion, Int.IsInRange}
+use Rattle.wtf8_core.specs.{Byte.IsContinuation, Byte.IsLead, Byte.needed_continuations, Byte.lead_bits, Surrogate.IsHigh, Surrogate.IsLow, CodePoint.IsCodePoint, CodePoint.encode}
+use Rattle.wtf8_core.specs.{Wtf8.Encodes, Wtf8.last_or, declared.fault.EncodingError.EncodingError}
 use Rattle.wtf8_core.specs.declared.fault.EncodingError.TheVariants.{Byte, CodePoint, End, Utf8}
 
 -- a lead and continuations after it

@@ -1,7 +1,6 @@
 -- Strings joined (WTF-8: concatenation).
 use Rattle.std.specs.Prelude.{◌≡◌, ℕ, List, ◌++◌}
-use Rattle.wtf8_core.specs.Surrogate.{IsHigh, IsLow, paired}
-use Rattle.wtf8_core.specs.CodePoint.{encode}
+use Rattle.wtf8_core.specs.{Surrogate.IsHigh, Surrogate.IsLow, Surrogate.paired, CodePoint.encode}
 
 -- w is the join of a and b: the string whose units are those of both, one after the other
 abbrev pub IsJoin : (List ℕ → Type 0) → (List ℕ → List ℕ) → List ℕ → List ℕ → List ℕ → Type 0

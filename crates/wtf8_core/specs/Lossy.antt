@@ -1,7 +1,6 @@
 -- Lossy texts: U+FFFD in place of what isn't text (std's `String::from_utf8_lossy`; WTF-8: conversion to UTF-8).
 use Rattle.std.specs.Prelude.{◌≡◌, ℕ, ◌+◌, if◌then◌else◌, List, [], ◌∷◌, ◌++◌, take, drop, map}
-use Rattle.std.specs.List.{flat_map}
-use Rattle.std.specs.Str.{IsUtf8, IsValidUpTo}
+use Rattle.std.specs.{List.flat_map, Str.IsUtf8, Str.IsValidUpTo}
 use Rattle.wtf8_core.specs.{Surrogate.is_surrogate, CodePoint.encode, Wtf8.Encodes, Utf8.IsIllFormedPart}
 
 -- the bytes of U+FFFD

@@ -1,8 +1,7 @@
 -- WTF-8 by what each byte and the four before it are, which is what vectors test. No contract of another crate names these.
 use Rattle.std.specs.Prelude.{◌≡◌, ℕ, suc, ◌<◌, ◌≤◌, ◌⊎◌, List, [], ◌∷◌, slice_index}
 use Rattle.std.specs.Int.{IsInRange}
-use Rattle.wtf8_core.specs.{Byte.IsContinuation, Surrogate.IsHigh, declared.vectors.Encoding.Encoding}
-use Rattle.wtf8_core.specs.declared.vectors.Encoding.TheVariants.{Utf8}
+use Rattle.wtf8_core.specs.{Byte.IsContinuation, Surrogate.IsHigh, declared.vectors.Encoding.Encoding, declared.vectors.Encoding.TheVariants.Utf8}
 
 -- none of the last three bytes x, y and z is the lead of a form that continues after them
 pub record IsClosed (x y z : ℕ) : Type 0 where

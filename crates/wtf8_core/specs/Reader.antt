@@ -1,8 +1,6 @@
 -- The reader, step by step: the items that `CodePoints` still has to give. No contract of another crate names these; `AreItems` says what the items are.
 use Rattle.std.specs.Prelude.{ℕ, zero, suc, ◌≡◌, ◌+◌, ◌*◌, ◌%◌, Bool, false, nat_lt, ◌&&◌, ◌||◌, if◌then◌else◌, List, [], ◌∷◌, drop, Result, Ok, Err}
-use Rattle.wtf8_core.specs.Byte.{is_continuation, needed_continuations, lead_bits}
-use Rattle.wtf8_core.specs.Surrogate.{is_high, is_low}
-use Rattle.wtf8_core.specs.declared.fault.EncodingError.{EncodingError}
+use Rattle.wtf8_core.specs.{Byte.is_continuation, Byte.needed_continuations, Byte.lead_bits, Surrogate.is_high, Surrogate.is_low, declared.fault.EncodingError.EncodingError}
 use Rattle.wtf8_core.specs.declared.fault.EncodingError.TheVariants.{Byte, CodePoint, End}
 
 -- the value with the bits of n continuations appended, or the fault if one of them is missing

@@ -1,9 +1,7 @@
 -- The runs of surrogates in a list of code points, each with the scalar values after it (WTF-8: lone surrogates).
 use Rattle.std.specs.Prelude.{◌≡◌, ℕ, ◌<◌, List, [], ◌∷◌, ◌++◌, length}
-use Rattle.std.specs.Char.{IsScalar}
-use Rattle.std.specs.List.{flat_map, AllByRecursion}
-use Rattle.wtf8_core.specs.{Surrogate.IsSurrogate, CodePoint.encode}
-use Rattle.wtf8_core.specs.Chunks.{Chunk, joined}
+use Rattle.std.specs.{Char.IsScalar, List.flat_map, List.AllByRecursion}
+use Rattle.wtf8_core.specs.{Surrogate.IsSurrogate, CodePoint.encode, Chunks.Chunk, Chunks.joined}
 
 -- a run of surrogates and the scalar values after it, between these others: no two runs are adjacent, so each is maximal
 pub record IsRun (before : List Chunk) (c : Chunk) (after : List Chunk) : Type 0 where

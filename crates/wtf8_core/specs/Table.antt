@@ -4,8 +4,7 @@ use denote.Enum.Declared.{tag_of}
 use Rattle.wtf8_core.specs.contracts.table.Class.{the_type as the_classes}
 use Rattle.wtf8_core.specs.contracts.table.State.{the_type as the_states}
 use Rattle.wtf8_core.specs.declared.table.TheConstants.{STATES, CLASSES, NEXT}
-use Rattle.wtf8_core.specs.declared.table.Class.{Class, TheVariants.Ascii}
-use Rattle.wtf8_core.specs.declared.table.State.{State, TheVariants.Between}
+use Rattle.wtf8_core.specs.{declared.table.Class.Class, declared.table.Class.TheVariants.Ascii, declared.table.State.State, declared.table.State.TheVariants.Between}
 
 -- the index of a state in the table
 abbrev pub state_index : State → ℕ

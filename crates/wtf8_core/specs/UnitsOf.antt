@@ -1,8 +1,7 @@
 -- The code points, the units and the lossy text of bytes as functions. `laws::functions` says which relation each of them meets.
 use Rattle.std.specs.Prelude.{ℕ, false, List, [], ◌∷◌, map, Result, Ok, Err}
 use Rattle.std.specs.List.{flat_map}
-use Rattle.wtf8_core.specs.{CodePoint.encode, Wtf8.units, Lossy.without_surrogate, Reader.items_after}
-use Rattle.wtf8_core.specs.declared.fault.EncodingError.{EncodingError}
+use Rattle.wtf8_core.specs.{CodePoint.encode, Wtf8.units, Lossy.without_surrogate, Reader.items_after, declared.fault.EncodingError.EncodingError}
 
 -- the code points among items
 abbrev pub ok_values : List (Result ℕ EncodingError) → List ℕ

@@ -1,8 +1,7 @@
 //! From bytes to 16-bit units.
 ghost use Rattle.std.specs.Prelude.{◌≡◌, ◌∷◌};
 ghost use Rattle.std.specs.Iterator.{YieldsFirst, item_count};
-ghost use Rattle.wtf8_core.specs.Items.{AreUnitItems, unit_items};
-ghost use Rattle.wtf8_core.specs.Encoder.{pending_items, IsCodePointItem};
+ghost use Rattle.wtf8_core.specs.{Items.AreUnitItems, Items.unit_items, Encoder.pending_items, Encoder.IsCodePointItem};
 
 use crate::code_points::CodePoints;
 use crate::fault::EncodingError;
@@ -22,8 +21,7 @@ pub struct EncodeWide<'a> {
 }
 
 impl<'a> Model for EncodeWide<'a> {
-    ghost use Rattle.std.specs.Prelude.{List, ℕ, Result};
-    ghost use Rattle.std.specs.List.{AllByRecursion};
+    ghost use Rattle.std.specs.{Prelude.List, Prelude.ℕ, Prelude.Result, List.AllByRecursion};
     ghost use Rattle.wtf8_core.specs.declared.fault.EncodingError.{EncodingError};
 
     ghost Value = { List (Result ℕ EncodingError) };

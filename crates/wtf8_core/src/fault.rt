@@ -1,7 +1,6 @@
 //! The faults of bytes, and their texts.
 ghost use Rattle.std.specs.Prelude.{◌≡◌, ◌∷◌, [], Some};
-ghost use Rattle.std.specs.Char.{encode_utf8};
-ghost use Rattle.std.specs.Fmt.{WritesStyledOnOk, decimal};
+ghost use Rattle.std.specs.{Char.encode_utf8, Fmt.WritesStyledOnOk, Fmt.decimal};
 ghost use Rattle.wtf8_core.specs.FaultText.{upper_hex, fault_text};
 ghost use Rattle.wtf8_core.specs.declared.fault.EncodingError.TheVariants.{Byte, CodePoint, Utf8};
 

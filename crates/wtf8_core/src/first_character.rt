@@ -1,8 +1,7 @@
 //! The character with which bytes begin, or the ill-formed part. No public contract names anything
 //! in this module; crates above use [`first_char`].
-ghost use Rattle.std.specs.Prelude.{◌≡◌, ◌∷◌, ◌%◌, ◌<◌, ◌≤◌, ℕ, List, IfSome, MatchOption};
-ghost use Rattle.std.specs.Int.{is_in_range};
-ghost use Rattle.std.specs.Str.Lossy.{second_byte_min, second_byte_max};
+ghost use Rattle.std.specs.Prelude.{◌≡◌, ◌∷◌, ◌%◌, ◌<◌, ◌≤◌, ℕ, List, IfSome, MatchOption, length};
+ghost use Rattle.std.specs.{Int.is_in_range, Char.encode_utf8, Str.Lossy.second_byte_min, Str.Lossy.second_byte_max};
 ghost use Rattle.wtf8_core.specs.{Byte.IsContinuation, Covered.StartsWithNoCharacter, Utf8.BeginsWith};
 ghost use Rattle.wtf8_core.specs.Character.{IsCharacterAt, IsFirstChar};
 
@@ -34,21 +33,19 @@ fn first_char_of_few(bytes: &[u8]) -> Option<(char, usize)>
     if *first < 0x80 {
         return Some((char::from(*first), 1));
     }
-    read_first_char(*first, after)
+    let character = read_first_char(*first, after)?;
+    Some((character, character.len_utf8()))
 }
 
-/// The same of `first` and the bytes after it, by the reader of code points.
+/// The character with which `first` and the bytes after it begin, by the reader of code points.
 #[cold]
 #[inline(never)]
-fn read_first_char(first: u8, after: &[u8]) -> Option<(char, usize)>
+fn read_first_char(first: u8, after: &[u8]) -> Option<char>
     ensures { MatchOption result (StartsWithNoCharacter (first ∷ after.now))
-        (λ read. IsFirstChar (first ∷ after.now) read.0 read.1) }
+        (λ c. IsFirstChar (first ∷ after.now) c (length (encode_utf8 c))) }
 {
     match first_item(false, first, after) {
-        Ok(code_point) => {
-            let character = char::from_u32(code_point)?;
-            Some((character, character.len_utf8()))
-        }
+        Ok(code_point) => char::from_u32(code_point),
         Err(_) => None,
     }
 }

@@ -1,7 +1,6 @@
 //! Forms: the bytes of code points, written.
 ghost use Rattle.std.specs.Prelude.{◌≡◌, ◌++◌, ◌∷◌, ◌+◌, ◌/◌, ◌%◌, ◌≤◌, take, drop, length};
-ghost use Rattle.wtf8_core.specs.CodePoint.{IsCodePoint, encode};
-ghost use Rattle.wtf8_core.specs.Decoder.{packed_bytes};
+ghost use Rattle.wtf8_core.specs.{CodePoint.IsCodePoint, CodePoint.encode, Decoder.packed_bytes};
 
 /// Writes the form of a code point over the bytes from index `at` on, and returns the index after
 /// it (RFC 3629, section 3; this project's own call). The bytes before and after the form are

@@ -7,19 +7,14 @@
 
 ghost use Rattle.std.specs.Prelude.{◌≡◌, ◌↔◌, ◌⊎◌, ◌+◌, ◌-◌, ◌<◌, ◌≤◌, ◌^◌, ◌++◌, length, take, drop, map, ℕ, List, Option, Result, IsTrue};
 ghost use Rattle.std.specs.{List.All, Char.encode_utf8, Ordering.nat_cmp, Cmp.Lexicographic.slice_cmp};
-ghost use Rattle.std.specs.Str.{IsUtf8, IsCharBoundary};
-ghost use Rattle.std.specs.Str.Lossy.{utf8_lossy};
+ghost use Rattle.std.specs.{Str.IsUtf8, Str.IsCharBoundary, Str.Lossy.utf8_lossy};
 ghost use Rattle.wtf8_core.specs.{Byte.IsByte, CodePoint.encode, Checker.IsFaulty, Items.AreItems, Occurrence.OccursAt};
-ghost use Rattle.wtf8_core.specs.Wtf8.{Encodes, IsWtf8, HasUnits};
-ghost use Rattle.wtf8_core.specs.Fault.{IsFirstFault, IsFaultAt};
+ghost use Rattle.wtf8_core.specs.{Wtf8.Encodes, Wtf8.IsWtf8, Wtf8.HasUnits, Fault.IsFirstFault, Fault.IsFaultAt};
 ghost use Rattle.wtf8_core.specs.{OccurrenceLaws.OccurrenceLaws, Character.WholeCharacter, Boundary.IsBoundary};
-ghost use Rattle.wtf8_core.specs.Chunks.{Chunk, AreChunks};
-ghost use Rattle.wtf8_core.specs.Runs.{AreRuns, form_chunk};
-ghost use Rattle.wtf8_core.specs.Utf8.{IsUtf8Fault, part_end};
-ghost use Rattle.wtf8_core.specs.Lossy.{IsLossyText, IsWtf8LossyText};
+ghost use Rattle.wtf8_core.specs.{Chunks.Chunk, Chunks.AreChunks, Runs.AreRuns, Runs.form_chunk};
+ghost use Rattle.wtf8_core.specs.{Utf8.IsUtf8Fault, Utf8.part_end, Lossy.IsLossyText, Lossy.IsWtf8LossyText};
 ghost use Rattle.wtf8_core.specs.LossyReading.{IsLossyReading, lossy_forms};
-ghost use Rattle.wtf8_core.specs.UnitsOf.{units_of, wtf8_lossy};
-ghost use Rattle.wtf8_core.specs.declared.fault.EncodingError.{EncodingError};
+ghost use Rattle.wtf8_core.specs.{UnitsOf.units_of, UnitsOf.wtf8_lossy, declared.fault.EncodingError.EncodingError};
 
 use crate::checker::Checker;
 use crate::fault::EncodingError;

@@ -1,7 +1,6 @@
 //! Surrogates, as code points and as units, and their pairs.
 ghost use Rattle.std.specs.Prelude.{◌≡◌, ◌≤◌, true, MatchOption};
-ghost use Rattle.wtf8_core.specs.FirstPair.{BeginsPair, BeginsNoPair};
-ghost use Rattle.wtf8_core.specs.CodePoint.{IsCodePoint};
+ghost use Rattle.wtf8_core.specs.{FirstPair.BeginsPair, FirstPair.BeginsNoPair, CodePoint.IsCodePoint};
 ghost use Rattle.wtf8_core.specs.Surrogate.{is_high, is_low, is_pair, high_unit, low_unit, paired};
 
 /// Whether a code point or a unit is a high surrogate.

@@ -1,8 +1,8 @@
 -- Boundaries and whole characters, as the tests of them find them.
-use Rattle.os_str_ext.proofs.Common.{◌≡◌, ℕ, ◌+◌, ◌-◌, ◌<◌, true, false, List, ◌++◌, length, drop, get_or, Option, Some, None, inr, refl, sym, ap, ◌∙◌, subst, arith, ⊎_elim, false≢true, is_some, WholeCharacter, IsBoundary, form_ascii, whole_at}
+use Rattle.os_str_ext.proofs.Common.{◌≡◌, ℕ, ◌+◌, ◌-◌, ◌<◌, true, false, List, ◌++◌, length, take, drop, get_or, Option, Some, None, inr, refl, sym, ap, ◌∙◌, subst, arith, ⊎_elim, false≢true, is_some, WholeCharacter, IsBoundary, IsFirstChar, form_ascii, whole_at}
 use Rattle.std.proofs.lemmas.List.{drop_more}
 use Rattle.wtf8_core.specs.Character.{IsCharacterAt}
-use Rattle.wtf8_core.proofs.Common.{low_scalar}
+use Rattle.wtf8_core.proofs.Common.{encode_ascii, low_scalar}
 use Rattle.os_str_ext.specs.Characters.{IsCharacterBefore}
 
 pub none_from_test : (s : List ℕ) (i : ℕ) (r : Option ℕ) → is_some r ≡ false → IsCharacterAt s i r → (j : ℕ) → WholeCharacter s i j → ⊥
@@ -25,3 +25,6 @@ ascii_at s i h low =
     let b = get_or s i 0 in
     let f = form_ascii b low in
     subst (λ x. WholeCharacter s i (i + length x)) f (whole_at s i b (drop (i + 1) s) (omega (arith, h)) (low_scalar b (omega (arith, low))) (drop_more s i 0 h ∙ ap (λ x. x ++ drop (i + 1) s) (sym f)))
+
+pub ascii_first : (s : List ℕ) → 0 < length s → get_or s 0 0 < 0x80 → IsFirstChar s (get_or s 0 0) 1
+ascii_first s some low = (ascii_at s 0 some low, ap (take 1) (drop_more s 0 0 some) ∙ sym (encode_ascii (get_or s 0 0) low))

@@ -1,4 +1,4 @@
-use Rattle.wtf8_core.proofs.Common.{MatchOption, subst, sym, IsFirstChar, StartsWithNoCharacter}
+use Rattle.wtf8_core.proofs.Common.{◌∷◌, subst, sym, IsFirstChar, StartsWithNoCharacter}
 use Rattle.wtf8_core.proofs.lemmas.characters.AtIndices.{ascii_first, none_in_none}
 use Rattle.wtf8_core.proofs.first_character.first_char_of_few.Goals as goal
 
@@ -8,5 +8,10 @@ returns-in_err-first c = rw (c.from_residual.ensures) (none_in_none c.args.bytes
 pub returns-then-first-lt128 : goal.returns-then-first-lt128
 returns-then-first-lt128 c = subst (λ x. IsFirstChar c.args.bytes.now x 1) (sym c.from.ensures) (ascii_first c.args.bytes.now _ _ c.in_ok-first.ensures.cases.0 c.if-first-lt128.true)
 
+pub returns-in_err-character : goal.returns-in_err-character
+returns-in_err-character c = rw c.from_residual-in_err-character.ensures (subst StartsWithNoCharacter (sym c.in_ok-first.ensures.cases.0) c.in_err-character.ensures)
+
 pub returns : goal.returns
-returns c = subst (λ s. MatchOption c.read_first_char.result (StartsWithNoCharacter s) (λ r. IsFirstChar s r.0 r.1)) (sym c.in_ok-first.ensures.cases.0) c.read_first_char.ensures
+returns c =
+    let s = c.in_ok-first.first.now ∷ c.in_ok-first.after.now in
+    subst (λ s. IsFirstChar s c.in_ok-character.character c.len_utf8.result) (sym c.in_ok-first.ensures.cases.0) (subst (λ n. IsFirstChar s c.in_ok-character.character n) (sym c.len_utf8.ensures.len) c.in_ok-character.ensures)
