@@ -1,8 +1,7 @@
 //! The cuts of a string at one index.
 ghost use Rattle.std.specs.Prelude.{IfOk, drop};
 ghost use Rattle.wtf8_core.specs.Boundary.{IsBoundary};
-ghost use Rattle.os_str_bytes.specs.Raw.{raw_bytes, raw_vec_of};
-ghost use Rattle.os_str_bytes.specs.Cuts.{AreBothParts};
+ghost use Rattle.os_str_bytes.specs.{Raw.raw_bytes, Raw.raw_vec_of, Cuts.AreBothParts};
 
 use crate::raw_str::RawOsStr;
 use crate::raw_string::RawOsString;

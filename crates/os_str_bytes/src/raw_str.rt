@@ -30,8 +30,7 @@ impl<'a, E: Platform> Default for RawOsStr<'a, E> {
 }
 
 impl<'a, E: Platform> RawOsStr<'a, E> {
-    ghost use Rattle.os_str_bytes.specs.Raw.{raw_bytes, raw_vec_of};
-    ghost use Rattle.os_str_bytes.specs.RawCow.{raw_cow_bytes};
+    ghost use Rattle.os_str_bytes.specs.{Raw.raw_bytes, Raw.raw_vec_of, RawCow.raw_cow_bytes};
 
     /// The string as a raw string.
     ///

@@ -1,6 +1,5 @@
 -- What contracts say of a string: its bytes, and for an owned one its vector.
-use Rattle.std.specs.Prelude.{ℕ, List}
-use Rattle.std.specs.declared.vec.Vec.{Vec}
+use Rattle.std.specs.{Prelude.ℕ, Prelude.List, declared.vec.Vec.Vec}
 use Rattle.platform_str.specs.{declared.platform.Platform.Ghosts, declared.os_str.OsStr.OsStr, declared.os_string.OsString.OsString, declared.path.Path.Path, declared.path.PathBuf.PathBuf}
 
 module _ {E : Type 0} {P : Ghosts E} where

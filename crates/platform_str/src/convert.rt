@@ -1,10 +1,7 @@
 //! Conversions of strings and paths from and to bytes, as in os_str_bytes 7.2.1.
 ghost use Rattle.std.specs.Prelude.{◌≡◌, ℕ, List, IsOk, IfOk, MatchOption, MatchResult};
-ghost use Rattle.std.specs.declared.alloc.Global.{Global};
-ghost use Rattle.std.specs.declared.vec.Vec.{Vec};
-ghost use Rattle.std.specs.Vec.{SameBlock};
-ghost use Rattle.platform_str.specs.Cows.{byte_cow_bytes};
-ghost use Rattle.platform_str.specs.Lossy.{IsIoLossy};
+ghost use Rattle.std.specs.{declared.alloc.Global.Global, declared.vec.Vec.Vec, Vec.SameBlock};
+ghost use Rattle.platform_str.specs.{Cows.byte_cow_bytes, Lossy.IsIoLossy};
 
 use crate::cow::{ByteCow, HasBytes};
 use crate::lossy;

@@ -1,6 +1,5 @@
 //! Strings as texts for printing, written piece by piece.
-ghost use Rattle.std.specs.Prelude.{Some};
-ghost use Rattle.std.specs.Fmt.{WritesStyledOnOk, spec_fill, spec_align, spec_width};
+ghost use Rattle.std.specs.{Prelude.Some, Fmt.WritesStyledOnOk, Fmt.spec_fill, Fmt.spec_align, Fmt.spec_width};
 ghost use Rattle.platform_str.specs.Display.{shown_bytes, filled};
 
 use crate::lossy::first_text;

@@ -2,8 +2,7 @@
 //! units beside it say, without a branch.
 ghost use Rattle.std.specs.Prelude.{◌≡◌, ◌++◌, ◌+◌, ◌*◌, ◌/◌, ◌≤◌, ◌<◌, ℕ, List, true, leb, take, drop, length, slice_index};
 ghost use Rattle.std.specs.List.{All, count_by, flat_map};
-ghost use Rattle.wtf8_core.specs.Wtf8.{HasUnits};
-ghost use Rattle.wtf8_core.specs.Truncated.{IsTruncated};
+ghost use Rattle.wtf8_core.specs.{Wtf8.HasUnits, Truncated.IsTruncated};
 ghost use Rattle.platform_str.specs.Bulk.{pairs};
 ghost use Rattle.platform_str.specs.FromWide.{bytes_by_neighbours, bytes_after_first, word_bytes};
 

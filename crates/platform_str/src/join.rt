@@ -1,7 +1,6 @@
 //! Joining Windows strings.
 ghost use Rattle.std.specs.Prelude.{◌≡◌, ◌++◌, ◌+◌, ◌<◌, length, OnOk, OnErr, vec_capacity, vec_len};
-ghost use Rattle.wtf8_core.specs.Wtf8.{IsWtf8};
-ghost use Rattle.wtf8_core.specs.UnitsOf.{units_of};
+ghost use Rattle.wtf8_core.specs.{Wtf8.IsWtf8, UnitsOf.units_of};
 
 use std::alloc::{AllocError, Allocator};
 use wtf8_core::{pair_between, write_form};

@@ -1,22 +1,13 @@
 //! The laws of every platform. Each is the contract of a function that does nothing.
 ghost use Rattle.std.specs.Prelude.{◌≡◌, ◌<◌, ◌↔◌, ℕ, List, ◌++◌, length, take, drop, slice_index, IsTrue, Some};
-ghost use Rattle.std.specs.Cmp.Lexicographic.{slice_cmp};
-ghost use Rattle.std.specs.Ordering.{nat_cmp};
+ghost use Rattle.std.specs.{Cmp.Lexicographic.slice_cmp, Ordering.nat_cmp};
 ghost use Rattle.std.specs.Hash as fed;
-ghost use Rattle.std.specs.List.{All, flat_map};
-ghost use Rattle.std.specs.Str.{IsUtf8, IsValidUpTo};
-ghost use Rattle.wtf8_core.specs.Byte.{IsByte, IsContinuation};
-ghost use Rattle.wtf8_core.specs.Character.{WholeCharacter};
-ghost use Rattle.wtf8_core.specs.Boundary.{IsBoundary};
+ghost use Rattle.std.specs.{List.All, List.flat_map, Str.IsUtf8, Str.IsValidUpTo};
+ghost use Rattle.wtf8_core.specs.{Byte.IsByte, Byte.IsContinuation, Character.WholeCharacter, Boundary.IsBoundary};
 ghost use Rattle.wtf8_core.specs.Covered.{StartsWithNoCharacter, HasNoCharacter};
-ghost use Rattle.wtf8_core.specs.PartUnits.{unit_bytes};
-ghost use Rattle.wtf8_core.specs.Occurrence.{OccursAt, IsPrefix};
-ghost use Rattle.wtf8_core.specs.UnitIndex.{IsByteIndex};
-ghost use Rattle.wtf8_core.specs.Join.{IsJoin};
-ghost use Rattle.wtf8_core.specs.declared.fault.EncodingError.{EncodingError};
-ghost use Rattle.platform_str.specs.Laws.{IsReplaced};
-ghost use Rattle.platform_str.specs.PlatformWords.{AreWideUnits};
-ghost use Rattle.platform_str.specs.Strings.{bytes, string_vec_of};
+ghost use Rattle.wtf8_core.specs.{PartUnits.unit_bytes, Occurrence.OccursAt, Occurrence.IsPrefix};
+ghost use Rattle.wtf8_core.specs.{UnitIndex.IsByteIndex, Join.IsJoin, declared.fault.EncodingError.EncodingError};
+ghost use Rattle.platform_str.specs.{Laws.IsReplaced, PlatformWords.AreWideUnits, Strings.bytes, Strings.string_vec_of};
 
 use crate::os_str::OsStr;
 use crate::os_string::OsString;

@@ -1,10 +1,7 @@
 //! Lossy texts, by the laws of the platform.
 ghost use Rattle.std.specs.Prelude.{◌≡◌, ◌<◌, ◌≤◌, ◌+◌, ◌*◌, ◌^◌, ◌++◌, length, take, drop, IfOk, IfSome, MatchOption, OnOk};
-ghost use Rattle.std.specs.Str.{IsUtf8};
-ghost use Rattle.std.specs.String.{string_bytes};
-ghost use Rattle.wtf8_core.specs.Lossy.{replacement};
-ghost use Rattle.wtf8_core.specs.Truncated.{IsTruncated};
-ghost use Rattle.wtf8_core.specs.Utf8.{IsUtf8Fault};
+ghost use Rattle.std.specs.{Str.IsUtf8, String.string_bytes};
+ghost use Rattle.wtf8_core.specs.{Lossy.replacement, Truncated.IsTruncated, Utf8.IsUtf8Fault};
 ghost use Rattle.platform_str.specs.Lossy.{IsFirstText};
 
 use crate::platform::Platform;

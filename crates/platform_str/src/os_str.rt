@@ -38,8 +38,7 @@ impl<'a, E: Platform> Copy for OsStr<'a, E> {}
 
 impl<'a, E: Platform> OsStr<'a, E> {
     ghost use Rattle.platform_str.specs.Strings.{bytes, string_vec_of};
-    ghost use Rattle.platform_str.specs.Cows.{cow_bytes, str_cow_bytes};
-    ghost use Rattle.platform_str.specs.Display.{shown_bytes};
+    ghost use Rattle.platform_str.specs.{Cows.cow_bytes, Cows.str_cow_bytes, Display.shown_bytes};
 
     /// The string of a text; every text is a string of every platform (std's `OsStr::new`).
     ///
@@ -279,8 +278,7 @@ impl<'a, E: Platform> OsStr<'a, E> {
 }
 
 impl<'a, E: Platform + 'a> OsStrBytes<'a> for OsStr<'a, E> {
-    ghost use Rattle.platform_str.specs.Strings.{bytes};
-    ghost use Rattle.platform_str.specs.Cows.{IsOwnedString};
+    ghost use Rattle.platform_str.specs.{Strings.bytes, Cows.IsOwnedString};
 
     type Platform = E;
 

@@ -1,7 +1,6 @@
 //! Owned strings.
 ghost use Rattle.std.specs.Prelude.{◌≡◌, ◌<◌, ◌+◌, ◌++◌, [], IsOk, IfOk, IfErr, OnOk, OnErr, MatchResult, length, vec_capacity, vec_len};
-ghost use Rattle.std.specs.Str.{IsUtf8};
-ghost use Rattle.std.specs.String.{string_vec};
+ghost use Rattle.std.specs.{Str.IsUtf8, String.string_vec};
 
 use crate::convert::OsStringBytes;
 use crate::lossy;

@@ -1,8 +1,7 @@
 //! Strings as paths, borrowed and owned. Paths aren't split into components here.
 ghost use Rattle.std.specs.Prelude.{◌≡◌, []};
 ghost use Rattle.platform_str.specs.Strings.{bytes, path_bytes, string_vec_of, path_vec_of};
-ghost use Rattle.platform_str.specs.Display.{shown_bytes};
-ghost use Rattle.platform_str.specs.Cows.{IsOwnedPath};
+ghost use Rattle.platform_str.specs.{Display.shown_bytes, Cows.IsOwnedPath};
 
 use crate::convert::{OsStrBytes, OsStringBytes};
 use crate::cow::{ByteCow, PathCow};

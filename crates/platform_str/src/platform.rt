@@ -1,11 +1,9 @@
 //! What a platform is, and the three platforms of this crate.
 ghost use Rattle.std.specs.Prelude.{◌≡◌, ◌<◌, ◌↔◌, ◌++◌, ◌+◌, ℕ, List, length, IsTrue, IfOk, MatchOption, MatchResult, OnOk, OnErr, vec_capacity, vec_len};
 ghost use Rattle.std.specs.Str.{IsUtf8};
-ghost use Rattle.wtf8_core.specs.Covered.{StartsWithNoCharacter};
-ghost use Rattle.wtf8_core.specs.Utf8.{IsUtf8Fault};
+ghost use Rattle.wtf8_core.specs.{Covered.StartsWithNoCharacter, Utf8.IsUtf8Fault};
 ghost use Rattle.platform_str.specs.Lossy.{IsFaultPart};
-ghost use Rattle.wtf8_core.specs.Occurrence.{IsPrefix, IsSuffix};
-ghost use Rattle.wtf8_core.specs.OccurrenceLaws.{OccurrenceLaws};
+ghost use Rattle.wtf8_core.specs.{Occurrence.IsPrefix, Occurrence.IsSuffix, OccurrenceLaws.OccurrenceLaws};
 ghost use Rattle.wtf8_core.specs.declared.fault.EncodingError.{EncodingError};
 ghost use Rattle.platform_str.specs.Laws.{PlatformLaws, PartLaws, ReadingLaws, IsFirstUnit};
 

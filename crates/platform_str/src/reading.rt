@@ -1,7 +1,6 @@
 //! The lossy reading of arbitrary bytes as WTF-8.
 ghost use Rattle.std.specs.Prelude.{IfOk};
-ghost use Rattle.wtf8_core.specs.Wtf8.{IsWtf8};
-ghost use Rattle.wtf8_core.specs.LossyReading.{IsLossyReading};
+ghost use Rattle.wtf8_core.specs.{Wtf8.IsWtf8, LossyReading.IsLossyReading};
 
 use crate::lossy::push_replaced;
 use std::alloc::{AllocError, Allocator};

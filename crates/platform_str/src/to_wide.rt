@@ -2,8 +2,7 @@
 //! what the bytes beside it say, without a branch.
 ghost use Rattle.std.specs.Prelude.{◌≡◌, ◌++◌, ◌+◌, ◌≤◌, ◌<◌, ℕ, true, if◌then◌else◌, take, drop, length, slice_index, IsOk, OnOk, vec_len, vec_capacity};
 ghost use Rattle.std.specs.List.{All};
-ghost use Rattle.wtf8_core.specs.Wtf8.{IsWtf8};
-ghost use Rattle.wtf8_core.specs.UnitsOf.{units_of};
+ghost use Rattle.wtf8_core.specs.{Wtf8.IsWtf8, UnitsOf.units_of};
 ghost use Rattle.platform_str.specs.ToWide.{adds_unit, unit_at, units_after_first, chosen};
 
 use std::alloc::{AllocError, Allocator};

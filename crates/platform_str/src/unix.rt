@@ -1,8 +1,6 @@
 //! The strings of Unix: any bytes. Their units are their bytes, and no bytes are refused.
-ghost use Rattle.std.specs.List.{All};
-ghost use Rattle.std.specs.Str.Lossy.{utf8_lossy};
-ghost use Rattle.wtf8_core.specs.Byte.{IsByte};
-ghost use Rattle.wtf8_core.specs.Utf8.{IsIllFormedPart};
+ghost use Rattle.std.specs.{List.All, Str.Lossy.utf8_lossy};
+ghost use Rattle.wtf8_core.specs.{Byte.IsByte, Utf8.IsIllFormedPart};
 ghost use Rattle.platform_str.specs.PlatformWords.{itself};
 ghost use Rattle.platform_str.specs.platforms.Unix.{IsNoFault, AreAboveAscii, IsSame, bytes_prop, unix_laws, unix_parts, unix_readings, unix_occurrence};
 

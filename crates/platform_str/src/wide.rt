@@ -1,9 +1,7 @@
 //! The units of Windows strings.
 ghost use Rattle.std.specs.Prelude.{◌≡◌, ℕ, List, [], map, Ok, IsOk, IfOk};
 ghost use Rattle.std.specs.Iterator.{YieldsFirst, item_count};
-ghost use Rattle.wtf8_core.specs.Wtf8.{HasUnits};
-ghost use Rattle.wtf8_core.specs.UnitsOf.{ok_values};
-ghost use Rattle.wtf8_core.specs.Truncated.{IsTruncated};
+ghost use Rattle.wtf8_core.specs.{Wtf8.HasUnits, UnitsOf.ok_values, Truncated.IsTruncated};
 ghost use Rattle.platform_str.specs.Strings.{bytes, string_vec_of};
 
 use crate::from_wide::{write_bytes, write_wtf8, wtf8_len};

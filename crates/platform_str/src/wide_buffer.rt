@@ -1,9 +1,7 @@
 //! The units of a Windows string in a buffer, as far as there is room: those of 16 bytes at once.
 //! What is after the last unit stays as it is.
 ghost use Rattle.std.specs.Prelude.{◌≡◌, ◌++◌, ◌+◌, ◌≤◌, ◌<◌, ◌^◌, ℕ, List, drop, length, slice_index};
-ghost use Rattle.wtf8_core.specs.Wtf8.{IsWtf8};
-ghost use Rattle.wtf8_core.specs.UnitsOf.{units_of};
-ghost use Rattle.wtf8_core.specs.Truncated.{IsTruncated};
+ghost use Rattle.wtf8_core.specs.{Wtf8.IsWtf8, UnitsOf.units_of, Truncated.IsTruncated};
 ghost use Rattle.platform_str.specs.ToWide.{Appends, units_after_first, chosen};
 
 use crate::to_wide::{

@@ -1,7 +1,6 @@
 //! Texts that are written piece by piece, filled to the width of a formatter.
 ghost use Rattle.std.specs.Prelude.{◌≡◌, ◌-◌, ◌≤◌, ℕ, List, IfOk};
-ghost use Rattle.std.specs.Char.{encode_utf8};
-ghost use Rattle.std.specs.List.{repeat};
+ghost use Rattle.std.specs.{Char.encode_utf8, List.repeat};
 ghost use Rattle.std.specs.Fmt.{WritesOnOk, WritesStyledOnOk, char_count, formatter_spec, is_char_start, spec_align, spec_fill, spec_width};
 ghost use Rattle.platform_str.specs.Display.{fill_before, filled};
 

@@ -20,14 +20,10 @@ module _ (wf : List ℕ → Type 0) (units : List ℕ → List ℕ) (laws : Occu
     λ j. record { rest = units j.0; joined = j.1.1.1 },
   )
 
-pub returns-clause-some : goal.returns-clause-some
-returns-clause-some g c = g.met.E.Platform.occurrence.some_join
-
-pub returns-clause-one : goal.returns-clause-one
-returns-clause-one g c = one g.E.Platform.well_formed g.E.Platform.units g.met.E.Platform.occurrence
-
-pub returns-clause-associative : goal.returns-clause-associative
-returns-clause-associative g c = associative g.E.Platform.well_formed g.E.Platform.units g.met.E.Platform.occurrence
-
-pub returns-clause-prefixes : goal.returns-clause-prefixes
-returns-clause-prefixes g c = prefixes g.E.Platform.well_formed g.E.Platform.units g.met.E.Platform.occurrence
+pub returns : goal.returns
+returns g c = record {
+  some = g.met.E.Platform.occurrence.some_join;
+  one = one g.E.Platform.well_formed g.E.Platform.units g.met.E.Platform.occurrence;
+  associative = associative g.E.Platform.well_formed g.E.Platform.units g.met.E.Platform.occurrence;
+  prefixes = prefixes g.E.Platform.well_formed g.E.Platform.units g.met.E.Platform.occurrence;
+}
