@@ -1,5 +1,5 @@
 -- What takes an escape, piece by piece. Only private contracts name these.
-use Rattle.std.specs.Prelude.{ℕ, List, [], ◌++◌, Result, MatchResult}
+use Rattle.std.specs.Prelude.{◌≡◌, ℕ, List, [], ◌++◌, Result, MatchResult}
 
 -- a sink by its states: which bytes it took from one to another, for which it has room, and with which begins no text that it takes
 pub record SinkRules (S : Type 0) : Type 1 where
@@ -15,3 +15,7 @@ pub record SinkRules (S : Type 0) : Type 1 where
 -- the text was taken from s to t, or else it is refused
 abbrev pub Takes : {S A R : Type 0} → SinkRules S → S → List ℕ → Result A R → S → Type 0
 Takes sink s text result t = MatchResult result (λ _. sink.took s text t) (λ _. sink.refuses s text)
+
+-- a beginning of the text was taken, and the rest is left; or else it is refused
+abbrev pub TakesBeginning : {S A R : Type 0} → SinkRules S → S → List ℕ → (A → List ℕ) → Result A R → S → Type 0
+TakesBeginning sink s text left result t = MatchResult result (λ rest. (taken : List ℕ) × sink.took s taken t × (text ≡ taken ++ left rest)) (λ _. sink.refuses s text)

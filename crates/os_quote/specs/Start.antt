@@ -1,5 +1,5 @@
 -- What a string begins with. Only private contracts name these.
-use Rattle.std.specs.Prelude.{◌≡◌, ℕ, ◌<◌, nat_lt, Bool, if◌then◌else◌, List, ◌++◌, length}
+use Rattle.std.specs.Prelude.{◌≡◌, ℕ, ◌+◌, ◌<◌, ◌≤◌, nat_lt, Bool, if◌then◌else◌, List, ◌++◌, length, take}
 use Rattle.std.specs.Str.{IsUtf8}
 use Rattle.os_quote.specs.{Item.Item, Item.ByteUnit, Item.character_item, Escaped.escape_of}
 
@@ -18,3 +18,9 @@ pub record IsCutAfterText (bytes text rest : List ℕ) : Type 0 where
   pub some : 0 < length text
   pub is_text : IsUtf8 text
   pub joined : bytes ≡ text ++ rest
+
+-- a text is written from an index up to another, after what was there before
+pub record IsPut (old new : List ℕ) (at : ℕ) (text : List ℕ) (end : ℕ) : Type 0 where
+  pub within : end ≤ at + 8
+  pub is_text : IsUtf8 text
+  pub written : take end new ≡ take at old ++ text

@@ -1,6 +1,5 @@
 //! Why a text isn't an escape.
-ghost use Rattle.std.specs.Prelude.{Some, decimal};
-ghost use Rattle.std.specs.Fmt.{WritesStyledOnOk};
+ghost use Rattle.std.specs.{Prelude.Some, Prelude.decimal, Fmt.WritesStyledOnOk};
 
 use std::alloc::AllocError;
 use std::error::Error;

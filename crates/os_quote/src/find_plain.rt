@@ -41,17 +41,18 @@ pub(crate) fn split_plain(bytes: &[u8]) -> Option<(&str, &[u8])>
 pub(crate) fn plain_len(bytes: &[u8]) -> usize
     ensures { IsPlainUpTo bytes.now result }
 {
+    let mut at = 0;
     if bytes.len() >= LANES {
         let near = lanes_len(bytes, 0);
         if near < LANES {
             return near;
         }
+        at = LANES;
     }
-    let mut at = 0;
     while at < PIECE && bytes.len() - at >= BLOCK && is_plain_block(bytes, at) {
         at += BLOCK;
     }
-    if at == PIECE {
+    if at >= PIECE {
         return at;
     }
     plain_end(bytes, at)
@@ -66,10 +67,10 @@ fn plain_end(bytes: &[u8], from: usize) -> usize
     let mut at = from;
     while bytes.len() - at >= LANES {
         let len = lanes_len(bytes, at);
-        at += len;
         if len < LANES {
-            return at;
+            return at + len;
         }
+        at += LANES;
     }
     end_of_few(bytes, at)
 }

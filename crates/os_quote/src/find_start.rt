@@ -37,5 +37,5 @@ pub(crate) fn are_apart(bytes: &[u8]) -> bool
     if bytes.len() < 2 {
         return false;
     }
-    bytes[0] >= 0x80 && (is_continuation(bytes[0]) | !is_continuation(bytes[1]))
+    (bytes[0] >= 0x80) & (is_continuation(bytes[0]) | !is_continuation(bytes[1]))
 }

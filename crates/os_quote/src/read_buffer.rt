@@ -5,11 +5,11 @@ ghost use Rattle.os_quote.specs.{Shown.shown_by, declared.error.QuoteError.TheVa
 ghost use Rattle.os_quote.specs.{Escape.IsQuoteFault, Escape.IsLineFault, Escape.IsQuoteFaultBy, Unescaped.IsUnescaped, Unescaped.IsLineUnescaped, Unescaped.IsUnescapedBy, Unescaped.AreReadBy};
 
 use crate::error::QuoteError;
-use crate::find_hidden::split_hidden;
 use crate::find_plain::are_plain;
 use crate::form::Form;
 use crate::read_string::{is_unescaped, read};
-use crate::read_token::{cut_backslash, split_backslash};
+use crate::read_token::cut_backslash;
+use crate::write_walk::split_at_token;
 use os_str_bytes::Platform;
 use wtf8_core::{is_utf8, push_truncated};
 
@@ -41,10 +41,7 @@ pub fn write_unescaped<E: Platform>(text: &str, buffer: &mut [u8]) -> Result<usi
     ensures fault { IfErr result (λ fault. IsQuoteFault E.well_formed E.units text.now fault) }
     ensures never_memory { IfErr result (λ fault. fault ≢ Memory) }
 {
-    match split_backslash(text) {
-        None => Ok(push_truncated(buffer, 0, text.as_bytes())),
-        Some(_) => write_by::<E>(Form::Text, text.as_bytes(), buffer),
-    }
+    write_text_by::<E>(Form::Text, text, buffer)
 }
 
 /// Writes the string that has this escape on one line ([`unescape_line`](crate::unescape_line)) into a
@@ -70,13 +67,29 @@ pub fn write_unescaped_line<E: Platform>(text: &str, buffer: &mut [u8]) -> Resul
     ensures fault { IfErr result (λ fault. IsLineFault E.well_formed E.units text.now fault) }
     ensures never_memory { IfErr result (λ fault. fault ≢ Memory) }
 {
-    match split_hidden(text) {
+    write_text_by::<E>(Form::Line, text, buffer)
+}
+
+/// The same in a form. A text without tokens is its own escape.
+#[inline(always)]
+fn write_text_by<E: Platform>(
+    form: Form,
+    text: &str,
+    buffer: &mut [u8],
+) -> Result<usize, QuoteError>
+    ensures string { IfOk result (λ count. IsUnescapedBy (shown_by form) E.well_formed E.units
+        text.now buffer.old buffer.new count) }
+    ensures fault { IfErr result
+        (λ fault. IsQuoteFaultBy (shown_by form) E.well_formed E.units text.now fault) }
+    ensures never_memory { IfErr result (λ fault. fault ≢ Memory) }
+{
+    match split_at_token(form, text) {
         None => Ok(push_truncated(buffer, 0, text.as_bytes())),
-        Some(_) => write_by::<E>(Form::Line, text.as_bytes(), buffer),
+        Some(_) => write_by::<E>(form, text.as_bytes(), buffer),
     }
 }
 
-/// The same in a form, token by token, of bytes that may not be UTF-8. If they are the escape of a
+/// The same, token by token, of bytes that may not be UTF-8. If they are the escape of a
 /// string for which there is room, that alone says that they are UTF-8; any other answer is right only
 /// if they are.
 pub(crate) fn write_by<E: Platform>(

@@ -1,51 +1,62 @@
-//! The texts of bytes that are written one by one: characters of ASCII, and units of one byte.
-ghost use Rattle.std.specs.Prelude.{◌≡◌, ◌++◌, ◌+◌, ◌/◌, ◌≤◌, IfSome, length, take};
-ghost use Rattle.std.specs.{Int.w64, Int.to_le_bytes, Str.IsUtf8};
-ghost use Rattle.os_quote.specs.{Item.item_text, Shown.shown_by, Escaped.escape_of, Start.BeginsWith, Start.byte_item, declared.form.Form.Form};
+//! Texts that are collected before they are written: those of characters of ASCII and of units of one
+//! byte, and where all is shown characters of several bytes among them.
+ghost use Rattle.std.specs.Prelude.{◌≡◌, ◌++◌, ◌+◌, ◌/◌, ◌≤◌, ℕ, List, IfSome, MatchOption, length, take};
+ghost use Rattle.std.specs.{Int.w64, Int.to_le_bytes, Str.IsUtf8, Char.IsScalar, Char.encode_utf8};
+ghost use Rattle.os_quote.specs.{Item.item_text, Shown.shown_by, Escaped.escape_of, Start.BeginsWith, Start.IsPut, Start.byte_item, declared.form.Form.Form};
 
 use crate::find_start::are_apart;
 use crate::form::Form;
 use os_str_bytes::Platform;
+use wtf8_core::first_character::first_char;
 
 /// The bytes that texts are collected in, before they are written together.
 pub(crate) const TEXTS: usize = 104;
 
-/// How many bytes in a row are shown as they are before it is asked how far more are.
-const SHOWN: usize = 4;
+/// How many characters in a row are shown as they are before it is asked how far more are.
+pub(crate) const SHOWN: usize = 8;
 
-/// The words of 16 bytes, of which the first has this one: how much a digit is in a word, how many
-/// characters are between `9` and `A` in what the last digit is, and what is added to two of the words.
-/// A word has the text of a byte, from the lowest bits on, and in the highest how long the text is.
+/// The words of bytes, of 16 for each line: the word of the first, by how much a word grows with the byte,
+/// how many times more it grows from `9` to `A` where the byte's last digit is written, and what is added
+/// to the words of two bytes. A word has the text of a byte, from the lowest bits on, and in the highest
+/// how long the text is.
 macro_rules! words {
-    ($first:literal, $one:literal, $gap:literal, $at_c:literal, $at_f:literal) => {
-        [
+    ($(($first:literal, $one:literal, $gap:literal, $at_c:literal, $at_f:literal),)*) => {
+        [$(
             $first, $first + $one, $first + 2 * $one, $first + 3 * $one, $first + 4 * $one,
             $first + 5 * $one, $first + 6 * $one, $first + 7 * $one, $first + 8 * $one,
             $first + 9 * $one, $first + (10 + $gap) * $one, $first + (11 + $gap) * $one,
             $first + (12 + $gap) * $one + $at_c, $first + (13 + $gap) * $one,
             $first + (14 + $gap) * $one, $first + (15 + $gap) * $one + $at_f,
-        ]
+        )*]
     };
 }
 
-/// The words of all bytes on a line, by their halves.
-static WORDS: [[u64; 16]; 16] = [
-    words!(0x0600_3030_3030_755C, 0x100_0000_0000, 7, 0, 0),
-    words!(0x0600_3031_3030_755C, 0x100_0000_0000, 7, 0, 0),
-    words!(0x0100_0000_0000_0020, 1, 0, 0, 0),
-    words!(0x0100_0000_0000_0030, 1, 0, 0, 0),
-    words!(0x0100_0000_0000_0040, 1, 0, 0, 0),
-    words!(0x0100_0000_0000_0050, 1, 0, 0x0100_0000_0000_5C00, 0),
-    words!(0x0100_0000_0000_0060, 1, 0, 0, 0),
-    words!(0x0100_0000_0000_0070, 1, 0, 0, 0x0500_4637_3030_74DD),
-    words!(0x0400_0000_3038_785C, 0x100_0000, 7, 0, 0),
-    words!(0x0400_0000_3039_785C, 0x100_0000, 7, 0, 0),
-    words!(0x0400_0000_3041_785C, 0x100_0000, 7, 0, 0),
-    words!(0x0400_0000_3042_785C, 0x100_0000, 7, 0, 0),
-    words!(0x0400_0000_3043_785C, 0x100_0000, 7, 0, 0),
-    words!(0x0400_0000_3044_785C, 0x100_0000, 7, 0, 0),
-    words!(0x0400_0000_3045_785C, 0x100_0000, 7, 0, 0),
-    words!(0x0400_0000_3046_785C, 0x100_0000, 7, 0, 0),
+/// The words of all bytes where all is shown, and those of ASCII on a line.
+static WORDS: [u64; 384] = words![
+    (0x0100_0000_0000_0000, 1, 0, 0, 0),
+    (0x0100_0000_0000_0010, 1, 0, 0, 0),
+    (0x0100_0000_0000_0020, 1, 0, 0, 0),
+    (0x0100_0000_0000_0030, 1, 0, 0, 0),
+    (0x0100_0000_0000_0040, 1, 0, 0, 0),
+    (0x0100_0000_0000_0050, 1, 0, 0x0100_0000_0000_5C00, 0),
+    (0x0100_0000_0000_0060, 1, 0, 0, 0),
+    (0x0100_0000_0000_0070, 1, 0, 0, 0),
+    (0x0400_0000_3038_785C, 0x100_0000, 7, 0, 0),
+    (0x0400_0000_3039_785C, 0x100_0000, 7, 0, 0),
+    (0x0400_0000_3041_785C, 0x100_0000, 7, 0, 0),
+    (0x0400_0000_3042_785C, 0x100_0000, 7, 0, 0),
+    (0x0400_0000_3043_785C, 0x100_0000, 7, 0, 0),
+    (0x0400_0000_3044_785C, 0x100_0000, 7, 0, 0),
+    (0x0400_0000_3045_785C, 0x100_0000, 7, 0, 0),
+    (0x0400_0000_3046_785C, 0x100_0000, 7, 0, 0),
+    (0x0600_3030_3030_755C, 0x100_0000_0000, 7, 0, 0),
+    (0x0600_3031_3030_755C, 0x100_0000_0000, 7, 0, 0),
+    (0x0100_0000_0000_0020, 1, 0, 0, 0),
+    (0x0100_0000_0000_0030, 1, 0, 0, 0),
+    (0x0100_0000_0000_0040, 1, 0, 0, 0),
+    (0x0100_0000_0000_0050, 1, 0, 0x0100_0000_0000_5C00, 0),
+    (0x0100_0000_0000_0060, 1, 0, 0, 0),
+    (0x0100_0000_0000_0070, 1, 0, 0, 0x0500_4637_3030_74DD),
 ];
 
 /// The byte at the start and the bytes after it, if its text is to be taken from a table: where all is
@@ -62,8 +73,8 @@ pub(crate) fn split_first_byte<E: Platform>(form: Form, bytes: &[u8]) -> Option<
     }
 }
 
-/// The byte at the start and the bytes after it, if the byte is written by itself: if the next byte
-/// tells that it is a character of ASCII or begins none.
+/// The byte at the start and the bytes after it, if the byte is written by itself: a character of ASCII,
+/// or a unit of one byte.
 #[inline(always)]
 fn split_byte<E: Platform>(bytes: &[u8]) -> Option<(u8, &[u8])>
     requires { E.well_formed bytes.now }
@@ -72,7 +83,7 @@ fn split_byte<E: Platform>(bytes: &[u8]) -> Option<(u8, &[u8])>
 {
     let (first, _) = bytes.split_first()?;
     let is_ascii = *first < 0x80;
-    if !(is_ascii | are_apart(bytes)) {
+    if !(is_ascii | are_apart(bytes)) && first_char(bytes).is_some() {
         return None;
     }
     let (unit, size) = if is_ascii {
@@ -88,55 +99,66 @@ fn split_byte<E: Platform>(bytes: &[u8]) -> Option<(u8, &[u8])>
     Some((unit as u8, rest))
 }
 
-/// Writes the text of a byte, and those of bytes after it as long as there is room for one more and not
-/// too many in a row are shown as they are. Returns how long the texts are and what is left.
+/// Writes the text of the first byte or, where all is shown, the first character from an index on, and
+/// returns the index after it and the bytes that are left; `None` if the bytes begin otherwise.
 #[inline(always)]
-pub(crate) fn put_texts<'a, E: Platform>(
+pub(crate) fn put_next<'a, E: Platform>(
     form: Form,
     texts: &mut [u8; TEXTS],
-    first: u8,
-    following: &'a [u8],
-) -> (usize, &'a [u8])
-    requires { E.well_formed following.now }
-    ensures within { result.0 ≤ 104 }
-    ensures utf8 { IsUtf8 (take result.0 texts.new) }
-    ensures formed { E.well_formed result.1.now }
-    ensures shorter { length result.1.now ≤ length following.now }
-    ensures escape { item_text (byte_item (shown_by form) first)
-        ++ escape_of (shown_by form) E.units following.now
-        ≡ take result.0 texts.new ++ escape_of (shown_by form) E.units result.1.now }
+    at: usize,
+    bytes: &'a [u8],
+) -> Option<(usize, &'a [u8])>
+    requires formed { E.well_formed bytes.now }
+    requires room { at + 8 ≤ 104 }
+    ensures { MatchOption result (texts.new ≡ texts.old)
+        (λ put. (text : List ℕ) × IsPut texts.old texts.new at text put.0
+        × BeginsWith (shown_by form) E.well_formed E.units bytes.now text put.1.now) }
 {
-    let mut len = put_text(form, texts, 0, first);
-    let mut rest = following;
-    let mut shown = 0;
-    while len <= TEXTS - 8 && shown < SHOWN {
-        let Some((byte, after)) = split_byte::<E>(rest) else {
-            break;
-        };
-        let end = put_text(form, texts, len, byte);
-        shown = (shown + 1) * usize::from(end == len + 1);
-        len = end;
-        rest = after;
+    if let Some((byte, rest)) = split_byte::<E>(bytes) {
+        return Some((put_text(form, texts, at, byte), rest));
     }
-    (len, rest)
+    match form {
+        Form::Text => put_character(texts, at, bytes),
+        Form::Line => None,
+    }
+}
+
+/// Writes the character at the start from an index on, if it has several bytes and four are left. It
+/// also overwrites up to two bytes after it.
+#[inline(always)]
+fn put_character<'a>(
+    texts: &mut [u8; TEXTS],
+    at: usize,
+    bytes: &'a [u8],
+) -> Option<(usize, &'a [u8])>
+    requires { at + 8 ≤ 104 }
+    ensures { MatchOption result (texts.new ≡ texts.old)
+        (λ put. (c : ℕ) × IsScalar c × (0x80 ≤ c) × (bytes.now ≡ encode_utf8 c ++ put.1.now)
+        × IsPut texts.old texts.new at (encode_utf8 c) put.0) }
+{
+    let four = bytes.first_chunk::<4>()?;
+    let (character, len) = first_char(bytes)?;
+    if (character as u32) < 0x80 {
+        return None;
+    }
+    texts[at..at + 4].copy_from_slice(four);
+    let (_, rest) = bytes.split_at(len);
+    Some((at + len, rest))
 }
 
 /// Writes the text of a byte from an index on, and returns the index after it. It also overwrites up to
 /// seven bytes after it.
 #[inline(always)]
-fn put_text(form: Form, texts: &mut [u8; TEXTS], at: usize, byte: u8) -> usize
+pub(crate) fn put_text(form: Form, texts: &mut [u8; TEXTS], at: usize, byte: u8) -> usize
     requires { at + 8 ≤ 104 }
-    ensures within { result ≤ at + 8 }
-    ensures written { take result texts.new
-        ≡ take at texts.old ++ item_text (byte_item (shown_by form) byte) }
-    ensures utf8 { IsUtf8 (item_text (byte_item (shown_by form) byte)) }
+    ensures { IsPut texts.old texts.new at (item_text (byte_item (shown_by form) byte)) result }
 {
     let word = word_of(form, byte);
     texts[at..at + 8].copy_from_slice(&word.to_le_bytes());
     at + (word / 0x0100_0000_0000_0000) as usize
 }
 
-/// The word of a byte. Where all is shown, a character other than the backslash is its own text.
+/// The word of a byte.
 #[inline(always)]
 fn word_of(form: Form, byte: u8) -> u64
     ensures few { result / 0x0100_0000_0000_0000 ≤ 8 }
@@ -144,10 +166,9 @@ fn word_of(form: Form, byte: u8) -> u64
         ≡ item_text (byte_item (shown_by form) byte) }
     ensures utf8 { IsUtf8 (item_text (byte_item (shown_by form) byte)) }
 {
-    let on_line = WORDS[usize::from(byte / 16)][usize::from(byte % 16)];
-    let is_shown = (byte < 0x80) & (byte != b'\\');
-    match form {
-        Form::Text if is_shown => 0x0100_0000_0000_0000 + u64::from(byte),
-        _ => on_line,
-    }
+    let past = match form {
+        Form::Text => 0,
+        Form::Line => usize::from(byte < 0x80) * 0x100,
+    };
+    WORDS[usize::from(byte) + past]
 }

@@ -42,8 +42,7 @@ impl<'a, E: Platform> Escaped<'a, E> {
 }
 
 impl<'a, E: Platform> fmt::Display for Escaped<'a, E> {
-    ghost use Rattle.std.specs.Prelude.{Some};
-    ghost use Rattle.std.specs.Fmt.{spec_fill, spec_align, spec_width};
+    ghost use Rattle.std.specs.{Prelude.Some, Fmt.spec_fill, Fmt.spec_align, Fmt.spec_width};
     ghost use Rattle.platform_str.specs.Display.{filled};
     ghost use Rattle.os_quote.specs.Escaped.{escaped_text};
 

@@ -1,6 +1,6 @@
 //! The escape of a string, piece by piece, for whatever takes it.
-ghost use Rattle.os_quote.specs.{Sinks.SinkRules, Sinks.Takes, Buffers.text_escape, Buffers.token_of, Escaped.escape_of, Item.item_text, Item.unit_item, Shown.shown_by, Hidden.AreUnchanged, Hidden.IsCutAtToken};
-ghost use Rattle.std.specs.Prelude.{MatchOption};
+ghost use Rattle.os_quote.specs.{Sinks.SinkRules, Sinks.Takes, Sinks.TakesBeginning, Start.byte_item, Buffers.text_escape, Buffers.token_of, Escaped.escape_of, Item.item_text, Item.unit_item, Shown.shown_by, Hidden.AreUnchanged, Hidden.IsCutAtToken};
+ghost use Rattle.std.specs.Prelude.{◌≤◌, ◌++◌, IfOk, MatchOption, length};
 ghost use Rattle.platform_str.specs.Strings.{bytes};
 
 use crate::find_hidden::split_hidden;
@@ -8,7 +8,7 @@ use crate::find_plain::split_plain;
 use crate::find_start::split_text;
 use crate::form::Form;
 use crate::read_token::split_backslash;
-use crate::write_bytes::{TEXTS, put_texts, split_first_byte};
+use crate::write_bytes::{SHOWN, TEXTS, put_next, put_text, split_first_byte};
 use crate::write_token::TokenText;
 use os_str_bytes::{OsStr, Platform};
 use std::fmt;
@@ -74,10 +74,7 @@ fn walk<E: Platform, S: Sink>(form: Form, string: OsStr<'_, E>, sink: &mut S) ->
             sink.take(plain)?;
             rest = following;
         } else if let Some((byte, following)) = split_first_byte::<E>(form, rest) {
-            let mut texts = [0; TEXTS];
-            let (len, after) = put_texts::<E>(form, &mut texts, byte, following);
-            sink.take(unsafe { str::from_utf8_unchecked(&texts[..len]) })?;
-            rest = after;
+            rest = write_bytes::<E, S>(form, byte, following, sink)?;
         } else if let Some((text, following)) = split_text::<E>(rest) {
             write_text(form, text, sink)?;
             rest = following;
@@ -89,6 +86,40 @@ fn walk<E: Platform, S: Sink>(form: Form, string: OsStr<'_, E>, sink: &mut S) ->
         }
     }
     Ok(())
+}
+
+/// Gives it the texts of a byte and of what follows it, collected as long as there is room for one more
+/// and not too many characters in a row are shown as they are. Returns what is left.
+#[inline(always)]
+fn write_bytes<'a, E: Platform, S: Sink>(
+    form: Form,
+    first: u8,
+    following: &'a [u8],
+    sink: &mut S,
+) -> Result<&'a [u8], fmt::Error>
+    requires formed { E.well_formed following.now }
+    requires room { S.rules.has_room sink.old (item_text (byte_item (shown_by form) first)
+        ++ escape_of (shown_by form) E.units following.now) }
+    ensures taken { TakesBeginning S.rules sink.old (item_text (byte_item (shown_by form) first)
+        ++ escape_of (shown_by form) E.units following.now)
+        (λ rest. escape_of (shown_by form) E.units rest.now) result sink.new }
+    ensures rest { IfOk result (λ rest. E.well_formed rest.now
+        × (length rest.now ≤ length following.now)) }
+{
+    let mut texts = [0; TEXTS];
+    let mut len = put_text(form, &mut texts, 0, first);
+    let mut rest = following;
+    let mut shown = 0;
+    while len <= TEXTS - 8 && shown < SHOWN {
+        let Some((end, after)) = put_next::<E>(form, &mut texts, len, rest) else {
+            break;
+        };
+        shown = (shown + 1) * usize::from(texts[len] != b'\\');
+        len = end;
+        rest = after;
+    }
+    sink.take(unsafe { str::from_utf8_unchecked(&texts[..len]) })?;
+    Ok(rest)
 }
 
 /// Gives it a text in a form, piece by piece: what is shown as it is, and the token after it.

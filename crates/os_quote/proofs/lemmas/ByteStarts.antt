@@ -1,10 +1,10 @@
 -- Escapes of strings that begin with a byte that is written by itself.
-use Rattle.os_quote.proofs.Common.{◌≡◌, ℕ, ◌<◌, ◌≤◌, Bool, List, [], ◌∷◌, ◌++◌, length, take, drop, sym, ap, ◌∙◌, arith, length-drop, lt-ltb, le-ltb, ByteUnit, WideUnit, item_text, unit_item, character_item, escape_of}
+use Rattle.os_quote.proofs.Common.{◌≡◌, ℕ, ◌<◌, ◌≤◌, Bool, List, [], ◌∷◌, ◌++◌, length, take, drop, refl, sym, ap, ◌∙◌, subst, arith, append-nil, length-append, length-drop, lt-ltb, le-ltb, AllByRecursion, IsScalar, IsUtf8-encode, chars, chars-nil, chars_past_char, encode_utf8, length-encode, len_utf8_bounds, ByteUnit, WideUnit, IsUnchanged, is_any, item_text, unit_item, character_item, escape_of}
 use Rattle.std.specs.Bool.{if◌then◌else◌}
 use Rattle.os_quote.specs.{Start.BeginsWith, Start.byte_item}
 use Rattle.wtf8_core.specs.{Covered.StartsWithNoCharacter, Boundary.IsBoundary, OccurrenceLaws.OccurrenceLaws}
 use Rattle.platform_str.specs.Laws.{IsFirstUnit}
-use Rattle.os_quote.proofs.lemmas.{Prefixes.ascii_text, Prefixes.ascii_first, Prefixes.rest_formed, FirstUnits.unit_first}
+use Rattle.os_quote.proofs.lemmas.{Prefixes.ascii_text, Prefixes.ascii_first, Prefixes.rest_formed, Prefixes.text_first, FirstUnits.unit_first, Texts.text_escape, Texts.unchanged_text}
 
 module _ {well_formed : List ℕ → Type 0} {units : List ℕ → List ℕ} (occurrence : OccurrenceLaws well_formed units) (shows : ℕ → Bool) where
   pub from_ascii : {bytes rest : List ℕ} {b : ℕ} → well_formed bytes → b < 0x80 → bytes ≡ b ∷ rest → BeginsWith shows well_formed units bytes (item_text (byte_item shows b)) rest
@@ -28,7 +28,19 @@ module _ {well_formed : List ℕ → Type 0} {units : List ℕ → List ℕ} (oc
         escape = unit_first occurrence shows cut_prefix formed uncovered first ∙ ap (λ i. item_text i ++ escape_of shows units (drop n bytes)) item;
       }
 
-  -- the texts of such a byte and of those after it
-  pub texts_first : {bytes following text : List ℕ} (first texts rest : List ℕ) → BeginsWith shows well_formed units bytes first following
-      → first ++ escape_of shows units following ≡ texts ++ escape_of shows units rest → text ≡ texts → escape_of shows units bytes ≡ text ++ escape_of shows units rest
-  texts_first first texts rest begins more is = begins.escape ∙ more ∙ ap (λ t. t ++ escape_of shows units rest) (sym is)
+-- where all is shown, a character past ASCII is its own text
+own_text : (c : ℕ) → IsScalar c → 0x80 ≤ c → text_escape is_any (encode_utf8 c) ≡ encode_utf8 c
+own_text c scalar high =
+    let text = IsUtf8-encode c scalar in
+    let one : chars (encode_utf8 c) ≡ c ∷ [] = chars_past_char (encode_utf8 c) [] c text (sym (append-nil (encode_utf8 c))) ∙ ap (λ x. c ∷ x) chars-nil in
+    unchanged_text is_any (encode_utf8 c) text (subst (AllByRecursion (IsUnchanged is_any)) (sym one) (((λ e. omega (arith, high, e)), refl), tt))
+
+pub from_character : {well_formed : List ℕ → Type 0} {units : List ℕ → List ℕ} → OccurrenceLaws well_formed units → {bytes rest : List ℕ} {c : ℕ} → well_formed bytes → IsScalar c → 0x80 ≤ c → bytes ≡ encode_utf8 c ++ rest
+    → BeginsWith is_any well_formed units bytes (encode_utf8 c) rest
+from_character {units = units} occurrence {bytes} {rest} {c} formed scalar high e =
+    let text = IsUtf8-encode c scalar in
+    record {
+      formed = rest_formed occurrence {text = encode_utf8 c} rest formed text e;
+      shorter = omega (arith, ap length e, length-append (encode_utf8 c) rest, length-encode c, (len_utf8_bounds c).0);
+      escape = text_first occurrence is_any {text = encode_utf8 c} rest text e ∙ ap (λ t. t ++ escape_of is_any units rest) (own_text c scalar high);
+    }

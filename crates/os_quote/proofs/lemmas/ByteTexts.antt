@@ -1,24 +1,20 @@
 -- The words of bytes have their texts.
-use Rattle.os_quote.proofs.Common.{◌≡◌, ℕ, ◌/◌, ◌%◌, ◌<◌, ◌≤◌, Bool, true, false, true≢false, ◌&&◌, eqb, ltb, not, ◌+◌, List, [], ◌∷◌, ◌++◌, length, length-take-le, take, append_assoc, refl, sym, ap, ◌∙◌, subst, arith, and_parts, all_below, each_below, AllByRecursion, IsUtf8, IsUtf8-from_ascii, item_text, shown_by}
+use Rattle.os_quote.proofs.Common.{◌≡◌, ℕ, ◌*◌, ◌/◌, ◌<◌, ◌≤◌, Bool, true, false, true≢false, ◌&&◌, eqb, ltb, ◌+◌, List, [], ◌∷◌, ◌++◌, length, length-take-le, take, append_assoc, refl, sym, ap, ◌∙◌, subst, arith, and_parts, all_below, each_below, AllByRecursion, IsUtf8, IsUtf8-from_ascii, item_text, shown_by}
 use Rattle.std.proofs.lemmas.{Bool.eqb-true, Bool.ltb-true, Slice.take-put_mid, List.take-take}
 use Rattle.std.proofs.Math.Seq.{take-append-add}
 use borrow.Rule.Slice.PartMut.{put_mid}
-use Rattle.std.specs.Prelude.{slice_index_or, nat_lt, nat_eq}
-use Rattle.std.specs.Int.{w64, to_le_bytes}
+use Rattle.std.specs.{Prelude.slice_index_or, Int.w64, Int.to_le_bytes}
+use mir.Val.{bool_byte}
 use Rattle.os_quote.specs.{Start.byte_item, declared.write_bytes.TheConstants.WORDS, declared.form.Form.Form, declared.form.Form.TheVariants.Text, declared.form.Form.TheVariants.Line}
 use Rattle.os_quote.proofs.lemmas.Readings.{ascii_all}
 
-abbrev pub word_at : ℕ → ℕ → ℕ
-word_at i j = slice_index_or (slice_index_or WORDS i []) j 0
+-- how far past a byte its word is: those of ASCII on a line come last
+abbrev pub past : Form → ℕ → ℕ
+past Text b = 0
+past Line b = bool_byte (ltb b 0x80) * 0x100
 
--- whether a form's text of a byte is the byte
-abbrev pub is_own : Form → ℕ → Bool
-is_own Text b = nat_lt b 0x80 && not (nat_eq b 0x5C)
-is_own Line b = false
-
-abbrev word_of : Bool → ℕ → ℕ
-word_of true b = 0x100_0000_0000_0000 + b
-word_of false b = word_at (b / 16) (b % 16)
+abbrev pub word_at : ℕ → ℕ
+word_at i = slice_index_or WORDS i 0
 
 abbrev pub text_of : Form → ℕ → List ℕ
 text_of form b = item_text (byte_item (shown_by form) b)
@@ -48,7 +44,7 @@ all_low (x ∷ xs) e = let both = and_parts (ltb x 128) (are_low xs) e in (ltb-t
 -- whether the word of a byte has its text, which is ASCII
 abbrev has_text : Form → ℕ → Bool
 has_text form b =
-    let word = word_of (is_own form b) b in
+    let word = word_at (b + past form b) in
     let len = word / 0x100_0000_0000_0000 in
     same (take len (to_le_bytes w64 word)) (text_of form b) && (ltb len 9 && are_low (text_of form b))
 
@@ -61,21 +57,14 @@ each_has_text Line = refl
 abbrev pub HasText : List ℕ → ℕ → Type 0
 HasText text word = (word / 0x100_0000_0000_0000 ≤ 8) × (take (word / 0x100_0000_0000_0000) (to_le_bytes w64 word) ≡ text) × IsUtf8 text
 
-module _ (form : Form) (b : ℕ) (byte : b < 256) where
-  has_own_text : HasText (text_of form b) (word_of (is_own form b) b)
-  has_own_text =
-      let word = word_of (is_own form b) b in
-      let len = word / 0x100_0000_0000_0000 in
-      let parts = and_parts (same (take len (to_le_bytes w64 word)) (text_of form b)) (ltb len 9 && are_low (text_of form b)) (each_below (has_text form) 256 b (each_has_text form) byte) in
-      let rest = and_parts (ltb len 9) (are_low (text_of form b)) parts.1 in
-      let few = ltb-true len 9 rest.0 in
-      (omega (arith, few), are_same _ _ parts.0, IsUtf8-from_ascii _ (ascii_all _ (all_low _ rest.1)))
-
-  pub own_has_text : (n : ℕ) → n ≡ b → is_own form b ≡ true → HasText (text_of form b) (0x100_0000_0000_0000 + n)
-  own_has_text n is own = subst (λ m. HasText (text_of form b) (0x100_0000_0000_0000 + m)) (sym is) (subst (λ o. HasText (text_of form b) (word_of o b)) own has_own_text)
-
-  pub word_has_text : (i j : ℕ) → i ≡ b / 16 → j ≡ b % 16 → is_own form b ≡ false → HasText (text_of form b) (word_at i j)
-  word_has_text i j high low other = subst (λ n. HasText (text_of form b) (word_at n j)) (sym high) (subst (λ n. HasText (text_of form b) (word_at (b / 16) n)) (sym low) (subst (λ o. HasText (text_of form b) (word_of o b)) other has_own_text))
+pub word_has_text : (form : Form) (b i : ℕ) → b < 256 → i ≡ b + past form b → HasText (text_of form b) (word_at i)
+word_has_text form b i byte index =
+    let word = word_at (b + past form b) in
+    let len = word / 0x100_0000_0000_0000 in
+    let parts = and_parts (same (take len (to_le_bytes w64 word)) (text_of form b)) (ltb len 9 && are_low (text_of form b)) (each_below (has_text form) 256 b (each_has_text form) byte) in
+    let rest = and_parts (ltb len 9) (are_low (text_of form b)) parts.1 in
+    let few = ltb-true len 9 rest.0 in
+    subst (λ n. HasText (text_of form b) (word_at n)) (sym index) (omega (arith, few), are_same _ _ parts.0, IsUtf8-from_ascii _ (ascii_all _ (all_low _ rest.1)))
 
 -- a word is stored at an index, and what its text doesn't have is written over next
 pub placed : (a ys : List ℕ) (i k n : ℕ) → i + k ≤ length a → length ys ≡ k → n ≤ k → take (i + n) (put_mid i k a ys) ≡ take i a ++ take n ys

@@ -1,5 +1,11 @@
+use Rattle.os_quote.proofs.Common.{◌||◌, not, get_or, and_parts}
+use Rattle.std.proofs.Math.Dec.{leb}
+use Rattle.std.proofs.lemmas.Bool.{leb-true}
 use Rattle.os_quote.proofs.lemmas.FirstUnits.{told_apart}
 use Rattle.os_quote.proofs.find_start.are_apart.Goals as goal
 
-pub returns-then-bytes-ge128 : goal.returns-then-bytes-ge128
-returns-then-bytes-ge128 c = told_apart c.args.bytes.now _ _ c.if-bytes-ge128.true c.is_continuation.ensures.0 c.is_continuation-then-bytes-ge128.ensures.1
+pub returns : goal.returns
+returns c = λ apart.
+    let first = get_or c.args.bytes.now 0 0 in
+    let both = and_parts (leb 0x80 first) (c.is_continuation.result || not c.is_continuation-2.result) apart in
+    told_apart c.args.bytes.now _ _ (leb-true 0x80 first both.0) c.is_continuation.ensures.0 c.is_continuation-2.ensures.1 both.1

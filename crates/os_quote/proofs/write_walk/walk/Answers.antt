@@ -1,7 +1,7 @@
-use Rattle.os_quote.proofs.Common.{◌++◌, ◌∙◌, sym, ap, subst, nil_from_length, eqb-true, escape_of, item_text, item_texts, items_of, shown_by, unit_item}
+use Rattle.os_quote.proofs.Common.{◌++◌, [], ◌∙◌, sym, ap, subst, append-nil, nil_from_length, eqb-true, escape_of, item_text, item_texts, items_of, shown_by, unit_item}
 use Rattle.std.proofs.lemmas.Result.{err_from_is_err_and}
 use Rattle.os_str_ext.proofs.lemmas.FirstChunk.{no_chunks}
-use Rattle.os_quote.proofs.lemmas.{ByteStarts.texts_first, FirstUnits.unit_first, PlainBytes.plain_is_text, Prefixes.plain_first, Prefixes.rest_formed, Prefixes.text_first, Taking.one_taken, Taking.all_taken, Taking.room_left, Taking.none_taken}
+use Rattle.os_quote.proofs.lemmas.{FirstUnits.unit_first, PlainBytes.plain_is_text, Prefixes.plain_first, Prefixes.rest_formed, Prefixes.text_first, Taking.one_taken, Taking.all_taken, Taking.room_left, Taking.none_taken}
 use Rattle.os_quote.proofs.write_walk.walk.Goals as goal
 
 pub take-requires : goal.take-requires
@@ -13,14 +13,18 @@ returns-in_err-take g c = rw (err_from_is_err_and c.from_residual.result c.from_
 pub loop-rest-preserved-in-Some : goal.loop-rest-preserved-in-Some
 loop-rest-preserved-in-Some g c = (rest_formed g.met.E.Platform.occurrence _ c.loop-rest.invariant.0 (plain_is_text _ c.in-Some.ensures.after.plain) c.in-Some.ensures.after.joined, one_taken g.S.Sink.rules c.loop-rest.invariant.1 c.in_ok-take.ensures (plain_first g.met.E.Platform.occurrence c.args.form c.in-Some.ensures.after))
 
-pub take-requires-in-Some-split_first_byte : goal.take-requires-in-Some-split_first_byte
-take-requires-in-Some-split_first_byte g c = room_left g.S.Sink.rules c.loop-rest.invariant.1 _ _ c.requires (texts_first g.met.E.Platform.occurrence (shown_by c.args.form) _ _ _ c.in-Some-split_first_byte.ensures c.put_texts-len.ensures.escape c.from_utf8_unchecked.ensures)
+pub write_bytes-requires : goal.write_bytes-requires
+write_bytes-requires g c =
+    let begins = c.in-Some-split_first_byte.ensures in
+    record { formed = begins.formed; room = room_left g.S.Sink.rules c.loop-rest.invariant.1 _ [] c.requires (begins.escape ∙ sym (append-nil _)) }
 
-pub returns-in_err-take-2 : goal.returns-in_err-take-2
-returns-in_err-take-2 g c = rw (err_from_is_err_and c.from_residual-in_err-take-2.result c.from_residual-in_err-take-2.ensures.1).1 (none_taken g.S.Sink.rules c.loop-rest.invariant.1 _ _ c.in_err-take-2.ensures (texts_first g.met.E.Platform.occurrence (shown_by c.args.form) _ _ _ c.in-Some-split_first_byte.ensures c.put_texts-len.ensures.escape c.from_utf8_unchecked.ensures))
+pub returns-in_err-rest : goal.returns-in_err-rest
+returns-in_err-rest g c = rw (err_from_is_err_and c.from_residual-in_err-rest.result c.from_residual-in_err-rest.ensures.1).1 (none_taken g.S.Sink.rules c.loop-rest.invariant.1 _ [] c.in_err-rest.ensures.taken (c.in-Some-split_first_byte.ensures.escape ∙ sym (append-nil _)))
 
 pub loop-rest-preserved-in-Some-split_first_byte : goal.loop-rest-preserved-in-Some-split_first_byte
-loop-rest-preserved-in-Some-split_first_byte g c = (c.put_texts-len.ensures.formed, one_taken g.S.Sink.rules c.loop-rest.invariant.1 c.in_ok-take-2.ensures (texts_first g.met.E.Platform.occurrence (shown_by c.args.form) _ _ _ c.in-Some-split_first_byte.ensures c.put_texts-len.ensures.escape c.from_utf8_unchecked.ensures))
+loop-rest-preserved-in-Some-split_first_byte g c =
+    let taken = c.in_ok-rest.ensures.taken in
+    (c.in_ok-rest.ensures.rest.0, one_taken g.S.Sink.rules c.loop-rest.invariant.1 taken.1 (c.in-Some-split_first_byte.ensures.escape ∙ taken.2))
 
 pub write_text-requires : goal.write_text-requires
 write_text-requires g c = room_left g.S.Sink.rules c.loop-rest.invariant.1 _ _ c.requires (text_first g.met.E.Platform.occurrence (shown_by c.args.form) _ c.in-Some-split_text.ensures.is_text c.in-Some-split_text.ensures.joined)

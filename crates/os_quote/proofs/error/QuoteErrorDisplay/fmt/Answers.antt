@@ -1,5 +1,4 @@
-use Rattle.std.proofs.Common.{true, refl, sym, ap}
-use Rattle.std.proofs.Output.{has_written_styled_append, has_written_styled_of_eq}
+use Rattle.std.proofs.{Common.true, Common.refl, Common.sym, Common.ap, Output.has_written_styled_append, Output.has_written_styled_of_eq}
 use Rattle.os_quote.specs.ErrorText.{error_text}
 use Rattle.os_quote.proofs.error.QuoteErrorDisplay.fmt.Goals as goal
 

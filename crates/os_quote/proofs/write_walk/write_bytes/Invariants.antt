@@ -1,6 +1,6 @@
 use Rattle.os_quote.proofs.Common.{◌≡◌, ◌++◌, ◌≤◌, length, take, IsUtf8, item_text, escape_of, shown_by}
 use Rattle.os_quote.specs.Start.{byte_item}
-use Rattle.os_quote.proofs.write_bytes.put_texts.Given as goal
+use Rattle.os_quote.proofs.write_walk.write_bytes.Given as goal
 
 abbrev pub invariant-loop-len : goal.invariant-loop-len
 invariant-loop-len g l =
