@@ -205,6 +205,7 @@ fn unit_or_zero(units: &[u16], at: usize) -> u16
 }
 
 /// Writes the bytes of units over others of the same number.
+#[inline(always)]
 pub(crate) fn write_wtf8(units: &[u16], bytes: &mut [u8])
     requires { (string : List ℕ) → HasUnits string units.now → length bytes.old ≡ length string }
     ensures { HasUnits bytes.new units.now }
