@@ -1,8 +1,8 @@
 //! Whether bytes are equal: a pattern's and those at the start or the end of the string.
 ghost use Rattle.std.specs.Prelude.{◌≡◌, ◌+◌, ◌≤◌, ◌↔◌, IsTrue, length, take};
-ghost use Rattle.std.specs.Int.{from_le_bytes, to_le_bytes, w32, w64};
+ghost use Rattle.std.specs.Int.{from_le_bytes, to_le_bytes, w16, w32, w64};
 
-/// Whether two lists of bytes of the same length are equal. With four to 32 bytes, the first ones and
+/// Whether two lists of bytes of the same length are equal. With two to 32 bytes, the first ones and
 /// the last ones are compared as numbers.
 #[inline(always)]
 pub(crate) fn are_same(a: &[u8], b: &[u8]) -> bool
@@ -21,20 +21,6 @@ pub(crate) fn are_same(a: &[u8], b: &[u8]) -> bool
     a == b
 }
 
-/// The same, without a jump for each of the lengths up to three: of one comparison alone it is sooner
-/// there.
-#[inline(always)]
-pub(crate) fn are_same_once(a: &[u8], b: &[u8]) -> bool
-    requires { length a.now ≡ length b.now }
-    ensures { IsTrue result ↔ (a.now ≡ b.now) }
-{
-    if a.is_empty() || 4 <= a.len() {
-        return are_same(a, b);
-    }
-    let (middle, last) = (a.len() / 2, a.len() - 1);
-    (a[0] == b[0]) & (a[middle] == b[middle]) & (a[last] == b[last])
-}
-
 /// The same for up to eight bytes.
 #[inline(always)]
 fn are_same_few(a: &[u8], b: &[u8]) -> bool
@@ -45,14 +31,25 @@ fn are_same_few(a: &[u8], b: &[u8]) -> bool
     if 4 <= a.len() {
         return are_same_by_four(a, b);
     }
-    match (a, b) {
-        ([x], [u]) => x == u,
-        ([x, y], [u, v]) => u16::from_le_bytes([*x, *y]) == u16::from_le_bytes([*u, *v]),
-        ([x, y, z], [u, v, w]) => {
-            u32::from_le_bytes([*x, *y, *z, 0]) == u32::from_le_bytes([*u, *v, *w, 0])
-        }
-        _ => true,
+    if 2 <= a.len() {
+        return are_same_by_two(a, b);
     }
+    a.is_empty() || a[0] == b[0]
+}
+
+/// The same for two to four bytes.
+#[inline(always)]
+fn are_same_by_two(a: &[u8], b: &[u8]) -> bool
+    requires lengths { length a.now ≡ length b.now }
+    requires at_least { 2 ≤ length a.now }
+    requires at_most { length a.now ≤ 4 }
+    ensures { IsTrue result ↔ (a.now ≡ b.now) }
+{
+    let (_, a_suffix) = a.split_at(a.len() - 2);
+    let (_, b_suffix) = b.split_at(b.len() - 2);
+    let has_same_prefix = first_two(a) == first_two(b);
+    let has_same_suffix = first_two(a_suffix) == first_two(b_suffix);
+    has_same_prefix && has_same_suffix
 }
 
 /// The same for four to eight bytes.
@@ -98,6 +95,19 @@ fn are_same_by_sixteen(a: &[u8], b: &[u8]) -> bool
     let (_, a_suffix) = a.split_at(a.len() - 16);
     let (_, b_suffix) = b.split_at(b.len() - 16);
     are_same_by_eight(a_prefix, b_prefix) && are_same_by_eight(a_suffix, b_suffix)
+}
+
+/// The first two bytes as a number, which determines them.
+#[inline(always)]
+fn first_two(bytes: &[u8]) -> u16
+    requires { 2 ≤ length bytes.now }
+    ensures number { result ≡ from_le_bytes w16 (take 2 bytes.now) }
+    ensures written { to_le_bytes w16 result ≡ take 2 bytes.now }
+{
+    match bytes.first_chunk::<2>() {
+        Some(chunk) => u16::from_le_bytes(*chunk),
+        None => 0,
+    }
 }
 
 /// The first four bytes as a number, which determines them.

@@ -4,7 +4,7 @@ ghost use Rattle.wtf8_core.specs.Occurrence.{Finds, IsFirstIndex, IsLastIndex, I
 ghost use Rattle.wtf8_core.specs.Boundary.{IsBoundary};
 ghost use Rattle.os_str_ext.specs.Pieces.{MayBeCutAround};
 
-use crate::compare::are_same_once;
+use crate::compare::are_same;
 use crate::needle::{first_of, last_of};
 use wtf8_core::laws;
 
@@ -41,7 +41,7 @@ pub(crate) fn starts_with(bytes: &[u8], text: &str) -> bool
         return false;
     }
     let (prefix, _) = bytes.split_at(text.len());
-    are_same_once(prefix, text.as_bytes())
+    are_same(prefix, text.as_bytes())
 }
 
 /// Whether the bytes end with the text.
@@ -56,5 +56,5 @@ pub(crate) fn ends_with(bytes: &[u8], text: &str) -> bool
         return false;
     }
     let (_, suffix) = bytes.split_at(bytes.len() - text.len());
-    are_same_once(suffix, text.as_bytes())
+    are_same(suffix, text.as_bytes())
 }

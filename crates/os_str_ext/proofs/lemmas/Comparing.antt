@@ -29,10 +29,3 @@ prefix_fits p s h = let size : length s ≡ length p + length h.rest = ap length
 
 pub end_from_drop : (p s : List ℕ) → drop (length s - length p) s ≡ p → IsSuffix p s
 end_from_drop p s e = record { rest = take (length s - length p) s; joined = sym (take-append-drop (length s - length p) s) ∙ ap (λ x. take (length s - length p) s ++ x) e }
-
--- one to three bytes are equal if the first, the middle one and the last are
-pub same_from_three : (a b : List ℕ) → length a ≡ length b → 1 ≤ length a → length a ≤ 3 → get_or a 0 0 ≡ get_or b 0 0 → get_or a (length a / 2) 0 ≡ get_or b (length a / 2) 0 → get_or a (length a - 1) 0 ≡ get_or b (length a - 1) 0 → a ≡ b
-same_from_three (x ∷ []) (u ∷ []) s some few e f g = ap (λ n. n ∷ []) e
-same_from_three (x ∷ y ∷ []) (u ∷ v ∷ []) s some few e f g = ap (λ n. n ∷ y ∷ []) e ∙ ap (λ n. u ∷ n ∷ []) f
-same_from_three (x ∷ y ∷ z ∷ []) (u ∷ v ∷ w ∷ []) s some few e f g = ap (λ n. n ∷ y ∷ z ∷ []) e ∙ ap (λ n. u ∷ n ∷ z ∷ []) f ∙ ap (λ n. u ∷ v ∷ n ∷ []) g
-same_from_three a b s some few e f g = absurd (omega (arith, s, some, few))

@@ -3,4 +3,4 @@ use Rattle.os_str_ext.proofs.lemmas.{Comparing.prefix_from_take, Searches.cut_af
 use Rattle.os_str_ext.proofs.search.starts_with.Goals as goal
 
 pub returns-clause-edge : goal.returns-clause-edge
-returns-clause-edge c = λ e. cut_after_prefix c.boundaries.ensures.edges _ _ c.utf8.text (prefix_from_take _ _ (sym c.split_at.ensures.front ∙ c.are_same_once.ensures.0 e ∙ c.as_bytes.ensures.value))
+returns-clause-edge c = λ e. cut_after_prefix c.boundaries.ensures.edges _ _ c.utf8.text (prefix_from_take _ _ (sym c.split_at.ensures.front ∙ c.are_same.ensures.0 e ∙ c.as_bytes.ensures.value))
