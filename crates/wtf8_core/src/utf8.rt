@@ -3,8 +3,7 @@
 
 ghost use Rattle.std.specs.Prelude.{◌≡◌, ◌+◌, ◌≤◌, ◌<◌, ◌↔◌, ℕ, MatchOption, MatchResult, IfOk, IsTrue, Some, length, slice_index, take};
 ghost use Rattle.std.specs.Str.{IsUtf8};
-ghost use Rattle.wtf8_core.specs.{EncodedPrefix.KeepsPattern, declared.vectors.Encoding.TheVariants.Utf8, Wtf8.IsWtf8};
-ghost use Rattle.wtf8_core.specs.Utf8.{IsUtf8Fault};
+ghost use Rattle.wtf8_core.specs.{EncodedPrefix.KeepsPattern, declared.vectors.Encoding.TheVariants.Utf8, Wtf8.IsWtf8, Utf8.IsUtf8Fault};
 
 use crate::first_character::len_or_fault;
 use crate::vectors::ascii::{ascii_len_at, is_ascii_at, is_ascii_to_end};
@@ -69,6 +68,7 @@ pub fn utf8_fault(bytes: &[u8]) -> Option<(usize, Option<u8>)>
 ///
 /// assert!(rt; is_utf8(b"a\xC3\xA9") && !is_utf8(b"a\xC3"));
 /// ```
+#[inline(always)]
 pub fn is_utf8(bytes: &[u8]) -> bool
     ensures { IsTrue result ↔ IsUtf8 bytes.now }
 {
