@@ -1,8 +1,7 @@
 //! Borrowed raw strings.
 ghost use Rattle.std.specs.Prelude.{◌≡◌, ◌↔◌, [], length, IsTrue, IsOk, IfOk, MatchOption, MatchResult};
 ghost use Rattle.std.specs.Str.{IsUtf8};
-ghost use Rattle.platform_str.specs.{Strings.bytes, Display.shown_bytes};
-ghost use Rattle.platform_str.specs.Cows.{byte_cow_bytes, cow_bytes, str_cow_bytes};
+ghost use Rattle.platform_str.specs.{Strings.bytes, Display.shown_bytes, Cows.byte_cow_bytes, Cows.cow_bytes, Cows.str_cow_bytes};
 
 use crate::raw_cow::CowRawOsStr;
 use crate::raw_string::RawOsString;

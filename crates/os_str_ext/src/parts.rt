@@ -1,7 +1,6 @@
 //! Parts of strings before, after and between texts.
 ghost use Rattle.std.specs.Prelude.{◌≡◌, ◌<◌, ◌↔◌, IsTrue, length, take, drop};
-ghost use Rattle.wtf8_core.specs.Occurrence.{IsFirstIndex, IsLastIndex, IsPrefix};
-ghost use Rattle.wtf8_core.specs.Boundary.{IsBoundary};
+ghost use Rattle.wtf8_core.specs.{Occurrence.IsFirstIndex, Occurrence.IsLastIndex, Occurrence.IsPrefix, Boundary.IsBoundary};
 ghost use Rattle.os_str_ext.specs.Pieces.{StripsPrefix, StripsSuffix, SplitsOnce, IsStartTrim, IsEndTrim};
 ghost use Rattle.platform_str.specs.Strings.{bytes};
 

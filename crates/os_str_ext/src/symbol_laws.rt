@@ -3,8 +3,7 @@
 //! Each law is the contract of a function that does nothing.
 ghost use Rattle.std.specs.Prelude.{◌≡◌, ◌↔◌, ℕ, List, IsTrue};
 ghost use Rattle.std.specs.List.{flat_map};
-ghost use Rattle.os_str_ext.specs.Symbols.{AreSymbols, symbol_bytes, symbol_fed};
-ghost use Rattle.os_str_ext.specs.declared.symbols.Symbol.{Symbol};
+ghost use Rattle.os_str_ext.specs.{Symbols.AreSymbols, Symbols.symbol_bytes, Symbols.symbol_fed, declared.symbols.Symbol.Symbol};
 
 use crate::symbols::Symbol;
 use platform_str::Platform;

@@ -1,7 +1,6 @@
 //! Values that are borrowed or owned, as std's `Cow`.
 ghost use Rattle.std.specs.Prelude.{◌≡◌, ℕ, List};
-ghost use Rattle.platform_str.specs.Strings.{bytes, path_bytes};
-ghost use Rattle.platform_str.specs.Cows.{cow_bytes, path_cow_bytes, byte_cow_bytes, str_cow_bytes};
+ghost use Rattle.platform_str.specs.{Strings.bytes, Strings.path_bytes, Cows.cow_bytes, Cows.path_cow_bytes, Cows.byte_cow_bytes, Cows.str_cow_bytes};
 
 use crate::os_str::OsStr;
 use crate::os_string::OsString;

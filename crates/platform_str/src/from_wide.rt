@@ -3,8 +3,7 @@
 ghost use Rattle.std.specs.Prelude.{◌≡◌, ◌++◌, ◌+◌, ◌*◌, ◌/◌, ◌≤◌, ◌<◌, ℕ, List, true, leb, take, drop, length, slice_index};
 ghost use Rattle.std.specs.List.{All, count_by, flat_map};
 ghost use Rattle.wtf8_core.specs.{Wtf8.HasUnits, Truncated.IsTruncated};
-ghost use Rattle.platform_str.specs.Bulk.{pairs};
-ghost use Rattle.platform_str.specs.FromWide.{bytes_by_neighbours, bytes_after_first, word_bytes};
+ghost use Rattle.platform_str.specs.{Bulk.pairs, FromWide.bytes_by_neighbours, FromWide.bytes_after_first, FromWide.word_bytes};
 
 use std::simd::prelude::*;
 use wtf8_core::{DecodeWide, first_pair, is_pair, write_form};

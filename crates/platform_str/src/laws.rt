@@ -4,8 +4,7 @@ ghost use Rattle.std.specs.{Cmp.Lexicographic.slice_cmp, Ordering.nat_cmp};
 ghost use Rattle.std.specs.Hash as fed;
 ghost use Rattle.std.specs.{List.All, List.flat_map, Str.IsUtf8, Str.IsValidUpTo};
 ghost use Rattle.wtf8_core.specs.{Byte.IsByte, Byte.IsContinuation, Character.WholeCharacter, Boundary.IsBoundary};
-ghost use Rattle.wtf8_core.specs.Covered.{StartsWithNoCharacter, HasNoCharacter};
-ghost use Rattle.wtf8_core.specs.{PartUnits.unit_bytes, Occurrence.OccursAt, Occurrence.IsPrefix};
+ghost use Rattle.wtf8_core.specs.{Covered.StartsWithNoCharacter, Covered.HasNoCharacter, PartUnits.unit_bytes, Occurrence.OccursAt, Occurrence.IsPrefix};
 ghost use Rattle.wtf8_core.specs.{UnitIndex.IsByteIndex, Join.IsJoin, declared.fault.EncodingError.EncodingError};
 ghost use Rattle.platform_str.specs.{Laws.IsReplaced, PlatformWords.AreWideUnits, Strings.bytes, Strings.string_vec_of};
 

@@ -1,7 +1,6 @@
 //! Strings as paths, borrowed and owned. Paths aren't split into components here.
 ghost use Rattle.std.specs.Prelude.{◌≡◌, []};
-ghost use Rattle.platform_str.specs.Strings.{bytes, path_bytes, string_vec_of, path_vec_of};
-ghost use Rattle.platform_str.specs.{Display.shown_bytes, Cows.IsOwnedPath};
+ghost use Rattle.platform_str.specs.{Strings.bytes, Strings.path_bytes, Strings.string_vec_of, Strings.path_vec_of, Display.shown_bytes, Cows.IsOwnedPath};
 
 use crate::convert::{OsStrBytes, OsStringBytes};
 use crate::cow::{ByteCow, PathCow};

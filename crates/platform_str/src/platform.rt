@@ -3,8 +3,7 @@ ghost use Rattle.std.specs.Prelude.{◌≡◌, ◌<◌, ◌↔◌, ◌++◌, ◌
 ghost use Rattle.std.specs.Str.{IsUtf8};
 ghost use Rattle.wtf8_core.specs.{Covered.StartsWithNoCharacter, Utf8.IsUtf8Fault};
 ghost use Rattle.platform_str.specs.Lossy.{IsFaultPart};
-ghost use Rattle.wtf8_core.specs.{Occurrence.IsPrefix, Occurrence.IsSuffix, OccurrenceLaws.OccurrenceLaws};
-ghost use Rattle.wtf8_core.specs.declared.fault.EncodingError.{EncodingError};
+ghost use Rattle.wtf8_core.specs.{Occurrence.IsPrefix, Occurrence.IsSuffix, OccurrenceLaws.OccurrenceLaws, declared.fault.EncodingError.EncodingError};
 ghost use Rattle.platform_str.specs.Laws.{PlatformLaws, PartLaws, ReadingLaws, IsFirstUnit};
 
 use std::alloc::{AllocError, Allocator};

@@ -2,8 +2,7 @@
 //! in this module; crates above use [`first_char`].
 ghost use Rattle.std.specs.Prelude.{◌≡◌, ◌∷◌, ◌%◌, ◌<◌, ◌≤◌, ℕ, List, IfSome, MatchOption, length};
 ghost use Rattle.std.specs.{Int.is_in_range, Char.encode_utf8, Str.Lossy.second_byte_min, Str.Lossy.second_byte_max};
-ghost use Rattle.wtf8_core.specs.{Byte.IsContinuation, Covered.StartsWithNoCharacter, Utf8.BeginsWith};
-ghost use Rattle.wtf8_core.specs.Character.{IsCharacterAt, IsFirstChar};
+ghost use Rattle.wtf8_core.specs.{Byte.IsContinuation, Covered.StartsWithNoCharacter, Utf8.BeginsWith, Character.IsCharacterAt, Character.IsFirstChar};
 
 use crate::byte::is_continuation;
 use crate::code_points::first_item;

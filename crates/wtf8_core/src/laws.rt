@@ -6,8 +6,7 @@
 #![tactic(auto, using(crate::proofs::lemmas::Laws::laws))]
 
 ghost use Rattle.std.specs.Prelude.{◌≡◌, ◌↔◌, ◌⊎◌, ◌+◌, ◌-◌, ◌<◌, ◌≤◌, ◌^◌, ◌++◌, length, take, drop, map, ℕ, List, Option, Result, IsTrue};
-ghost use Rattle.std.specs.{List.All, Char.encode_utf8, Ordering.nat_cmp, Cmp.Lexicographic.slice_cmp};
-ghost use Rattle.std.specs.{Str.IsUtf8, Str.IsCharBoundary, Str.Lossy.utf8_lossy};
+ghost use Rattle.std.specs.{List.All, Char.encode_utf8, Ordering.nat_cmp, Cmp.Lexicographic.slice_cmp, Str.IsUtf8, Str.IsCharBoundary, Str.Lossy.utf8_lossy};
 ghost use Rattle.wtf8_core.specs.{Byte.IsByte, CodePoint.encode, Checker.IsFaulty, Items.AreItems, Occurrence.OccursAt};
 ghost use Rattle.wtf8_core.specs.{Wtf8.Encodes, Wtf8.IsWtf8, Wtf8.HasUnits, Fault.IsFirstFault, Fault.IsFaultAt};
 ghost use Rattle.wtf8_core.specs.{OccurrenceLaws.OccurrenceLaws, Character.WholeCharacter, Boundary.IsBoundary};
