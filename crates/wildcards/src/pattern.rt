@@ -28,7 +28,24 @@ pub struct Choice<A: Allocator = Global> {
 /// choices.push(Choice { pieces })?;
 /// assert!(rt; matches_choice::<Bytes, _>(options, &choices, b"a/b"));
 /// ```
+#[inline(always)]
 pub fn matches_choice<L: Letters, A: Allocator>(
+    options: Options,
+    choices: &[Choice<A>],
+    path: &[u8],
+) -> bool
+    requires { L.formed path.now }
+    ensures { IsTrue result ↔ MatchesChoice options choices.entry.now (L.letters path.now) }
+{
+    if let [only] = choices {
+        return matches::<L, A>(options, &only.pieces, path);
+    }
+    matches_any::<L, A>(options, choices, path)
+}
+
+/// The same, choice by choice. Most patterns have one, and no loop.
+#[inline(never)]
+fn matches_any<L: Letters, A: Allocator>(
     options: Options,
     choices: &[Choice<A>],
     path: &[u8],
