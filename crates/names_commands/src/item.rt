@@ -1,6 +1,5 @@
 //! What is written for one item.
 ghost use Rattle.std.specs.Prelude.{◌≡◌, ◌≤◌, ◌*◌, ◌++◌, ◌∷◌, [], length, ℕ, List, OnOk, OnErr, IfOk, IfErr};
-ghost use Rattle.os_ignore.specs.Ignores.{files_of};
 ghost use Rattle.os_quote.specs.Escape.{IsLineEscape};
 ghost use Rattle.os_str_bytes.specs.Strings.{bytes};
 ghost use Rattle.os_str_bytes.specs.EncodingError.{EncodingError};
@@ -10,10 +9,8 @@ ghost use Rattle.names_commands.specs.declared.fault.Refusal.TheVariants.{NoStri
 ghost use Rattle.names_commands.specs.declared.task.Task.TheVariants.{Join};
 ghost use Rattle.names_commands.specs.declared.task.LastLine.{LastLine};
 ghost use Rattle.names_commands.specs.Task.{longest_item, rules_of, IsText};
-ghost use Rattle.names_commands.specs.Matching.{matching, IsTextOfMatched};
 
 use crate::fault::Refusal;
-use crate::matching::{Form, Picker};
 use crate::task::{Settings, Task};
 use crate::words::{write_names, write_word};
 use os_quote::{QuoteError, unescape_line};
@@ -56,41 +53,8 @@ pub fn write_item<E: Platform, A: Allocator + Copy>(
     }
 }
 
-/// Appends what is written for a name, where some are picked.
-pub fn write_matching<E: Platform, A: Allocator, B: Allocator + Copy>(
-    alloc: A,
-    picker: &Picker<'_, E, B>,
-    form: Form,
-    item: &[u8],
-    output: &mut Vec<u8, A>,
-) -> Result<(), ItemFault<Refusal>>
-    ensures ok { OnOk result ((text : List ℕ)
-        × (IsTextOfMatched ⟦<E as Platform>⟧ form picker.now.globs
-        (files_of picker.now.ignore.now)
-        item.now text × (output.new.items ≡ output.old.items ++ text))) }
-    ensures fault { (max : ℕ) → IfErr result (λ fault. IsItemFault
-        (matching ⟦<E as Platform>⟧ form max picker.now.globs
-        (files_of picker.now.ignore.now)) item.now
-        fault) }
-    ensures unchanged { OnErr result (output.new.items ≡ output.old.items) }
-{
-    match named::<E>(item) {
-        Ok(name) => {
-            if !picker.picks(name) {
-                return Ok(());
-            }
-            match form {
-                Form::Line => write_line::<E, A>(alloc, name, output),
-                Form::Name => push_name(item, output),
-                Form::Word(form) => write_word(alloc, form, item, output),
-            }
-        }
-        Err(fault) => Err(fault),
-    }
-}
-
 /// The name that an item is.
-fn named<'a, E: Platform>(item: &'a [u8]) -> Result<OsStr<'a, E>, ItemFault<Refusal>>
+pub(crate) fn named<'a, E: Platform>(item: &'a [u8]) -> Result<OsStr<'a, E>, ItemFault<Refusal>>
     ensures bytes { IfOk result (λ name. bytes name ≡ item.now) }
     ensures formed { OnOk result (E.well_formed item.now) }
     ensures fault { IfErr result (λ fault. (error : EncodingError)
@@ -103,7 +67,7 @@ fn named<'a, E: Platform>(item: &'a [u8]) -> Result<OsStr<'a, E>, ItemFault<Refu
 }
 
 /// Appends the escape of a name and a newline.
-fn write_line<E: Platform, A: Allocator>(
+pub(crate) fn write_line<E: Platform, A: Allocator>(
     alloc: A,
     name: OsStr<'_, E>,
     output: &mut Vec<u8, A>,
@@ -120,7 +84,10 @@ fn write_line<E: Platform, A: Allocator>(
 }
 
 /// Appends a name and NUL.
-fn push_name<A: Allocator>(name: &[u8], output: &mut Vec<u8, A>) -> Result<(), ItemFault<Refusal>>
+pub(crate) fn push_name<A: Allocator>(
+    name: &[u8],
+    output: &mut Vec<u8, A>,
+) -> Result<(), ItemFault<Refusal>>
     ensures ok { OnOk result (output.new.items ≡ output.old.items ++ (name.now ++ 0 ∷ [])) }
     ensures fault { IfErr result (λ fault. fault ≡ Memory) }
     ensures unchanged { OnErr result (output.new.items ≡ output.old.items) }

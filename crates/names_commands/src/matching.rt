@@ -1,13 +1,15 @@
 //! Names that are picked.
-ghost use Rattle.std.specs.Prelude.{◌≡◌, ◌↔◌, IsTrue};
+ghost use Rattle.std.specs.Prelude.{◌≡◌, ◌↔◌, ◌++◌, ℕ, List, IfErr, IsTrue, OnErr, OnOk};
+ghost use Rattle.program_frame.specs.Rules.{IsItemFault};
 ghost use Rattle.os_ignore.specs.Ignores.{files_of};
 ghost use Rattle.os_str_bytes.specs.Strings.{bytes};
-ghost use Rattle.names_commands.specs.Matching.{IsChosenBy, IsPickedBy};
+ghost use Rattle.names_commands.specs.Matching.{IsChosenBy, IsPickedBy, IsTextOfMatched, matching};
 
 use crate::fault::Refusal;
 use crate::ignoring::is_ignored;
-use crate::item::write_matching;
+use crate::item::{named, push_name, write_line};
 use crate::task::WordForm;
+use crate::words::write_word;
 use glob_patterns::GlobSet;
 use os_ignore::Ignore;
 use os_str_bytes::{OsStr, Platform};
@@ -106,8 +108,6 @@ impl<'g, E: Platform, A: Allocator> Matching<'g, E, A> {
 }
 
 impl<'g, E: Platform, B: Allocator + Copy> ListTask for Matching<'g, E, B> {
-    ghost use Rattle.names_commands.specs.Matching.{matching};
-
     type Refusal = Refusal;
 
     ghost rules = { λ m. matching ⟦<E as Platform>⟧ m.form m.max m.picker.globs
@@ -136,5 +136,38 @@ impl<'g, E: Platform, B: Allocator + Copy> ListTask for Matching<'g, E, B> {
         output: &mut Vec<u8, A>,
     ) -> Result<(), ItemFault<Refusal>> {
         write_matching::<E, A, B>(alloc, &self.picker, self.form, item, output)
+    }
+}
+
+/// Appends what is written for a name, where some are picked.
+fn write_matching<E: Platform, A: Allocator, B: Allocator + Copy>(
+    alloc: A,
+    picker: &Picker<'_, E, B>,
+    form: Form,
+    item: &[u8],
+    output: &mut Vec<u8, A>,
+) -> Result<(), ItemFault<Refusal>>
+    ensures ok { OnOk result ((text : List ℕ)
+        × (IsTextOfMatched ⟦<E as Platform>⟧ form picker.now.globs
+        (files_of picker.now.ignore.now)
+        item.now text × (output.new.items ≡ output.old.items ++ text))) }
+    ensures fault { (max : ℕ) → IfErr result (λ fault. IsItemFault
+        (matching ⟦<E as Platform>⟧ form max picker.now.globs
+        (files_of picker.now.ignore.now)) item.now
+        fault) }
+    ensures unchanged { OnErr result (output.new.items ≡ output.old.items) }
+{
+    match named::<E>(item) {
+        Ok(name) => {
+            if !picker.picks(name) {
+                return Ok(());
+            }
+            match form {
+                Form::Line => write_line::<E, A>(alloc, name, output),
+                Form::Name => push_name(item, output),
+                Form::Word(form) => write_word(alloc, form, item, output),
+            }
+        }
+        Err(fault) => Err(fault),
     }
 }

@@ -3,7 +3,7 @@ use Rattle.std.proofs.lemmas.Result.{on_ok_weaker}
 use Rattle.os_ignore.specs.Ignores.{files_of}
 use Rattle.os_quote.specs.Escape.{IsLineEscape}
 use Rattle.names_commands.specs.Matching.{IsInForm, IsPickedBy}
-use Rattle.names_commands.proofs.item.write_matching.Goals as goal
+use Rattle.names_commands.proofs.matching.write_matching.Goals as goal
 
 pub returns-then-not-picks-clause-ok : goal.returns-then-not-picks-clause-ok
 returns-then-not-picks-clause-ok g c =
