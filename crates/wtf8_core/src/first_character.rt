@@ -165,7 +165,7 @@ pub(crate) fn len_or_fault(bytes: &[u8]) -> Option<Result<usize, u8>>
 
 /// Whether some character of two to four bytes begins with this byte.
 #[inline(always)]
-fn is_lead(byte: u8) -> bool
+pub(crate) fn is_lead(byte: u8) -> bool
     ensures { result ≡ is_in_range 0xC2 0xF4 byte }
 {
     matches!(byte, 0xC2..=0xF4)

@@ -5,7 +5,8 @@ ghost use Rattle.std.specs.Prelude.{◌≡◌, ◌+◌, ◌≤◌, ◌<◌, ◌�
 ghost use Rattle.std.specs.Str.{IsUtf8};
 ghost use Rattle.wtf8_core.specs.{EncodedPrefix.KeepsPattern, declared.vectors.Encoding.TheVariants.Utf8, Wtf8.IsWtf8, Utf8.IsUtf8Fault};
 
-use crate::first_character::len_or_fault;
+use crate::byte::is_continuation;
+use crate::first_character::{is_lead, len_or_fault};
 use crate::vectors::ascii::{ascii_len_at, is_ascii_at, is_ascii_to_end};
 use crate::vectors::scan::{scan, scan_from, scan_short, scan_steps};
 use crate::vectors::surrogates::text_from;
@@ -109,8 +110,7 @@ pub fn surrogate_fault(bytes: &[u8]) -> Option<(usize, Option<u8>)>
     }
 }
 
-/// The first fault of at most 128 bytes: that of the first character that isn't ASCII, or one that
-/// steps find.
+/// The first fault of at most 128 bytes.
 ///
 /// It isn't inlined: in a loop over the faults of a long string, it is needed only near the end.
 #[inline(never)]
@@ -121,28 +121,32 @@ fn fault_in_short(bytes: &[u8]) -> Option<(usize, Option<u8>)>
     if is_short_ascii(bytes) {
         return None;
     }
-    match after_characters(bytes, short_ascii_len(bytes), 1) {
-        Ok(at) => fault_by_short_steps(bytes, at),
-        Err(fault) => Some(fault),
-    }
-}
-
-/// The first fault of few bytes whose first `at` bytes are UTF-8, by steps.
-#[inline(always)]
-fn fault_by_short_steps(bytes: &[u8], at: usize) -> Option<(usize, Option<u8>)>
-    requires within { at ≤ length bytes.now }
-    requires text { IsUtf8 (take at bytes.now) }
-    ensures { MatchOption result (IsUtf8 bytes.now)
-        (λ fault. IsUtf8Fault bytes.now fault.0 fault.1) }
-{
-    if bytes.len() < BEFORE {
-        return fault_by_characters(bytes, at);
-    }
-    let prefix = scan_short(bytes, at);
+    let prefix = prefix_of_short(bytes);
     if prefix == bytes.len() {
         return None;
     }
     fault_by_characters(bytes, prefix)
+}
+
+/// The length of a prefix of few bytes that is UTF-8: all that steps find, or only the ASCII, if the
+/// two bytes after it begin no character. Then the fault is there, and steps would find no more.
+#[inline(always)]
+fn prefix_of_short(bytes: &[u8]) -> usize
+    ensures within { result ≤ length bytes.now }
+    ensures text { IsUtf8 (take result bytes.now) }
+{
+    if bytes.len() < BEFORE {
+        return 0;
+    }
+    if bytes.len() >= STEP {
+        let ascii = short_ascii_len(bytes);
+        if bytes.len() - ascii > 1
+            && !(is_lead(bytes[ascii]) && is_continuation(bytes[ascii + 1]))
+        {
+            return ascii;
+        }
+    }
+    scan_short(bytes)
 }
 
 /// Whether the bytes are found to be UTF-8 at once, or by steps. That isn't found of more than 128.
@@ -151,7 +155,7 @@ pub(crate) fn is_short_utf8(bytes: &[u8]) -> bool
     ensures { IsTrue result → IsUtf8 bytes.now }
 {
     let len = bytes.len();
-    len <= SHORT && (is_short_ascii(bytes) || BEFORE <= len && scan_short(bytes, 0) == len)
+    len <= SHORT && (is_short_ascii(bytes) || BEFORE <= len && scan_short(bytes) == len)
 }
 
 /// The same as [`is_utf8`], by blocks.

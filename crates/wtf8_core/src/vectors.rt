@@ -18,8 +18,8 @@
 //!    byte that isn't a continuation. After the prefix a few characters are read one by one, and
 //!    finally std's reader continues, or the table or the reader of code points for WTF-8.
 //!
-//! [`utf8_fault`](crate::utf8_fault) expects a fault to be near. Between 1 and 2 it reads the first
-//! character that isn't ASCII. Before 3 it reads up to five characters after the ASCII of the first
+//! [`utf8_fault`](crate::utf8_fault) expects a fault to be near. Between 1 and 2 it looks for one at
+//! the first byte that isn't ASCII. Before 3 it reads up to five characters after the ASCII of the first
 //! step or block, unless that whole block is ASCII, and up to eight steps. WTF-8 is only read by 3
 //! and 4. [`surrogate_fault`](crate::surrogate_fault) asks 1, and then looks for surrogates alone
 //! ([`surrogates`]).

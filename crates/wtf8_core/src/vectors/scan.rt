@@ -147,14 +147,12 @@ pub(crate) fn ends_by_step(bytes: &[u8], at: usize) -> bool
     allowed_in_step(&bytes[len - STEP - BEFORE..]) >= STEP
 }
 
-/// The length of a prefix of few bytes, which keep to the pattern of UTF-8 up to index `at`, that is
-/// UTF-8: all the bytes, or some that end where the next character begins.
+/// The length of a prefix of few bytes that is UTF-8: all the bytes, or some that end where the next
+/// character begins.
 #[tactic(auto, using(crate::proofs::lemmas::vectors::Windows::ends))]
 #[inline(always)]
-pub(crate) fn scan_short(bytes: &[u8], at: usize) -> usize
-    requires from { 4 ≤ length bytes.now }
-    requires within { at ≤ length bytes.now }
-    requires kept { KeepsPattern Utf8 bytes.now at }
+pub(crate) fn scan_short(bytes: &[u8]) -> usize
+    requires { 4 ≤ length bytes.now }
     ensures within { result ≤ length bytes.now }
     ensures prefix { IsEncodedPrefix Utf8 bytes.now result }
 {
@@ -165,7 +163,7 @@ pub(crate) fn scan_short(bytes: &[u8], at: usize) -> usize
         }
         return start_before(bytes, kept);
     }
-    match scan_steps(bytes, at) {
+    match scan_steps(bytes, 0) {
         Ok(end) if ends_by_step(bytes, end) => bytes.len(),
         Ok(end) => start_before(bytes, end),
         Err(prefix) => prefix,

@@ -278,7 +278,7 @@ pub ruleset texts = (text_of_prefix, whole_text, text_keeps, no_pattern)
 
 pub ruleset scanning = (no_pattern, first_step, no_prefix, more_inside, take_rest, near_start, other_lead, by_second)
 
-pub ruleset ends = (past_end, ascii_to_end)
+pub ruleset ends = (no_pattern, past_end, ascii_to_end)
 
 pub ruleset first_ascii = (no_prefix, prefix_keeps, more_ascii)
 
