@@ -1,14 +1,11 @@
 //! Strings of any platform, read as letters.
-ghost use Rattle.std.specs.Prelude.{◌≡◌};
-ghost use Rattle.std.specs.Char.{encode_utf8};
-ghost use Rattle.os_str_ext.specs.Characters.{IsOneCharacter};
 ghost use Rattle.glob_patterns.specs.Letters.{letters_of};
 ghost use Rattle.glob_patterns.specs.Readings.{letter_laws};
 
 use os_str_ext::Platform;
 use std::marker::PhantomData;
 use wildcards::Letters;
-use wtf8_core::char_at;
+use wtf8_core::first_character::first_char;
 
 /// The letters of a string: the code points of its characters and, above them, its units.
 pub struct StringLetters<E: Platform> {
@@ -21,23 +18,14 @@ impl<E: Platform> Letters for StringLetters<E> {
     ghost letters = { letters_of E.units };
 
     fn split_first(bytes: &[u8]) -> (u32, &[u8]) {
-        let Some(size) = char_at(bytes, 0) else {
+        let Some((character, size)) = first_char(bytes) else {
             let (unit, size) = E::first_unit(bytes);
             let (_, rest) = bytes.split_at(size);
             return (0x11_0000 + u32::from(unit), rest);
         };
-        let (first, rest) = bytes.split_at(size);
-        (u32::from(only_char(first)), rest)
+        let (_, rest) = bytes.split_at(size);
+        (u32::from(character), rest)
     }
 
     ghost laws = { letter_laws E.laws E.parts E.occurrence };
-}
-
-/// The character whose form the bytes are.
-fn only_char(bytes: &[u8]) -> char
-    requires { IsOneCharacter bytes.now }
-    ensures { bytes.now ≡ encode_utf8 result }
-{
-    let text = unsafe { str::from_utf8_unchecked(bytes) };
-    text.chars().next().unwrap()
 }

@@ -184,6 +184,9 @@ fn own<A: Allocator>(files: &[File<A>], path: &[u8], is_dir: bool) -> Verdict
 pub fn decide<A: Allocator>(files: &[File<A>], path: &[u8], is_dir: bool) -> Verdict
     ensures { IsVerdict files.now path.now is_dir result }
 {
+    if files.is_empty() {
+        return Verdict::Neither;
+    }
     for (at, byte) in path.iter().enumerate() {
         if *byte == b'/' {
             let above = own(files, &path[..at], true);

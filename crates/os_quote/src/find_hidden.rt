@@ -11,7 +11,8 @@ use crate::form::stays_on_line;
 use wtf8_core::vectors::window::put_in_zeros;
 
 /// What comes before the first character that is written as a token, that character, and what comes
-/// after it. Most often it is the first that isn't plain.
+/// after it. Most often it is the first that isn't plain. A text that was cut after plain bytes begins
+/// with none.
 pub(crate) fn split_hidden(text: &str) -> Option<(&str, char, &str)>
     ensures { MatchOption result (AreUnchanged stays_on_line text.now)
         (λ parts. IsCutAtToken stays_on_line text.now parts.0.now parts.1 parts.2.now) }

@@ -6,7 +6,8 @@ ghost use Rattle.os_quote.specs.Start.{IsCutAfterText};
 use os_str_bytes::Platform;
 use wtf8_core::is_continuation;
 
-/// The text at the start, and the bytes after it; `None` if no whole character starts there.
+/// The text at the start, and the bytes after it; `None` if no whole character starts there. Its first
+/// character was read before, to tell that it isn't a byte that is written by itself.
 #[inline(always)]
 pub(crate) fn split_text<E: Platform>(bytes: &[u8]) -> Option<(&str, &[u8])>
     requires formed { E.well_formed bytes.now }
@@ -14,9 +15,6 @@ pub(crate) fn split_text<E: Platform>(bytes: &[u8]) -> Option<(&str, &[u8])>
     ensures { MatchOption result (StartsWithNoCharacter bytes.now)
         (λ parts. IsCutAfterText bytes.now parts.0.now parts.1.now) }
 {
-    if are_apart(bytes) {
-        return None;
-    }
     let len = match E::utf8_fault(bytes) {
         Some((valid_up_to, _)) => valid_up_to,
         None => bytes.len(),

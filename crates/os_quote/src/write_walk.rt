@@ -79,6 +79,7 @@ fn walk<E: Platform, S: Sink>(form: Form, string: OsStr<'_, E>, sink: &mut S) ->
             write_text(form, text, sink)?;
             rest = following;
         } else {
+            // its number was asked before, whether it is one byte
             let (unit, size) = E::first_unit(rest);
             write_unit(unit, sink)?;
             let (_, following) = rest.split_at(size);
@@ -89,7 +90,8 @@ fn walk<E: Platform, S: Sink>(form: Form, string: OsStr<'_, E>, sink: &mut S) ->
 }
 
 /// Gives it the texts of a byte and of what follows it, collected as long as there is room for one more
-/// and not too many characters in a row are shown as they are. Returns what is left.
+/// and not too many characters in a row are shown as they are. Returns what is left, whose first
+/// character [`walk`] asks again.
 #[inline(always)]
 fn write_bytes<'a, E: Platform, S: Sink>(
     form: Form,

@@ -119,6 +119,7 @@ impl Pattern for char {
         let text = self.encode_utf8(&mut scratch).as_bytes();
         let length = text.len();
         let mut buffer = [0; 4];
+        // copied, since `encode_utf8` doesn't say what it leaves in its buffer
         buffer[..length].copy_from_slice(text);
         EncodedChar { buffer, length }
     }

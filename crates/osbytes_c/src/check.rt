@@ -44,7 +44,8 @@ pub(crate) fn check_wtf8(bytes: &[u8], fault: &mut Fault) -> u32
     }
 }
 
-/// Reports the first fault of bytes that aren't WTF-8.
+/// Reports the first fault of bytes that aren't WTF-8. They are read a second time, since a check tells
+/// no index.
 pub(crate) fn report_wtf8(bytes: &[u8], error: EncodingError, fault: &mut Fault)
     requires { HasFirstFault bytes.now error }
     ensures { IsWtf8Report bytes.now fault.new }

@@ -63,6 +63,7 @@ impl Platform for Windows {
 
     ghost readings = { windows_readings };
 
+    // a whole string is one piece
     fn check(bytes: &[u8]) -> Result<(), EncodingError> {
         let mut checker = Checker::new();
         checker.feed(bytes)?;

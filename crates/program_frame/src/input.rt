@@ -8,7 +8,7 @@ use crate::marked::Marked;
 use std::alloc::Allocator;
 use std::io::Read;
 
-/// All that the reader has left, read in blocks.
+/// All that the reader has left, read in blocks, each of which is copied.
 ///
 /// # Errors
 ///

@@ -2,8 +2,10 @@
 //!
 //! What is done with each item is a [`task::ListTask`]; [`run::run`] reads the list and writes what its
 //! items become. Where it ends early, a [`fault::ListFault`] says why, and with the number of which item.
-//! A program for lists is a [`program::ListProgram`], which [`program::execute`] runs.
+//! A program for lists is a [`program::ListProgram`], which [`program::execute`] runs; it answers with
+//! what [`answers`] has.
 
+pub mod answers;
 pub mod fault;
 pub mod items;
 pub mod lines;

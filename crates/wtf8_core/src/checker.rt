@@ -250,7 +250,7 @@ fn read_bytes(state: State, bits: u32, bytes: &[u8]) -> Result<(State, u32), Enc
 }
 
 /// The same where no sequence is open and no high surrogate comes directly before: a prefix that is
-/// WTF-8 is read with vectors.
+/// WTF-8 is read with vectors. A text, too, is asked for a surrogate at its end.
 #[inline(always)]
 fn read_between(bits: u32, bytes: &[u8]) -> Result<(State, u32), EncodingError>
     ensures { (fed : List ℕ) → IsInState Between bits fed
@@ -266,7 +266,8 @@ fn read_between(bits: u32, bytes: &[u8]) -> Result<(State, u32), EncodingError>
     }
 }
 
-/// The length of a prefix that is WTF-8: all of a short text, or what blocks find.
+/// The length of a prefix that is WTF-8: all of a short text, or what blocks find. A short piece with
+/// a surrogate is read twice, by steps up to it and then by blocks.
 #[tactic(auto, using(crate::proofs::lemmas::vectors::Windows::whole_prefixes))]
 #[inline(always)]
 fn prefix_of_piece(bytes: &[u8]) -> usize

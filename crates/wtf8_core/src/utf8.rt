@@ -100,6 +100,7 @@ pub fn surrogate_fault(bytes: &[u8]) -> Option<(usize, Option<u8>)>
     if is_short_ascii(bytes) {
         return None;
     }
+    // `memchr` begins at the first byte again
     let ascii = short_ascii_len(bytes);
     if ascii < bytes.len() && bytes[ascii] == 0xED {
         return fault_by_characters(bytes, ascii);
@@ -112,7 +113,10 @@ pub fn surrogate_fault(bytes: &[u8]) -> Option<(usize, Option<u8>)>
 
 /// The first fault of at most 128 bytes.
 ///
-/// It isn't inlined: in a loop over the faults of a long string, it is needed only near the end.
+/// Names of ASCII are told by both ends, else the first other byte is looked for from the start.
+///
+/// It isn't inlined: in a loop over the faults of a long string, it is needed only near the end,
+/// where each call asks what is left anew.
 #[inline(never)]
 fn fault_in_short(bytes: &[u8]) -> Option<(usize, Option<u8>)>
     ensures { MatchOption result (IsUtf8 bytes.now)

@@ -2,7 +2,7 @@
 //!
 //! No public contract names anything in this module. [`lanes`] has each operation on lanes once,
 //! [`ascii`] what is asked about ASCII, and [`window`] the copy of a few bytes with zeros around
-//! them: crates above use these three. The ways in, in the order that
+//! them: crates above use the first and the last of these. The ways in, in the order that
 //! [`utf8_fault`](crate::utf8_fault), [`is_utf8`](crate::is_utf8) and a piece of a
 //! [`Checker`](crate::Checker) share:
 //!
@@ -21,8 +21,8 @@
 //! [`utf8_fault`](crate::utf8_fault) expects a fault to be near. Between 1 and 2 it looks for one at
 //! the first byte that isn't ASCII. Before 3 it reads up to five characters after the ASCII of the first
 //! step or block, unless that whole block is ASCII, and up to eight steps. WTF-8 is only read by 3
-//! and 4. [`surrogate_fault`](crate::surrogate_fault) asks 1, and then looks for surrogates alone
-//! ([`surrogates`]).
+//! and 4. [`surrogate_fault`](crate::surrogate_fault) asks 1, then the first byte of a short string
+//! that isn't ASCII, and then looks for surrogates alone ([`surrogates`]).
 
 pub mod ascii;
 pub(crate) mod error_bits;

@@ -42,6 +42,7 @@ pub fn wtf8_fault(bytes: &[u8]) -> Option<(usize, usize)>
             Err(_) => return Some((bytes.len() - rest.len(), rest.len() - after.len())),
         }
     }
+    // vectors begin at the first byte again
     let prefix = scan(bytes, Encoding::Wtf8);
     let (_, rest) = bytes.split_at(prefix);
     fault_in_rest(bytes, ends_with_high_surrogate(bytes, prefix), rest)

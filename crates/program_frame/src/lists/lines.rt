@@ -11,6 +11,9 @@ use std::alloc::{AllocError, Allocator};
 
 /// Appends the escape of a string and a newline.
 ///
+/// A string that isn't plain is looked at again from its start. Its escape is made in memory of its own
+/// and copied.
+///
 /// # Errors
 ///
 /// `AllocError` where memory was refused; then the output is as it was.

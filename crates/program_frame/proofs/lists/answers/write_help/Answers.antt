@@ -3,7 +3,7 @@ use Rattle.std.specs.Io.KnownBytes.{Appends}
 use Rattle.program_frame.specs.Marked.{marked_inner}
 use Rattle.program_frame.specs.Written.{AppendsBeginning}
 use Rattle.program_frame.proofs.lemmas.lists.Runs.{no_err}
-use Rattle.program_frame.proofs.lists.program.write_help.Goals as goal
+use Rattle.program_frame.proofs.lists.answers.write_help.Goals as goal
 
 pub returns-in-Ok-clause-help : goal.returns-in-Ok-clause-help
 returns-in-Ok-clause-help g c =

@@ -1,7 +1,7 @@
 use Rattle.std.proofs.Common.{sym, ap}
 use Rattle.program_frame.specs.ListRun.{answer_of}
 use Rattle.program_frame.specs.declared.lists.program_fault.Fault.TheVariants.{List as OfList}
-use Rattle.program_frame.proofs.lists.program.run_list.Goals as goal
+use Rattle.program_frame.proofs.lists.answers.run_list.Goals as goal
 
 pub returns-in-Ok-clause-run : goal.returns-in-Ok-clause-run
 returns-in-Ok-clause-run g c = (

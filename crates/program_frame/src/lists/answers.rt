@@ -1,0 +1,92 @@
+//! What a program for lists answers with: the run over a list, and a text such as its help.
+ghost use Rattle.std.specs.Prelude.{◌≡◌, ◌≢◌, ◌↔◌, true, false, Err};
+ghost use Rattle.program_frame.specs.ListRun.{Runs};
+ghost use Rattle.program_frame.specs.Marked.{marked_inner, has_failed};
+ghost use Rattle.program_frame.specs.Written.{WritesText};
+ghost use Rattle.program_frame.specs.declared.fault.Failure.{Failure};
+ghost use Rattle.program_frame.specs.declared.lists.fault.ListFault.{ListFault};
+ghost use Rattle.program_frame.specs.declared.lists.program_fault.Fault.TheVariants.{List as OfList};
+
+use crate::fault::Failure;
+use crate::lists::fault::ListFault;
+use crate::lists::program_fault::Fault;
+use crate::lists::run::run;
+use crate::lists::task::ListTask;
+use crate::marked::Marked;
+use crate::writing::write_out;
+use std::alloc::Allocator;
+use std::io::{Read, Write};
+
+/// The answer of the run over a list, as a program gives it. Both marks must be unset
+/// ([`Marked::failed`] tells).
+///
+/// # Errors
+///
+/// [`Fault::List`] with what [`run`] answers.
+///
+/// ```
+/// use names_commands::fault::Fault;
+/// use names_commands::task::{OnPlatform, Settings, Task};
+/// use os_str_bytes::Unix;
+/// use program_frame::lists::answers::run_list;
+/// use program_frame::marked::Marked;
+///
+/// let mut taken = Vec::new(alloc);
+/// let (mut reader, mut writer) = (Marked::new(b"a\0".as_slice()), Marked::new(&mut taken));
+/// let listing = OnPlatform::<Unix>::new(Settings { task: Task::ListAll, max: 255 });
+/// let ended: Result<(), Fault> = run_list(alloc, &listing, &mut reader, &mut writer);
+/// assert!(rt; ended == Ok(()));
+/// assert_eq!(rt; taken.as_slice(), b"a\n".as_slice());
+/// ```
+pub fn run_list<T: ListTask, U, A: Allocator, R: Read, W: Write>(
+    alloc: A,
+    task: &T,
+    reader: &mut Marked<R>,
+    writer: &mut Marked<W>,
+) -> Result<(), Fault<T::Refusal, U>>
+    requires reader_unmarked { has_failed reader.old ≡ false }
+    requires writer_unmarked { has_failed writer.old ≡ false }
+    ensures run { Runs (T.rules task.now) OfList (R.remaining (marked_inner reader.old))
+        (R.remaining (marked_inner reader.new)) (W.contents (marked_inner writer.old))
+        (W.contents (marked_inner writer.new)) result }
+    ensures read { (result ≡ Err (Fault.List (ListFault.Run Failure.Read)))
+        ↔ (has_failed reader.new ≡ true) }
+    ensures write { (result ≡ Err (Fault.List (ListFault.Run Failure.Write)))
+        ↔ (has_failed writer.new ≡ true) }
+{
+    match run(alloc, task, reader, writer) {
+        Ok(()) => Ok(()),
+        Err(fault) => Err(Fault::List(fault)),
+    }
+}
+
+/// Writes a text, such as a program's help. The mark must be unset ([`Marked::failed`] tells).
+///
+/// # Errors
+///
+/// [`Fault::List`] with `Run(Write)` where a write or the flush failed. A beginning of the text was
+/// written then.
+///
+/// ```
+/// use paths_commands::fault::Fault;
+/// use program_frame::lists::answers::write_help;
+/// use program_frame::marked::Marked;
+///
+/// let mut taken = Vec::new(alloc);
+/// let answer: Result<(), Fault> = write_help("help\n", &mut Marked::new(&mut taken));
+/// assert!(rt; answer == Ok(()));
+/// assert_eq!(rt; taken.as_slice(), b"help\n".as_slice());
+/// ```
+pub fn write_help<F, U, W: Write>(text: &str, writer: &mut Marked<W>) -> Result<(), Fault<F, U>>
+    requires { has_failed writer.old ≡ false }
+    ensures help { WritesText text.now (OfList (ListFault.Run Failure.Write))
+        (W.contents (marked_inner writer.old)) (W.contents (marked_inner writer.new)) result }
+    ensures no_read { result ≢ Err (Fault.List (ListFault.Run Failure.Read)) }
+    ensures write { (result ≡ Err (Fault.List (ListFault.Run Failure.Write)))
+        ↔ (has_failed writer.new ≡ true) }
+{
+    match write_out(writer, text.as_bytes()) {
+        Ok(()) => Ok(()),
+        Err(_) => Err(Fault::List(ListFault::Run(Failure::Write))),
+    }
+}
