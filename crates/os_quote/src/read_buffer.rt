@@ -1,8 +1,7 @@
 //! Strings written into a buffer, from escapes, which may not be UTF-8.
 ghost use Rattle.std.specs.Prelude.{◌≡◌, ◌≢◌, ◌≤◌, length, IfOk, IfErr, IfSome, MatchOption, MatchResult};
 ghost use Rattle.std.specs.Str.{IsUtf8};
-ghost use Rattle.os_quote.specs.{Shown.shown_by, declared.error.QuoteError.TheVariants.Memory, Reading.HasNoBackslash};
-ghost use Rattle.os_quote.specs.{Escape.IsQuoteFault, Escape.IsLineFault, Escape.IsQuoteFaultBy, Unescaped.IsUnescaped, Unescaped.IsLineUnescaped, Unescaped.IsUnescapedBy, Unescaped.AreReadBy};
+ghost use Rattle.os_quote.specs.{Shown.shown_by, declared.error.QuoteError.TheVariants.Memory, Reading.HasNoBackslash, Escape.IsQuoteFault, Escape.IsLineFault, Escape.IsQuoteFaultBy, Unescaped.IsUnescaped, Unescaped.IsLineUnescaped, Unescaped.IsUnescapedBy, Unescaped.AreReadBy};
 
 use crate::error::QuoteError;
 use crate::find_plain::are_plain;

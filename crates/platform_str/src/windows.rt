@@ -1,10 +1,9 @@
 //! The strings of Windows: any 16-bit units (RFC 2781), stored as WTF-8.
 ghost use Rattle.std.specs.Str.{IsUtf8};
-ghost use Rattle.wtf8_core.specs.{Wtf8.IsWtf8, UnitsOf.units_of, UnitsOf.wtf8_lossy};
+ghost use Rattle.wtf8_core.specs.{Wtf8.IsWtf8, UnitsOf.units_of, UnitsOf.wtf8_lossy, Checker.HasFirstFault, PartUnits.AreLoneSurrogates, LossyReading.IsLossyReading};
 ghost use Rattle.wtf8_core.proofs.lemmas.{forms.Propositions.wtf8_prop, occurrence.Wtf8.wtf8_occurrence};
 ghost use Rattle.platform_str.specs.PlatformWords.{AreWideUnits, IsThree};
 ghost use Rattle.platform_str.specs.platforms.Windows.{windows_laws, windows_parts, windows_readings};
-ghost use Rattle.wtf8_core.specs.{Checker.HasFirstFault, PartUnits.AreLoneSurrogates, LossyReading.IsLossyReading};
 
 use crate::join::push_wtf8;
 use crate::platform::{Platform, Windows};

@@ -3,8 +3,7 @@
 
 ghost use Rattle.std.specs.Prelude.{◌≡◌, ℕ, ◌<◌, ◌≤◌, ◌∷◌, ◌++◌, List, [], length, MatchOption, MatchResult};
 ghost use Rattle.wtf8_core.specs.Checker.{IsInState, Describes, IsFaulty, OnlyEnds, HasFirstFault, fault_at, is_between, is_plain, saved_progress};
-ghost use Rattle.wtf8_core.specs.{Wtf8.IsWtf8, EncodedPrefix.IsEncodedPrefix, declared.table.State.TheVariants.Between};
-ghost use Rattle.wtf8_core.specs.declared.vectors.Encoding.TheVariants.{Wtf8};
+ghost use Rattle.wtf8_core.specs.{Wtf8.IsWtf8, EncodedPrefix.IsEncodedPrefix, declared.table.State.TheVariants.Between, declared.vectors.Encoding.TheVariants.Wtf8};
 
 use crate::byte::is_continuation;
 use crate::fault::EncodingError;

@@ -2,8 +2,7 @@
 //! with the [`BEFORE`](crate::vectors::BEFORE) bytes before it.
 ghost use Rattle.std.specs.Prelude.{◌≡◌, ◌≢◌, ℕ, ◌+◌, ◌-◌, ◌≤◌, ◌<◌, length, slice_index, bit_and, bit_or, bit_xor};
 ghost use Rattle.wtf8_core.specs.PairBits.{continuation_due, error_bits, pair_bits, surrogate_pair_difference};
-ghost use Rattle.wtf8_core.specs.{EncodedPrefix.with_zeros_before, Neighbours.EachMayFollow};
-ghost use Rattle.wtf8_core.specs.declared.vectors.Encoding.TheVariants.{Utf8, Wtf8};
+ghost use Rattle.wtf8_core.specs.{EncodedPrefix.with_zeros_before, Neighbours.EachMayFollow, declared.vectors.Encoding.TheVariants.Utf8, declared.vectors.Encoding.TheVariants.Wtf8};
 
 use crate::four_copies;
 use crate::vectors::lanes::{

@@ -6,9 +6,7 @@
 
 ghost use Rattle.std.specs.Prelude.{◌≡◌, ◌∷◌, ℕ, suc, ◌+◌, ◌-◌, ◌≤◌, ◌<◌, length, IsTrue, MatchResult, slice_index};
 ghost use Rattle.std.specs.Int.{is_in_range};
-ghost use Rattle.wtf8_core.specs.{Wtf8.last_or, Surrogate.is_high, declared.vectors.Encoding.Encoding};
-ghost use Rattle.wtf8_core.specs.declared.vectors.Encoding.TheVariants.{Utf8, Wtf8};
-ghost use Rattle.wtf8_core.specs.{EncodedPrefix.IsEncodedPrefix, EncodedPrefix.KeepsPattern, Neighbours.IsClosed};
+ghost use Rattle.wtf8_core.specs.{Wtf8.last_or, Surrogate.is_high, declared.vectors.Encoding.Encoding, declared.vectors.Encoding.TheVariants.Utf8, declared.vectors.Encoding.TheVariants.Wtf8, EncodedPrefix.IsEncodedPrefix, EncodedPrefix.KeepsPattern, Neighbours.IsClosed};
 
 use crate::byte::is_continuation;
 use crate::vectors::ascii::{is_ascii_at, is_ascii_to_end};
