@@ -1,4 +1,4 @@
-use Rattle.std.proofs.Common.{rules, ◌≡◌, ◌+◌, ◌∙◌, sym, subst, arith}
+use Rattle.std.proofs.Common.{rules, ◌≡◌, ◌+◌, sym, subst, arith}
 use Rattle.wtf8_core.specs.Character.{WholeCharacter}
 use Rattle.glob_patterns.specs.Letters.{letters_of}
 use Rattle.wildcards.specs.Reading.{IsFirstLetter}
@@ -22,4 +22,4 @@ returns g c =
     let formed = g.E.Platform.well_formed in
     let units = g.E.Platform.units in
     subst (λ letter. IsFirstLetter formed (letters_of units) s letter c.split_at-2.result.1.now) (sym c.from-2.ensures)
-    (character_first formed units g.met.E.Platform.occurrence g.met.E.Platform.laws.cut_suffix s _ c.in-Some.size _ c.requires.formed (subst (WholeCharacter s 0) (let q : 0 + c.in-Some.size ≡ c.in-Some.size = omega arith in q) c.in-Some.ensures) (search rules) (sym c.split_at-2.ensures.front ∙ c.only_char.ensures) c.split_at-2.ensures.back)
+    (character_first formed units g.met.E.Platform.occurrence g.met.E.Platform.laws.cut_suffix s _ c.in-Some.size _ c.requires.formed (subst (WholeCharacter s 0) (let q : 0 + c.in-Some.size ≡ c.in-Some.size = omega arith in q) c.in-Some.ensures.0) (search rules) c.in-Some.ensures.1 c.split_at-2.ensures.back)
