@@ -11,11 +11,11 @@ use wtf8_core::vectors::window::put_in_zeros;
 /// The longest needle that is searched for by two of its bytes, or by its last byte alone.
 const LONGEST: usize = 32;
 
-/// In longer strings two bytes of a needle are chosen that are rare, which takes some 15 ns.
-const FEW: usize = 128;
-
 /// In longer strings the time that `memmem` takes to prepare for a needle pays off.
-const SHORT: usize = 1024;
+const SHORT: usize = 160;
+
+/// The same for a needle of two bytes, which occurs wherever they do.
+const SHORT_FOR_TWO: usize = 1024;
 
 /// With so many bytes a search for two of them that are up to three apart reads whole vectors.
 const ENOUGH: usize = 35;
@@ -88,7 +88,12 @@ fn first_byte(byte: u8, bytes: &[u8]) -> Option<usize>
 fn first_by_pair(bytes: &[u8], needle: &[u8]) -> Option<usize>
     ensures { FindsNeedle bytes.now needle.now 0 result }
 {
-    if needle.len() < 2 || LONGEST < needle.len() || SHORT < bytes.len() {
+    let short = if needle.len() == 2 {
+        SHORT_FOR_TWO
+    } else {
+        SHORT
+    };
+    if needle.len() < 2 || LONGEST < needle.len() || short < bytes.len() {
         return first_by_memmem(bytes, needle);
     }
     if bytes.len() < needle.len() {
@@ -96,9 +101,6 @@ fn first_by_pair(bytes: &[u8], needle: &[u8]) -> Option<usize>
     }
     if occurs_at(bytes, needle, 0) {
         return Some(0);
-    }
-    if FEW < bytes.len() {
-        return first_by_rarest(bytes, needle);
     }
     first_in_short(bytes, needle)
 }
@@ -112,17 +114,6 @@ fn first_by_memmem(bytes: &[u8], needle: &[u8]) -> Option<usize>
         return Some(0);
     }
     memmem::find(bytes, needle)
-}
-
-/// The index of the first occurrence of a needle, by the two of its bytes that are rarest in most texts.
-#[inline(never)]
-fn first_by_rarest(bytes: &[u8], needle: &[u8]) -> Option<usize>
-    ensures { FindsNeedle bytes.now needle.now 0 result }
-{
-    match Finder::new(needle) {
-        Some(finder) => first_in_copy(&finder, bytes, bytes, needle),
-        None => memmem::find(bytes, needle),
-    }
 }
 
 /// The index of the first occurrence of a needle in a short string, by two of the needle's bytes.
