@@ -159,8 +159,8 @@ fn pair_of(needle: &[u8]) -> Option<Pair>
 }
 
 /// The index of the first occurrence of a needle, by a copy of the bytes, which may go on after them.
-/// The needle is compared where its pair of bytes occurs, at index 0 a second time. After four such indices where it doesn't
-/// occur, `memmem` searches for it.
+/// The needle is compared where its pair of bytes occurs, at index 0 a second time. After four such
+/// indices where it doesn't occur, `memmem` searches for it.
 #[inline(always)]
 fn first_in_copy(finder: &Finder, bytes: &[u8], copy: &[u8], needle: &[u8]) -> Option<usize>
     requires finder { IsPairFinderOf finder.now needle.now }

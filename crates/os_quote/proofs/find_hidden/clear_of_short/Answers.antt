@@ -1,6 +1,5 @@
 use Rattle.wtf8_core.proofs.lemmas.vectors.Windows.{from_start, zeros}
-use Rattle.os_quote.proofs.Common.{arith}
-use Rattle.os_quote.proofs.lemmas.Suspects.{in_copy}
+use Rattle.os_quote.proofs.{Common.arith, lemmas.Suspects.in_copy}
 use Rattle.os_quote.proofs.find_hidden.clear_of_short.Goals as goal
 
 pub put_in_zeros-requires-clause-zeros : goal.put_in_zeros-requires-clause-zeros

@@ -1,5 +1,4 @@
-use Rattle.os_quote.proofs.Common.{arith}
-use Rattle.os_quote.proofs.lemmas.Suspects.{some_more, one_more}
+use Rattle.os_quote.proofs.{Common.arith, lemmas.Suspects.some_more, lemmas.Suspects.one_more}
 use Rattle.os_quote.proofs.find_hidden.later_suspect.Goals as goal
 
 pub loop-at-init : goal.loop-at-init

@@ -1,5 +1,4 @@
-use Rattle.os_quote.proofs.Common.{arith}
-use Rattle.os_quote.proofs.lemmas.PlainBytes.{more_plain}
+use Rattle.os_quote.proofs.{Common.arith, lemmas.PlainBytes.more_plain}
 use Rattle.os_quote.proofs.find_plain.plain_end.Goals as goal
 
 pub returns-then-len-lt-LANES : goal.returns-then-len-lt-LANES

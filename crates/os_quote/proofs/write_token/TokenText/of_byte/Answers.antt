@@ -1,5 +1,4 @@
-use Rattle.os_quote.proofs.Common.{arith}
-use Rattle.os_quote.proofs.lemmas.TokenTexts.{byte_text, byte_is_text}
+use Rattle.os_quote.proofs.{Common.arith, lemmas.TokenTexts.byte_text, lemmas.TokenTexts.byte_is_text}
 use Rattle.os_quote.proofs.write_token.TokenText.of_byte.Goals as goal
 
 pub invariant_of-result : goal.invariant_of-result

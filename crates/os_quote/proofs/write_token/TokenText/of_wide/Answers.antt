@@ -1,5 +1,4 @@
-use Rattle.os_quote.proofs.Common.{arith}
-use Rattle.os_quote.proofs.lemmas.TokenTexts.{wide_text, wide_is_text}
+use Rattle.os_quote.proofs.{Common.arith, lemmas.TokenTexts.wide_text, lemmas.TokenTexts.wide_is_text}
 use Rattle.os_quote.proofs.write_token.TokenText.of_wide.Goals as goal
 
 pub invariant_of-result : goal.invariant_of-result
