@@ -1,6 +1,5 @@
-use Rattle.os_quote.proofs.Common.{arith}
 use Rattle.std.proofs.Output.{has_written_styled_of_eq}
-use Rattle.os_quote.proofs.lemmas.InlineTexts.{of_writes}
+use Rattle.os_quote.proofs.{Common.arith, lemmas.InlineTexts.of_writes}
 use Rattle.os_quote.proofs.error.write_number.Goals as goal
 
 pub returns : goal.returns
