@@ -17,6 +17,8 @@ impl<E: Platform> Letters for StringLetters<E> {
 
     ghost letters = { letters_of E.units };
 
+    // a call, since the loops over ASCII, which they read themselves, are a tenth faster without it
+    #[inline(never)]
     fn split_first(bytes: &[u8]) -> (u32, &[u8]) {
         let Some((character, size)) = first_char(bytes) else {
             let (unit, size) = E::first_unit(bytes);

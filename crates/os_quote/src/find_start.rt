@@ -7,7 +7,8 @@ use os_str_bytes::Platform;
 use wtf8_core::is_continuation;
 
 /// The text at the start, and the bytes after it; `None` if no whole character starts there. Its first
-/// character was read before, to tell that it isn't a byte that is written by itself.
+/// character was read before, to tell that it isn't a byte that is written by itself, and two bytes are
+/// asked again: escapes of backslashes take a fifth longer where they aren't.
 #[inline(always)]
 pub(crate) fn split_text<E: Platform>(bytes: &[u8]) -> Option<(&str, &[u8])>
     requires formed { E.well_formed bytes.now }
@@ -15,6 +16,9 @@ pub(crate) fn split_text<E: Platform>(bytes: &[u8]) -> Option<(&str, &[u8])>
     ensures { MatchOption result (StartsWithNoCharacter bytes.now)
         (λ parts. IsCutAfterText bytes.now parts.0.now parts.1.now) }
 {
+    if are_apart(bytes) {
+        return None;
+    }
     let len = match E::utf8_fault(bytes) {
         Some((valid_up_to, _)) => valid_up_to,
         None => bytes.len(),

@@ -1,5 +1,4 @@
-use Rattle.os_str_ext.proofs.Common.{sym, subst, IsBoundary, bytes}
-use Rattle.os_str_ext.proofs.lemmas.CutUnits.{part_in_units}
+use Rattle.os_str_ext.proofs.{Common.sym, Common.subst, Common.IsBoundary, Common.bytes, lemmas.CutUnits.part_in_units}
 use Rattle.os_str_ext.proofs.boundary.part.Goals as goal
 
 pub split_at-requires-2 : goal.split_at-requires-2

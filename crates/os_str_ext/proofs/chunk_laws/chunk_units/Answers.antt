@@ -1,5 +1,4 @@
-use Rattle.os_str_ext.proofs.Common.{no_units}
-use Rattle.os_str_ext.proofs.lemmas.ChunkUnits.{units_joined}
+use Rattle.os_str_ext.proofs.{Common.no_units, lemmas.ChunkUnits.units_joined}
 use Rattle.os_str_ext.proofs.chunk_laws.chunk_units.Goals as goal
 
 pub returns : goal.returns

@@ -1,5 +1,4 @@
-use Rattle.os_str_ext.proofs.Common.{bytes}
-use Rattle.os_str_ext.proofs.lemmas.Pieces.{rsplit_in_units}
+use Rattle.os_str_ext.proofs.{Common.bytes, lemmas.Pieces.rsplit_in_units}
 use Rattle.os_str_ext.proofs.iter.rsplit.Goals as goal
 
 pub returns : goal.returns

@@ -1,5 +1,4 @@
-use Rattle.os_str_ext.proofs.Common.{bytes}
-use Rattle.os_str_ext.proofs.lemmas.Pieces.{split_in_units}
+use Rattle.os_str_ext.proofs.{Common.bytes, lemmas.Pieces.split_in_units}
 use Rattle.os_str_ext.proofs.iter.split.Goals as goal
 
 pub returns : goal.returns

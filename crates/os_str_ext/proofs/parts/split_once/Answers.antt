@@ -1,5 +1,4 @@
-use Rattle.os_str_ext.proofs.Common.{IsFirstIndex, bytes}
-use Rattle.os_str_ext.proofs.lemmas.Searches.{parts_around}
+use Rattle.os_str_ext.proofs.{Common.IsFirstIndex, Common.bytes, lemmas.Searches.parts_around}
 use Rattle.os_str_ext.proofs.parts.split_once.Goals as goal
 
 pub returns-in_default : goal.returns-in_default

@@ -1,5 +1,4 @@
-use Rattle.os_str_ext.proofs.Common.{◌≤◌, length, drop}
-use Rattle.os_str_ext.proofs.lemmas.Runs.{IsRun}
+use Rattle.os_str_ext.proofs.{Common.◌≤◌, Common.length, Common.drop, lemmas.Runs.IsRun}
 use Rattle.os_str_ext.proofs.runs.end_run.Given as goal
 
 abbrev pub invariant-loop-at : goal.invariant-loop-at

@@ -1,5 +1,4 @@
-use Rattle.os_str_ext.proofs.Common.{◌-◌, ◌≤◌, length, take}
-use Rattle.os_str_ext.proofs.lemmas.Runs.{IsRun}
+use Rattle.os_str_ext.proofs.{Common.◌-◌, Common.◌≤◌, Common.length, Common.take, lemmas.Runs.IsRun}
 use Rattle.os_str_ext.proofs.runs.start_run.Given as goal
 
 abbrev pub invariant-loop-at : goal.invariant-loop-at

@@ -1,5 +1,4 @@
-use Rattle.os_str_ext.proofs.Common.{sym, ◌∙◌}
-use Rattle.os_str_ext.proofs.lemmas.{Comparing.end_from_drop, Searches.cut_before_end}
+use Rattle.os_str_ext.proofs.{Common.sym, Common.◌∙◌, lemmas.Comparing.end_from_drop, lemmas.Searches.cut_before_end}
 use Rattle.os_str_ext.proofs.search.ends_with.Goals as goal
 
 pub returns-clause-edge : goal.returns-clause-edge

@@ -1,5 +1,4 @@
-use Rattle.os_str_ext.proofs.Common.{sym, ◌∙◌}
-use Rattle.os_str_ext.proofs.lemmas.{Comparing.prefix_from_take, Searches.cut_after_prefix}
+use Rattle.os_str_ext.proofs.{Common.sym, Common.◌∙◌, lemmas.Comparing.prefix_from_take, lemmas.Searches.cut_after_prefix}
 use Rattle.os_str_ext.proofs.search.starts_with.Goals as goal
 
 pub returns-clause-edge : goal.returns-clause-edge

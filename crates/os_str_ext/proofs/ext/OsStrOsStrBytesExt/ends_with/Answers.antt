@@ -1,5 +1,4 @@
-use Rattle.os_str_ext.proofs.Common.{subst, IsUtf8, bytes}
-use Rattle.os_str_ext.proofs.lemmas.Pieces.{suffix_alike}
+use Rattle.os_str_ext.proofs.{Common.subst, Common.IsUtf8, Common.bytes, lemmas.Pieces.suffix_alike}
 use Rattle.os_str_ext.proofs.ext.OsStrOsStrBytesExt.ends_with.Goals as goal
 
 pub returns-clause-units : goal.returns-clause-units

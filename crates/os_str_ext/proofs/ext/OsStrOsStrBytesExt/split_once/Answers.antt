@@ -1,5 +1,4 @@
-use Rattle.os_str_ext.proofs.Common.{subst, IsUtf8, bytes}
-use Rattle.os_str_ext.proofs.lemmas.Pieces.{once_in_units}
+use Rattle.os_str_ext.proofs.{Common.subst, Common.IsUtf8, Common.bytes, lemmas.Pieces.once_in_units}
 use Rattle.os_str_ext.proofs.ext.OsStrOsStrBytesExt.split_once.Goals as goal
 
 pub returns-clause-bytes : goal.returns-clause-bytes

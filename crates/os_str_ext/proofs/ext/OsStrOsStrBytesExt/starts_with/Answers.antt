@@ -1,5 +1,4 @@
-use Rattle.os_str_ext.proofs.Common.{subst, IsUtf8, bytes}
-use Rattle.os_str_ext.proofs.lemmas.Pieces.{prefix_alike}
+use Rattle.os_str_ext.proofs.{Common.subst, Common.IsUtf8, Common.bytes, lemmas.Pieces.prefix_alike}
 use Rattle.os_str_ext.proofs.ext.OsStrOsStrBytesExt.starts_with.Goals as goal
 
 pub returns-clause-units : goal.returns-clause-units

@@ -1,5 +1,4 @@
-use Rattle.os_str_ext.proofs.Common.{subst, IsUtf8, bytes}
-use Rattle.os_str_ext.proofs.lemmas.Pieces.{strip_prefix_in_units}
+use Rattle.os_str_ext.proofs.{Common.subst, Common.IsUtf8, Common.bytes, lemmas.Pieces.strip_prefix_in_units}
 use Rattle.os_str_ext.proofs.ext.OsStrOsStrBytesExt.strip_prefix.Goals as goal
 
 pub returns-clause-units : goal.returns-clause-units

@@ -1,5 +1,4 @@
-use Rattle.os_str_ext.proofs.Common.{subst, ◌∙◌, IsUtf8, bytes}
-use Rattle.os_str_ext.proofs.lemmas.Pieces.{trim_in_units}
+use Rattle.os_str_ext.proofs.{Common.subst, Common.◌∙◌, Common.IsUtf8, Common.bytes, lemmas.Pieces.trim_in_units}
 use Rattle.os_str_ext.proofs.ext.OsStrOsStrBytesExt.trim_matches.Goals as goal
 
 pub returns : goal.returns

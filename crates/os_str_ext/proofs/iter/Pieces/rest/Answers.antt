@@ -1,5 +1,4 @@
-use Rattle.os_str_ext.proofs.Common.{subst, bytes, AreOfRest}
-use Rattle.os_str_ext.proofs.lemmas.Splits.{pieces_of_rest}
+use Rattle.os_str_ext.proofs.{Common.subst, Common.bytes, Common.AreOfRest, lemmas.Splits.pieces_of_rest}
 use Rattle.os_str_ext.proofs.iter.Pieces.rest.Goals as goal
 
 pub returns : goal.returns

@@ -1,5 +1,4 @@
-use Rattle.os_str_ext.proofs.Common.{bytes}
-use Rattle.os_str_ext.proofs.lemmas.CutUnits.{whole_in_units}
+use Rattle.os_str_ext.proofs.{Common.bytes, lemmas.CutUnits.whole_in_units}
 use Rattle.os_str_ext.proofs.slice_index.RangeFullSliceIndex.index.Goals as goal
 
 pub returns-clause-units : goal.returns-clause-units

@@ -14,3 +14,14 @@ returns-in_ok-write_str-in-None-clause-styled g c = λ flush ok.
     let index = c.write_decimal.ensures head.flush ok in
     let i = c.in-Utf8.valid_up_to in
     has_written_styled_of_eq _ _ _ _ _ (sym (ap (λ len. fault_text (Utf8 i len)) c.in-None.is) ∙ sym (ap fault_text c.in-Utf8.is)) (has_written_styled_append _ _ _ _ _ _ head index)
+
+pub returns-in-Byte-clause-styled : goal.returns-in-Byte-clause-styled
+returns-in-Byte-clause-styled g c = λ flush ok. has_written_styled_of_eq _ _ _ _ _ (sym (ap fault_text c.in-Byte.is)) (c.write_byte.ensures flush ok)
+
+pub returns-in-CodePoint-clause-styled : goal.returns-in-CodePoint-clause-styled
+returns-in-CodePoint-clause-styled g c = λ flush ok. has_written_styled_of_eq _ _ _ _ _ (sym (ap fault_text c.in-CodePoint.is)) (c.write_code_point.ensures flush ok)
+
+pub returns-in-Some-clause-styled : goal.returns-in-Some-clause-styled
+returns-in-Some-clause-styled g c = λ flush ok.
+    let i = c.in-Utf8.valid_up_to in
+    has_written_styled_of_eq _ _ _ _ _ (sym (ap (λ len. fault_text (Utf8 i len)) c.in-Some.is) ∙ sym (ap fault_text c.in-Utf8.is)) (c.write_ill_formed.ensures flush ok)
