@@ -2,7 +2,7 @@
 use crate::inputs::{self, Short};
 use crate::table::Bench;
 use crate::{ours, theirs};
-use std::fmt::Write;
+use std::fmt::{Arguments, Write};
 use std::hint::black_box;
 
 /// A call, and how long what it answers is.
@@ -49,16 +49,16 @@ fn long(bench: &mut Bench) {
     }
 }
 
-/// Of texts and bytes of which most is escaped, beside `{:?}` into a buffer that is there.
+/// Of texts and bytes of which most is escaped, beside `{:?}` and `escape_ascii` into a buffer that is there.
 fn hard(bench: &mut Bench) {
-    bench.table("Hard escapes, into a buffer", "a byte");
+    bench.table_beside("Hard escapes, into a buffer", "a byte", &["escape_ascii"]);
     let calls: [Written; 2] = [("write_escape", ours::write_escape), ("write_escape_line", ours::write_escape_line)];
     for inputs::Long { name, bytes } in inputs::mostly_escaped() {
         let mut room = vec![0; 10 * bytes.len()];
-        let mut buffer = String::new();
         for (call, run) in calls {
             let run = black_box(run);
             let escaped = run(&bytes, &mut room) as u64;
+            let (mut debug, mut ascii) = (String::new(), String::new());
             bench.line(
                 call,
                 &name,
@@ -67,15 +67,24 @@ fn hard(bench: &mut Bench) {
                     Some(&mut || run(black_box(&bytes), &mut room) as u64),
                     None,
                     Some(&mut || {
-                        buffer.clear();
-                        write!(buffer, "{:?}", theirs::unix(black_box(&bytes))).expect("a String takes all");
-                        black_box(&buffer);
+                        overwrite(&mut debug, format_args!("{:?}", theirs::unix(black_box(&bytes))));
+                        escaped
+                    }),
+                    Some(&mut || {
+                        overwrite(&mut ascii, format_args!("{}", black_box(&bytes).escape_ascii()));
                         escaped
                     }),
                 ],
             );
         }
     }
+}
+
+/// Writes into a buffer that is there, in place of what it has.
+fn overwrite(buffer: &mut String, shown: Arguments<'_>) {
+    buffer.clear();
+    buffer.write_fmt(shown).expect("a String takes all");
+    black_box(&buffer);
 }
 
 /// Of short ones, beside what std's `{:?}` writes, which has no way back: as a new text, and into one

@@ -266,7 +266,7 @@ fn read_between(bits: u32, bytes: &[u8]) -> Result<(State, u32), EncodingError>
 }
 
 /// The length of a prefix that is WTF-8: all of a short text, or what blocks find. A short piece with
-/// a surrogate is read twice, by steps up to it and then by blocks.
+/// a surrogate is read twice, by steps and then by blocks.
 #[tactic(auto, using(crate::proofs::lemmas::vectors::Windows::whole_prefixes))]
 #[inline(always)]
 fn prefix_of_piece(bytes: &[u8]) -> usize

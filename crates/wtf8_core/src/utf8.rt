@@ -8,7 +8,7 @@ ghost use Rattle.wtf8_core.specs.{EncodedPrefix.KeepsPattern, declared.vectors.E
 use crate::byte::is_continuation;
 use crate::first_character::{is_lead, len_or_fault};
 use crate::vectors::ascii::{ascii_len_at, is_ascii_at, is_ascii_to_end};
-use crate::vectors::scan::{scan, scan_from, scan_short, scan_steps};
+use crate::vectors::scan::{is_short_text, scan, scan_from, scan_steps};
 use crate::vectors::surrogates::text_from;
 use crate::vectors::{BEFORE, BLOCK, Encoding, SHORT, STEP};
 use memchr::memchr;
@@ -119,6 +119,7 @@ pub fn surrogate_fault(bytes: &[u8]) -> Option<(usize, Option<u8>)>
 /// where each call asks what is left anew.
 #[inline(never)]
 fn fault_in_short(bytes: &[u8]) -> Option<(usize, Option<u8>)>
+    requires { length bytes.now ≤ 128 }
     ensures { MatchOption result (IsUtf8 bytes.now)
         (λ fault. IsUtf8Fault bytes.now fault.0 fault.1) }
 {
@@ -132,10 +133,11 @@ fn fault_in_short(bytes: &[u8]) -> Option<(usize, Option<u8>)>
     fault_by_characters(bytes, prefix)
 }
 
-/// The length of a prefix of few bytes that is UTF-8: all that steps find, or only the ASCII, if the
-/// two bytes after it begin no character. Then the fault is there, and steps would find no more.
+/// The length of a prefix of few bytes that is UTF-8: all of them, if steps find nothing wrong, and
+/// only the ASCII, if the two bytes after it begin no character, since the fault is there. Else none.
 #[inline(always)]
 fn prefix_of_short(bytes: &[u8]) -> usize
+    requires { length bytes.now ≤ 128 }
     ensures within { result ≤ length bytes.now }
     ensures text { IsUtf8 (take result bytes.now) }
 {
@@ -150,7 +152,7 @@ fn prefix_of_short(bytes: &[u8]) -> usize
             return ascii;
         }
     }
-    scan_short(bytes)
+    if is_short_text(bytes) { bytes.len() } else { 0 }
 }
 
 /// Whether the bytes are found to be UTF-8 at once, or by steps. That isn't found of more than 128.
@@ -159,7 +161,7 @@ pub(crate) fn is_short_utf8(bytes: &[u8]) -> bool
     ensures { IsTrue result → IsUtf8 bytes.now }
 {
     let len = bytes.len();
-    len <= SHORT && (is_short_ascii(bytes) || BEFORE <= len && scan_short(bytes) == len)
+    len <= SHORT && (is_short_ascii(bytes) || BEFORE <= len && is_short_text(bytes))
 }
 
 /// The same as [`is_utf8`], by blocks.

@@ -7,9 +7,9 @@
 //! [`Checker`](crate::Checker) share:
 //!
 //! 1. At most [`SHORT`] bytes are asked first whether all of them are ASCII.
-//! 2. If not, they are read by steps ([`scan::scan_short`]): the first with zeros before it, then up
-//!    to eight in place, and one more that ends with the last byte. 4 to 19 bytes are read in a copy
-//!    with zeros before and after them.
+//! 2. If not, they are read by steps ([`scan::is_short_text`]): the first with zeros before it, the
+//!    others in place, those past the end of the last 16 bytes again. 4 to 19 bytes are read in a copy
+//!    with zeros before and after them. Where a byte isn't allowed isn't asked: 4 begins at the start.
 //! 3. More bytes are read by blocks ([`scan::scan_from`]), each in place with the [`BEFORE`] bytes
 //!    before it ([`error_bits`]). Blocks of ASCII are skipped without that test. The last bytes,
 //!    fewer than a block, are tested in a copy with zeros before and after them, unless they are

@@ -4,7 +4,7 @@
 //! must not rely on its length.
 #![tactic(auto, using(crate::proofs::lemmas::vectors::Windows::scanning))]
 
-ghost use Rattle.std.specs.Prelude.{◌≡◌, ◌∷◌, ℕ, suc, ◌+◌, ◌-◌, ◌≤◌, ◌<◌, length, IsTrue, MatchResult, slice_index};
+ghost use Rattle.std.specs.Prelude.{◌≡◌, ◌∷◌, ℕ, suc, ◌+◌, ◌-◌, ◌*◌, ◌≤◌, ◌<◌, length, min, IsTrue, MatchResult, slice_index};
 ghost use Rattle.std.specs.Int.{is_in_range};
 ghost use Rattle.wtf8_core.specs.{Wtf8.last_or, Surrogate.is_high, declared.vectors.Encoding.Encoding, declared.vectors.Encoding.TheVariants.Utf8, declared.vectors.Encoding.TheVariants.Wtf8, EncodedPrefix.IsEncodedPrefix, EncodedPrefix.KeepsPattern, Neighbours.IsClosed};
 
@@ -87,8 +87,7 @@ fn scan_blocks(bytes: &[u8], at: usize, encoding: Encoding) -> usize
 
 /// Up to which index bytes keep to the pattern of UTF-8, which they do up to `at`: `Ok` with that
 /// index after at most eight steps of 16 bytes, or, if a byte of a step doesn't, `Err` with the
-/// length of a prefix that is UTF-8. From an index before 4 on, one more step comes first, of the
-/// first 16 bytes.
+/// length of a prefix that is UTF-8. From an index before 4 on there is no step.
 #[inline(always)]
 pub(crate) fn scan_steps(bytes: &[u8], at: usize) -> Result<usize, usize>
     requires within { at ≤ length bytes.now }
@@ -99,17 +98,11 @@ pub(crate) fn scan_steps(bytes: &[u8], at: usize) -> Result<usize, usize>
         (λ prefix. IsEncodedPrefix Utf8 bytes.now prefix) }
 {
     let mut end = at;
-    if at < BEFORE && bytes.len() >= STEP {
-        end = allowed_in_first_step(bytes);
-        if end < STEP {
-            return Err(start_before(bytes, end));
-        }
-    }
     for _ in 0..8 {
         if end < BEFORE || bytes.len() - end < STEP {
             return Ok(end);
         }
-        let kept = step_len(bytes, end);
+        let kept = allowed_in_step(&bytes[end - BEFORE..]);
         end += kept;
         if kept < STEP {
             return Err(start_before(bytes, end));
@@ -118,54 +111,57 @@ pub(crate) fn scan_steps(bytes: &[u8], at: usize) -> Result<usize, usize>
     Ok(end)
 }
 
-/// How many of the next 16 bytes keep to the pattern of UTF-8, up to the first that doesn't.
-#[inline(always)]
-fn step_len(bytes: &[u8], at: usize) -> usize
-    requires from { 4 ≤ at }
-    requires room { at + 16 ≤ length bytes.now }
-    ensures within { result ≤ 16 }
-    ensures kept { KeepsPattern Utf8 bytes.now at → KeepsPattern Utf8 bytes.now (at + result) }
-{
-    allowed_in_step(&bytes[at - BEFORE..])
-}
-
-/// Whether bytes are found to be UTF-8 that keep to its pattern up to index `at`, by one more step:
-/// the last 16 bytes, of which those before `at` are read again. So no copy with zeros after them is
-/// made. That isn't found if more bytes are left, or if there are fewer than 20.
-#[inline(always)]
-pub(crate) fn ends_by_step(bytes: &[u8], at: usize) -> bool
-    requires within { at ≤ length bytes.now }
-    requires kept { KeepsPattern Utf8 bytes.now at }
-    ensures { IsTrue result → IsEncodedPrefix Utf8 bytes.now (length bytes.now) }
-{
-    let len = bytes.len();
-    if len < BEFORE + STEP || len - at > STEP || !ends_closed(bytes) {
-        return false;
-    }
-    allowed_in_step(&bytes[len - STEP - BEFORE..]) >= STEP
-}
-
-/// The length of a prefix of few bytes that is UTF-8: all the bytes, or some that end where the next
-/// character begins.
+/// Whether at most 128 bytes are found to be UTF-8, from 20 on by three, five or eight steps. Lengths
+/// of names and paths differ, and a processor doesn't foresee the end of a loop over as many steps as
+/// a string has: beyond ASCII it takes 1.2 of the time, and twice of the longest.
 #[tactic(auto, using(crate::proofs::lemmas::vectors::Windows::ends))]
 #[inline(always)]
-pub(crate) fn scan_short(bytes: &[u8]) -> usize
-    requires { 4 ≤ length bytes.now }
-    ensures within { result ≤ length bytes.now }
-    ensures prefix { IsEncodedPrefix Utf8 bytes.now result }
+pub(crate) fn is_short_text(bytes: &[u8]) -> bool
+    requires from { 4 ≤ length bytes.now }
+    requires to { length bytes.now ≤ 128 }
+    ensures { IsTrue result → IsEncodedPrefix Utf8 bytes.now (length bytes.now) }
 {
     if bytes.len() < BEFORE + STEP {
-        let kept = len_of_few(bytes);
-        if kept > bytes.len() {
-            return bytes.len();
-        }
-        return start_before(bytes, kept);
+        return len_of_few(bytes) > bytes.len();
     }
-    match scan_steps(bytes, 0) {
-        Ok(end) if ends_by_step(bytes, end) => bytes.len(),
-        Ok(end) => start_before(bytes, end),
-        Err(prefix) => prefix,
+    if !ends_closed(bytes) {
+        return false;
     }
+    if bytes.len() <= 3 * STEP {
+        are_allowed(bytes, 3)
+    } else if bytes.len() <= 5 * STEP {
+        are_allowed(bytes, 5)
+    } else {
+        are_allowed(bytes, 8)
+    }
+}
+
+/// Whether all bytes keep to the pattern of UTF-8, which so many steps read.
+#[inline(always)]
+fn are_allowed(bytes: &[u8], steps: usize) -> bool
+    requires from { 20 ≤ length bytes.now }
+    requires to { length bytes.now ≤ steps * 16 }
+    requires few { steps ≤ 8 }
+    ensures { IsTrue result → KeepsPattern Utf8 bytes.now (length bytes.now) }
+{
+    let mut allowed = allowed_in_first_step(bytes) >= STEP;
+    for step in 1..steps {
+        allowed &= is_step_allowed(bytes, step * STEP);
+    }
+    allowed
+}
+
+/// Whether the 16 bytes from index `to` on keep to it, or the last 16, if fewer are left. So no copy
+/// with zeros after them is made.
+#[inline(always)]
+fn is_step_allowed(bytes: &[u8], to: usize) -> bool
+    requires from { 4 ≤ to }
+    requires some { 20 ≤ length bytes.now }
+    ensures { IsTrue result → KeepsPattern Utf8 bytes.now (min to (length bytes.now))
+        → KeepsPattern Utf8 bytes.now (min (to + 16) (length bytes.now)) }
+{
+    let at = to.min(bytes.len() - STEP);
+    allowed_in_step(&bytes[at - BEFORE..]) >= STEP
 }
 
 /// How many of fewer than 32 bytes, and of the zeros after them, keep to the pattern of UTF-8. If a

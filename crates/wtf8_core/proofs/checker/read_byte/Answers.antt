@@ -1,5 +1,4 @@
-use Rattle.wtf8_core.proofs.Common.{arith}
-use Rattle.wtf8_core.proofs.lemmas.table.Pieces.{read_off}
+use Rattle.wtf8_core.proofs.{Common.arith, lemmas.table.Pieces.read_off}
 use Rattle.wtf8_core.proofs.checker.read_byte.Goals as goal
 
 pub returns-in-Refused : goal.returns-in-Refused

@@ -1,5 +1,4 @@
-use Rattle.wtf8_core.proofs.Common.{inr, ap, length}
-use Rattle.wtf8_core.proofs.lemmas.forms.{LastForms.too_short, Shapes.form_past}
+use Rattle.wtf8_core.proofs.{Common.inr, Common.ap, Common.length, lemmas.forms.LastForms.too_short, lemmas.forms.Shapes.form_past}
 use Rattle.wtf8_core.proofs.halves.last_half.Goals as goal
 
 pub returns-in_err-last : goal.returns-in_err-last

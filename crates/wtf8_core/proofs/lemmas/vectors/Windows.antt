@@ -172,13 +172,13 @@ module _ (encoding : Encoding) (bytes : List ℕ) where
   more_inside at window n l is = more at window n (λ i _. let index : suc (suc (suc (suc ((at - 4) + i)))) ≡ at + i = omega (arith, l) in
       ap (λ x. get_or x i 0) is ∙ get_or-drop (at - 4) bytes i 0 ∙ ap (λ m. get_or (with_zeros_before bytes) m 0) index) at (omega arith) (omega arith)
 
-  -- a window that is their end
-  pub more_at_end : (to : ℕ) (window : List ℕ) (n : ℕ) → n + 4 ≤ length bytes → window ≡ drop (length bytes - n - 4) bytes → to ≤ length bytes → length bytes - n ≤ to → EachMayFollow encoding n window → KeepsPattern encoding bytes to → KeepsPattern encoding bytes (length bytes)
-  more_at_end to window n long is high low pattern k =
-      let at = length bytes - n in
-      let end : at + n ≡ length bytes = omega (arith, long) in
-      subst (KeepsPattern encoding bytes) end (more at window n (λ i _. let index : suc (suc (suc (suc ((length bytes - n - 4) + i)))) ≡ at + i = omega (arith, long) in
-      ap (λ x. get_or x i 0) is ∙ get_or-drop (length bytes - n - 4) bytes i 0 ∙ ap (λ m. get_or (with_zeros_before bytes) m 0) index) to low (omega (arith, end, high)) pattern k)
+  -- a window from index `to` on, or one that is their end, if fewer are left
+  pub more_clamped : (to at : ℕ) (window : List ℕ) (n : ℕ) → 4 ≤ to → n + 4 ≤ length bytes → at ≡ min to (length bytes - n) → window ≡ drop (at - 4) bytes → EachMayFollow encoding n window
+      → KeepsPattern encoding bytes (min to (length bytes)) → KeepsPattern encoding bytes (min (to + n) (length bytes))
+  more_clamped to at window n from long is whole pattern k =
+      let end : at + n ≡ min (to + n) (length bytes) = omega (arith, is, long) in
+      subst (KeepsPattern encoding bytes) end (more at window n (λ i _. let index : suc (suc (suc (suc ((at - 4) + i)))) ≡ at + i = omega (arith, is, from, long) in
+      ap (λ x. get_or x i 0) whole ∙ get_or-drop (at - 4) bytes i 0 ∙ ap (λ m. get_or (with_zeros_before bytes) m 0) index) (min to (length bytes)) (omega (arith, is)) (omega (arith, is, long)) pattern k)
 
   -- bytes encode code points up to their end, if they keep to the pattern and no form continues there
   pub closed_end : 3 ≤ length bytes → IsClosed (get_or bytes (length bytes - 3) 0) (get_or bytes (length bytes - 2) 0) (get_or bytes (length bytes - 1) 0) → KeepsPattern encoding bytes (length bytes) → IsEncodedPrefix encoding bytes (length bytes)
@@ -278,7 +278,7 @@ pub ruleset texts = (text_of_prefix, whole_text, text_keeps, no_pattern)
 
 pub ruleset scanning = (no_pattern, first_step, no_prefix, more_inside, take_rest, near_start, other_lead, by_second)
 
-pub ruleset ends = (no_pattern, past_end, ascii_to_end)
+pub ruleset ends = (past_end, ascii_to_end, closed_end)
 
 pub ruleset first_ascii = (no_prefix, prefix_keeps, more_ascii)
 

@@ -1,5 +1,4 @@
-use Rattle.wtf8_core.proofs.Common.{common_steps, rules}
-use Rattle.wtf8_core.proofs.lemmas.buffers.Truncated.{prefix_written}
+use Rattle.wtf8_core.proofs.{Common.common_steps, Common.rules, lemmas.buffers.Truncated.prefix_written}
 use Rattle.wtf8_core.proofs.truncated.fill_up.Goals as goal
 
 pub returns-then-count-buffer : goal.returns-then-count-buffer

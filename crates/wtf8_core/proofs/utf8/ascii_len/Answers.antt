@@ -1,5 +1,4 @@
-use Rattle.wtf8_core.proofs.Common.{common_steps, rules}
-use Rattle.wtf8_core.proofs.lemmas.vectors.Windows.{ascii_at, ascii_is_utf8}
+use Rattle.wtf8_core.proofs.{Common.common_steps, Common.rules, lemmas.vectors.Windows.ascii_at, lemmas.vectors.Windows.ascii_is_utf8}
 use Rattle.wtf8_core.proofs.utf8.ascii_len.Goals as goal
 
 pub returns-then-near-lt-STEP-clause-text : goal.returns-then-near-lt-STEP-clause-text

@@ -1,5 +1,4 @@
-use Rattle.wtf8_core.proofs.Common.{◌-◌, length, arith, refl, cases_lt, ⊎_elim}
-use Rattle.wtf8_core.proofs.lemmas.vectors.Windows.{ascii_at}
+use Rattle.wtf8_core.proofs.{Common.◌-◌, Common.length, Common.arith, Common.refl, Common.cases_lt, Common.⊎_elim, lemmas.vectors.Windows.ascii_at}
 use Rattle.wtf8_core.proofs.vectors.ascii.is_ascii_to_end.Goals as goal
 
 pub returns-then-len-ge-BLOCK : goal.returns-then-len-ge-BLOCK

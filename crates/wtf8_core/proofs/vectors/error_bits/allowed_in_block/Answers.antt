@@ -1,5 +1,4 @@
-use Rattle.wtf8_core.proofs.Common.{arith}
-use Rattle.wtf8_core.proofs.lemmas.vectors.PairBits.{kept_by_zeros}
+use Rattle.wtf8_core.proofs.{Common.arith, lemmas.vectors.PairBits.kept_by_zeros}
 use Rattle.wtf8_core.proofs.vectors.error_bits.allowed_in_block.Goals as goal
 
 pub returns-then-are_zero-clause-pattern : goal.returns-then-are_zero-clause-pattern

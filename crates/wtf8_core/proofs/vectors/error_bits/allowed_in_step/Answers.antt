@@ -1,5 +1,4 @@
-use Rattle.wtf8_core.proofs.Common.{arith}
-use Rattle.wtf8_core.proofs.lemmas.vectors.PairBits.{kept_of_16}
+use Rattle.wtf8_core.proofs.{Common.arith, lemmas.vectors.PairBits.kept_of_16}
 use Rattle.wtf8_core.proofs.vectors.error_bits.allowed_in_step.Goals as goal
 
 pub returns-clause-pattern : goal.returns-clause-pattern

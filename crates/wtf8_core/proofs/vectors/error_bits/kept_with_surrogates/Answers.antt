@@ -1,5 +1,4 @@
-use Rattle.wtf8_core.proofs.Common.{◌≤◌, inr, sym, ◌∙◌, arith}
-use Rattle.wtf8_core.proofs.lemmas.vectors.PairBits.{kept}
+use Rattle.wtf8_core.proofs.{Common.◌≤◌, Common.inr, Common.sym, Common.◌∙◌, Common.arith, lemmas.vectors.PairBits.kept}
 use Rattle.wtf8_core.specs.declared.vectors.Encoding.TheVariants.{Wtf8}
 use Rattle.wtf8_core.proofs.vectors.error_bits.kept_with_surrogates.Goals as goal
 

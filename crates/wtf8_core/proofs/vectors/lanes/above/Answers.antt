@@ -1,5 +1,4 @@
-use Rattle.wtf8_core.proofs.Common.{arith}
-use Rattle.wtf8_core.proofs.lemmas.vectors.Lanes.{lane_above}
+use Rattle.wtf8_core.proofs.{Common.arith, lemmas.vectors.Lanes.lane_above}
 use Rattle.wtf8_core.proofs.vectors.lanes.above.Goals as goal
 
 pub returns : goal.returns

@@ -1,5 +1,4 @@
-use Rattle.wtf8_core.proofs.Common.{refl, eqb, eqb-false}
-use Rattle.wtf8_core.proofs.lemmas.vectors.Lanes.{none_of_64_passes_before}
+use Rattle.wtf8_core.proofs.{Common.refl, Common.eqb, Common.eqb-false, lemmas.vectors.Lanes.none_of_64_passes_before}
 use Rattle.wtf8_core.proofs.vectors.lanes.leading_nonzero.Goals as goal
 
 pub returns-clause-other : goal.returns-clause-other

@@ -1,5 +1,4 @@
-use Rattle.wtf8_core.proofs.Common.{refl, not, eqb, eqb-true, not-false}
-use Rattle.wtf8_core.proofs.lemmas.vectors.Lanes.{none_passes_before}
+use Rattle.wtf8_core.proofs.{Common.refl, Common.not, Common.eqb, Common.eqb-true, Common.not-false, lemmas.vectors.Lanes.none_passes_before}
 use Rattle.wtf8_core.proofs.vectors.lanes.leading_zero.Goals as goal
 
 pub returns-clause-zero : goal.returns-clause-zero

@@ -1,12 +1,9 @@
-use Rattle.wtf8_core.proofs.Common.{arith, sym, subst, KeepsPattern}
-use Rattle.wtf8_core.proofs.lemmas.vectors.Windows.{first_step}
+use Rattle.wtf8_core.proofs.{Common.◌-◌, Common.arith, Common.take_rest, lemmas.vectors.Windows.more_inside}
 use Rattle.wtf8_core.specs.declared.vectors.Encoding.TheVariants.{Utf8}
-use Rattle.wtf8_core.proofs.vectors.scan.scan_steps.Goals.{then-at-lt-BEFORE+then-bytes-ge-STEP+else-end-lt-STEP, else-at-lt-BEFORE}
 use Rattle.wtf8_core.proofs.vectors.scan.scan_steps.Goals as goal
 
-pub loop-init : goal.loop-init
-loop-init c =
-    elim c.if-at-lt-BEFORE.branch [
-      | then-at-lt-BEFORE+then-bytes-ge-STEP+else-end-lt-STEP w ↦ (omega (arith, w.end-is, w.allowed_in_first_step-end.ensures.within, w.if-bytes-ge-STEP.true), subst (KeepsPattern Utf8 c.args.bytes.now) (sym w.end-is) (first_step Utf8 c.args.bytes.now _ w.allowed_in_first_step-end.ensures.pattern))
-      | else-at-lt-BEFORE w ↦ (omega (arith, w.end-is, c.requires.within), subst (KeepsPattern Utf8 c.args.bytes.now) (sym w.end-is) c.requires.kept)
-    ]
+pub loop-preserved : goal.loop-preserved
+loop-preserved c =
+    let end = c.loop.end in
+    let step = c.allowed_in_step-kept.ensures in
+    (omega (arith, c.if-bytes-end-lt-STEP.false, step.within, c.loop.invariant.0), more_inside Utf8 c.args.bytes.now end _ c.allowed_in_step-kept.result (omega (arith, c.if-end-lt-BEFORE.false)) (take_rest c.args.bytes.now (end - 4)) step.pattern c.loop.invariant.1)

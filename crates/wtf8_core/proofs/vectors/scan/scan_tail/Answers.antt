@@ -1,5 +1,4 @@
-use Rattle.wtf8_core.proofs.Common.{◌+◌, arith, refl}
-use Rattle.wtf8_core.proofs.lemmas.vectors.Windows.{past_end, ascii_to_end}
+use Rattle.wtf8_core.proofs.{Common.◌+◌, Common.arith, Common.refl, lemmas.vectors.Windows.past_end, lemmas.vectors.Windows.ascii_to_end}
 use Rattle.wtf8_core.proofs.vectors.scan.scan_tail.Goals as goal
 
 pub returns-then-kept-bytes-clause-prefix : goal.returns-then-kept-bytes-clause-prefix

@@ -1,5 +1,4 @@
-use Rattle.wtf8_core.proofs.Common.{◌-◌, arith}
-use Rattle.wtf8_core.proofs.lemmas.vectors.Windows.{by_pattern}
+use Rattle.wtf8_core.proofs.{Common.◌-◌, Common.arith, lemmas.vectors.Windows.by_pattern}
 use Rattle.wtf8_core.proofs.vectors.scan.start_before.Goals as goal
 
 pub returns-then-not-is_continuation-clause-prefix : goal.returns-then-not-is_continuation-clause-prefix

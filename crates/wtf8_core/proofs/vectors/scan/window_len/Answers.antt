@@ -1,5 +1,4 @@
-use Rattle.wtf8_core.proofs.Common.{arith}
-use Rattle.wtf8_core.proofs.lemmas.vectors.Windows.{copied, more, zeros}
+use Rattle.wtf8_core.proofs.{Common.arith, lemmas.vectors.Windows.copied, lemmas.vectors.Windows.more, lemmas.vectors.Windows.zeros}
 use Rattle.wtf8_core.proofs.vectors.scan.window_len.Goals as goal
 
 pub put_in_zeros-requires-clause-zeros : goal.put_in_zeros-requires-clause-zeros
