@@ -8,7 +8,7 @@ use wtf8_core::is_continuation;
 
 /// The text at the start, and the bytes after it; `None` if no whole character starts there. Its first
 /// character was read before, to tell that it isn't a byte that is written by itself, and two bytes are
-/// asked again: escapes of backslashes take a fifth longer where they aren't.
+/// asked again: a line of backslashes takes 1.12 to 1.21 of the time where they aren't.
 #[inline(always)]
 pub(crate) fn split_text<E: Platform>(bytes: &[u8]) -> Option<(&str, &[u8])>
     requires formed { E.well_formed bytes.now }
