@@ -153,9 +153,5 @@ def said_by(words: list[str], folder: Path) -> str:
     return subprocess.run(words, cwd=folder, text=True, errors="replace", **pipes).stdout
 
 
-def wanted_jobs() -> int:
-    """Returns by how many jobs a crate is proved: JOBS in the environment, or as many as there are processors.
-
-    Each job reads the libraries, so one takes longer by the clock and less of a processor's time.
-    """
-    return int(os.environ.get("JOBS", len(os.sched_getaffinity(0))))
+def processors() -> int:
+    return len(os.sched_getaffinity(0))
