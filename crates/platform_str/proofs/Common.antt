@@ -18,4 +18,4 @@ unfoldable pub use Rattle.wtf8_core.specs.CodePoint.{encode, encode_utf16}
 pub use Rattle.wtf8_core.specs.{Covered.StartsWithNoCharacter, Items.AreItems, Items.AreUnitItems, Items.unit_items, Join.IsJoin, Join.IsPairBetween, Lossy.IsLossyText, Lossy.replacement}
 pub use Rattle.wtf8_core.specs.{Surrogate.IsHigh, Surrogate.IsLow, Surrogate.is_pair, Surrogate.paired, Truncated.IsTruncated, UnitsOf.ok_values, UnitsOf.units_of, Wtf8.HasUnits, Wtf8.IsWtf8, Wtf8.units}
 pub use Rattle.wtf8_core.specs.declared.fault.EncodingError.{EncodingError}
-pub use lib.Lanes.{mask_l, put_chunk, top, zip2}
+pub use lib.Lanes.{chunk, mask_l, put_chunk, top, zip2}

@@ -14,3 +14,4 @@ pub mod FromWideCounts
 pub mod SixteenLanes
 pub mod ToWide
 pub mod Filled
+pub mod Choices

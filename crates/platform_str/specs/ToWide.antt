@@ -31,11 +31,10 @@ units_after_first [] = []
 units_after_first (before ∷ []) = []
 units_after_first (before ∷ b ∷ bytes) = units_by_neighbours before b (slice_index bytes 0) (slice_index bytes 1) ++ units_after_first (b ∷ bytes)
 
--- the items of a list for which another has a number other than 0
-abbrev pub chosen : List ℕ → List ℕ → List ℕ
-chosen [] marks = []
-chosen (x ∷ xs) [] = []
-chosen (x ∷ xs) (m ∷ marks) = (if m == 0 then [] else x ∷ []) ++ chosen xs marks
+-- the items of a list at which a number has a bit, the first at the lowest
+abbrev pub chosen : List ℕ → ℕ → List ℕ
+chosen [] mask = []
+chosen (x ∷ xs) mask = (if mask % 2 == 0 then [] else x ∷ []) ++ chosen xs (mask / 2)
 
 -- units are appended to `count` others in a buffer, as far as there is room, and then there are `len`
 abbrev pub Appends : List ℕ → List ℕ → ℕ → List ℕ → ℕ → Type 0

@@ -1,6 +1,6 @@
 //! The units of a Windows string, 16 bytes at once: ASCII is widened, and of other bytes each adds
 //! what the bytes beside it say, without a branch.
-ghost use Rattle.std.specs.Prelude.{◌≡◌, ◌++◌, ◌+◌, ◌≤◌, ◌<◌, ℕ, true, if◌then◌else◌, take, drop, length, slice_index, IsOk, OnOk, vec_len, vec_capacity};
+ghost use Rattle.std.specs.Prelude.{◌≡◌, ◌++◌, ◌+◌, ◌/◌, ◌%◌, ◌^◌, ◌≤◌, ◌<◌, ℕ, true, if◌then◌else◌, take, drop, length, slice_index, count_ones, IsOk, OnOk, vec_len, vec_capacity};
 ghost use Rattle.std.specs.List.{All};
 ghost use Rattle.wtf8_core.specs.{Wtf8.IsWtf8, UnitsOf.units_of};
 ghost use Rattle.platform_str.specs.ToWide.{adds_unit, unit_at, units_after_first, chosen};
@@ -55,7 +55,7 @@ fn have_no_pair(bytes: &[u8]) -> bool
 /// once a block may have some, and `pairs` is set then, so that no later block is asked: without
 /// halves other characters take 0.9 of the time, and to ask each block costs mixed text a fifth.
 #[inline(always)]
-pub(crate) fn unit_lanes(bytes: &[u8], pairs: &mut bool) -> [u16; 16]
+fn unit_lanes(bytes: &[u8], pairs: &mut bool) -> [u16; 16]
     requires { 19 ≤ length bytes.now }
     ensures { (i : ℕ) → i < 16 → slice_index result i
         ≡ unit_at (slice_index bytes.now i) (slice_index bytes.now (1 + i))
@@ -79,11 +79,13 @@ pub(crate) fn unit_lanes(bytes: &[u8], pairs: &mut bool) -> [u16; 16]
     ascii.select(first, unit).to_array()
 }
 
-/// For each of 16 bytes after the first, 1 if it adds a unit, and else 0.
+/// For each of up to 16 bytes after the first a bit, from the lowest on: whether it adds a unit.
 #[inline(always)]
-pub(crate) fn unit_marks(bytes: &[u8]) -> [u16; 16]
-    requires { 17 ≤ length bytes.now }
-    ensures { (i : ℕ) → i < 16 → slice_index result i
+fn unit_mask(bytes: &[u8], count: usize) -> usize
+    requires some { 17 ≤ length bytes.now }
+    requires count { count ≤ 16 }
+    ensures few { result < 2 ^ count }
+    ensures bits { (i : ℕ) → i < count → result / 2 ^ i % 2
         ≡ (if adds_unit (slice_index bytes.now i) (slice_index bytes.now (1 + i)) then 1 else 0) }
 {
     let one = u16x16::splat(1);
@@ -91,15 +93,17 @@ pub(crate) fn unit_marks(bytes: &[u8]) -> [u16; 16]
     let marks = halves
         .simd_ne(u16x16::splat(2))
         .select(one, u16x16::splat(0));
-    lanes(bytes, 0)
+    let mask = lanes(bytes, 0)
         .simd_ge(u16x16::splat(0xF0))
         .select(one, marks)
-        .to_array()
+        .simd_ne(u16x16::splat(0))
+        .to_bitmask() as usize;
+    mask % (1 << count)
 }
 
 /// The bytes, of which there are at most 19, and zeros after them.
 #[inline(always)]
-pub(crate) fn padded(bytes: &[u8]) -> [u8; 19]
+fn padded(bytes: &[u8]) -> [u8; 19]
     requires { length bytes.now ≤ 19 }
     ensures { (i : ℕ) → slice_index result i ≡ slice_index bytes.now i }
 {
@@ -108,52 +112,63 @@ pub(crate) fn padded(bytes: &[u8]) -> [u8; 19]
     window
 }
 
-/// Writes those units of a block that have a mark from index `at` on, and returns the index after
-/// them. Within the block it may also overwrite the one unit after them.
+/// For each mask of four bits, where it has them, and zeros after that.
+const CHOICES: [u16; 64] = [
+    0, 0, 0, 0, 0, 0, 0, 0, 1, 0, 0, 0, 0, 1, 0, 0, 2, 0, 0, 0, 0, 2, 0, 0, 1, 2, 0, 0, 0, 1, 2, 0,
+    3, 0, 0, 0, 0, 3, 0, 0, 1, 3, 0, 0, 0, 1, 3, 0, 2, 3, 0, 0, 0, 2, 3, 0, 1, 2, 3, 0, 0, 1, 2, 3,
+];
+
+/// Those of four units at which a mask has a bit, and others after them.
 #[inline(always)]
-pub(crate) fn put_chosen(units: &mut [u16], at: usize, lanes: &[u16], marks: &[u16]) -> usize
-    requires marks { length marks.now ≡ length lanes.now }
-    requires least { (i : ℕ) → slice_index marks.now i ≤ 1 }
-    requires room { at + length lanes.now ≤ length units.old }
-    ensures written { take result units.new ≡ take at units.old ++ chosen lanes.now marks.now }
-    ensures after_one { drop (result + 1) units.new ≡ drop (result + 1) units.old }
-    ensures after_block { drop (at + length lanes.now) units.new
-        ≡ drop (at + length lanes.now) units.old }
-    ensures from { at ≤ result }
-    ensures few { result ≤ at + length lanes.now }
+fn chosen_first(units: u16x4, mask: usize) -> u16x4
+    requires { mask < 16 }
+    ensures { take (length (chosen units mask)) result ≡ chosen units mask }
+{
+    units.swizzle_dyn_within::<4>(u16x4::from_slice(&CHOICES[4 * mask..]))
+}
+
+/// Writes those units of a block at which a mask has a bit from index `at` on, and returns the index
+/// after them. Within the block it may also overwrite up to four units after them.
+#[inline(always)]
+pub(crate) fn put_chosen(units: &mut [u16], at: usize, lanes: [u16; 16], mask: usize) -> usize
+    requires bits { mask < 2 ^ 16 }
+    requires room { at + 16 ≤ length units.old }
+    ensures written { take result units.new ≡ take at units.old ++ chosen lanes mask }
+    ensures after_four { drop (result + 4) units.new ≡ drop (result + 4) units.old }
+    ensures end { result ≡ at + count_ones mask }
     ensures len { length units.new ≡ length units.old }
 {
     let mut end = at;
-    for i in 0..lanes.len() {
-        units[end] = lanes[i];
-        end += usize::from(marks[i]);
+    let mut left = mask;
+    for i in 0..4 {
+        let four = u16x4::from_slice(&lanes[4 * i..]);
+        chosen_first(four, left % 16).copy_to_slice(&mut units[end..]);
+        end += (left % 16).count_ones() as usize;
+        left /= 16;
     }
     end
 }
 
-/// Appends those of the units that have a mark.
+/// What up to 16 bytes after the first add: a unit for each, and a mask of those that they add.
+#[tactic(auto, using(crate::proofs::lemmas::Choices::few_bits))]
 #[inline(always)]
-fn push_chosen<A: Allocator>(
-    units: &mut Vec<u16, A>,
-    lanes: &[u16],
-    marks: &[u16],
-) -> Result<(), AllocError>
-    requires marks { length marks.now ≡ length lanes.now }
-    requires least { (i : ℕ) → slice_index marks.now i ≤ 1 }
-    ensures ok { OnOk result (units.new.items ≡ units.old.items ++ chosen lanes.now marks.now) }
-    ensures room { vec_len units.old + length lanes.now ≤ vec_capacity units.old → IsOk result }
-    ensures capacity { vec_capacity units.old ≤ vec_capacity units.new }
-    ensures len { vec_len units.new ≤ vec_len units.old + length lanes.now }
+pub(crate) fn next_block(bytes: &[u8], count: usize, pairs: &mut bool) -> ([u16; 16], usize)
+    requires count { count ≤ 16 }
+    requires within { count < length bytes.now }
+    ensures added { units_after_first bytes.now
+        ≡ chosen result.0 result.1 ++ units_after_first (drop count bytes.now) }
+    ensures few { count_ones result.1 ≤ count }
+    ensures bits { result.1 < 2 ^ 16 }
 {
-    let at = units.len();
-    units.extend_from_slice(lanes)?;
-    let end = put_chosen(units.as_mut_slice(), at, lanes, marks);
-    units.truncate(end);
-    Ok(())
+    if bytes.len() >= 19 {
+        return (unit_lanes(bytes, pairs), unit_mask(bytes, count));
+    }
+    let window = padded(bytes);
+    (unit_lanes(&window, pairs), unit_mask(&window, count))
 }
 
-/// Appends what the next bytes after the first add: 16, or up to 16 where fewer than 19 are left. It
-/// is kept out of the loop over ASCII, which is faster without it.
+/// Appends what up to 16 bytes after the first add. It is kept out of the loop over ASCII, which is
+/// faster without it.
 #[inline(never)]
 fn push_next<A: Allocator>(
     units: &mut Vec<u16, A>,
@@ -161,7 +176,6 @@ fn push_next<A: Allocator>(
     count: usize,
     pairs: &mut bool,
 ) -> Result<(), AllocError>
-    requires block { 19 ≤ length bytes.now → count ≡ 16 }
     requires count { count ≤ 16 }
     requires within { count < length bytes.now }
     ensures ok { OnOk result (units.new.items ++ units_after_first (drop count bytes.now)
@@ -170,13 +184,18 @@ fn push_next<A: Allocator>(
     ensures capacity { vec_capacity units.old ≤ vec_capacity units.new }
     ensures len { vec_len units.new ≤ vec_len units.old + count }
 {
-    if bytes.len() >= 19 {
-        return push_chosen(units, &unit_lanes(bytes, pairs), &unit_marks(bytes));
+    let (lanes, mask) = next_block(bytes, count, pairs);
+    if count == 16 {
+        let at = units.len();
+        units.extend_from_slice(&lanes)?;
+        let end = put_chosen(units.as_mut_slice(), at, lanes, mask);
+        units.truncate(end);
+    } else {
+        let mut block = [0; 16];
+        let len = put_chosen(&mut block, 0, lanes, mask);
+        units.extend_from_slice(&block[..len])?;
     }
-    let window = padded(bytes);
-    let lanes = unit_lanes(&window, pairs);
-    let marks = unit_marks(&window);
-    push_chosen(units, &lanes[..count], &marks[..count])
+    Ok(())
 }
 
 /// The byte at an index, or 0 if there is none.

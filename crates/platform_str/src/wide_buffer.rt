@@ -1,16 +1,17 @@
 //! The units of a Windows string in a buffer, as far as there is room: those of 16 bytes at once.
 //! What is after the last unit stays as it is.
-ghost use Rattle.std.specs.Prelude.{◌≡◌, ◌++◌, ◌+◌, ◌≤◌, ◌<◌, ◌^◌, ℕ, List, drop, length, slice_index};
+ghost use Rattle.std.specs.Prelude.{◌≡◌, ◌++◌, ◌+◌, ◌≤◌, ◌<◌, ◌^◌, ℕ, List, drop, length, count_ones};
 ghost use Rattle.wtf8_core.specs.{Wtf8.IsWtf8, UnitsOf.units_of, Truncated.IsTruncated};
 ghost use Rattle.platform_str.specs.ToWide.{Appends, units_after_first, chosen};
 
-use crate::to_wide::{
-    first_unit, goes_on_in_ascii, padded, put_chosen, unit_lanes, unit_marks, widened,
-};
+use crate::to_wide::{first_unit, goes_on_in_ascii, next_block, put_chosen, widened};
 use std::simd::prelude::*;
 
-/// The units of a block.
+/// The units of a block, and how many a buffer has room for where a block is written into it: four
+/// are overwritten after it, and put back.
 const BLOCK: usize = 16;
+
+const ROOM: usize = BLOCK + 4;
 
 /// Appends units to `count` units in a buffer, as far as there is room, and returns how many there
 /// are with them.
@@ -40,60 +41,42 @@ fn fill_up(buffer: &mut [u16], count: usize, units: &[u16])
     }
 }
 
-/// Appends those units of a block that have a mark, where the buffer has room for a block. What was
+/// Appends those units of a block at which a mask has a bit, where the buffer has room. What was
 /// overwritten after them is put back.
 #[inline(always)]
-fn push_in_room(buffer: &mut [u16], count: usize, lanes: &[u16], marks: &[u16]) -> usize
-    requires marks { length marks.now ≡ length lanes.now }
-    requires least { (i : ℕ) → slice_index marks.now i ≤ 1 }
-    requires few { length lanes.now ≤ 16 }
-    requires room { count + 16 ≤ length buffer.old }
-    ensures written { Appends (chosen lanes.now marks.now) buffer.old count buffer.new result }
-    ensures few { result ≤ count + length lanes.now }
+fn push_in_room(buffer: &mut [u16], count: usize, lanes: [u16; 16], mask: usize) -> usize
+    requires bits { mask < 2 ^ 16 }
+    requires room { count + 20 ≤ length buffer.old }
+    ensures written { Appends (chosen lanes mask) buffer.old count buffer.new result }
+    ensures end { result ≡ count + count_ones mask }
 {
-    let before = u16x16::from_slice(&buffer[count..]).to_array();
-    let end = put_chosen(buffer, count, lanes, marks);
-    if end - count < lanes.len() {
-        buffer[end] = before[end - count];
-    }
+    let end = count + mask.count_ones() as usize;
+    let after = u16x4::from_slice(&buffer[end..]);
+    put_chosen(buffer, count, lanes, mask);
+    after.copy_to_slice(&mut buffer[end..]);
     end
 }
 
-/// Appends those units of a block that have a mark.
+/// Appends those units of a block at which a mask has a bit.
 #[inline(always)]
-fn push_chosen(buffer: &mut [u16], count: usize, lanes: &[u16], marks: &[u16]) -> usize
-    requires marks { length marks.now ≡ length lanes.now }
-    requires least { (i : ℕ) → slice_index marks.now i ≤ 1 }
-    requires few { length lanes.now ≤ 16 }
+fn push_chosen(buffer: &mut [u16], count: usize, lanes: [u16; 16], mask: usize) -> usize
+    requires bits { mask < 2 ^ 16 }
     requires room { count + 16 < 2 ^ 64 }
-    ensures written { Appends (chosen lanes.now marks.now) buffer.old count buffer.new result }
-    ensures few { result ≤ count + length lanes.now }
+    ensures written { Appends (chosen lanes mask) buffer.old count buffer.new result }
+    ensures end { result ≡ count + count_ones mask }
 {
-    if buffer.len() >= BLOCK && count <= buffer.len() - BLOCK {
-        return push_in_room(buffer, count, lanes, marks);
+    if buffer.len() >= ROOM && count <= buffer.len() - ROOM {
+        return push_in_room(buffer, count, lanes, mask);
     }
     let mut block = [0; BLOCK];
-    let len = put_chosen(&mut block, 0, lanes, marks);
+    let len = put_chosen(&mut block, 0, lanes, mask);
     push_truncated(buffer, count, &block[..len])
 }
 
-/// Appends what 16 bytes after the first add. It is kept out of the loop over ASCII, which is faster
-/// without it.
+/// Appends what up to 16 bytes after the first add. It is kept out of the loop over ASCII, which is
+/// faster without it.
 #[inline(never)]
-fn push_block(buffer: &mut [u16], count: usize, bytes: &[u8], pairs: &mut bool) -> usize
-    requires some { 19 ≤ length bytes.now }
-    requires room { count + 16 < 2 ^ 64 }
-    ensures written { (units : List ℕ) × (Appends units buffer.old count buffer.new result
-        × (units_after_first bytes.now ≡ units ++ units_after_first (drop 16 bytes.now))) }
-    ensures few { result ≤ count + 16 }
-{
-    push_chosen(buffer, count, &unit_lanes(bytes, pairs), &unit_marks(bytes))
-}
-
-/// Appends what up to 16 bytes after the first add, where fewer than 19 are left.
-#[inline(never)]
-fn push_end(buffer: &mut [u16], count: usize, bytes: &[u8], step: usize, pairs: &mut bool) -> usize
-    requires few { length bytes.now ≤ 19 }
+fn push_next(buffer: &mut [u16], count: usize, bytes: &[u8], step: usize, pairs: &mut bool) -> usize
     requires step { step ≤ 16 }
     requires within { step < length bytes.now }
     requires room { count + 16 < 2 ^ 64 }
@@ -101,10 +84,8 @@ fn push_end(buffer: &mut [u16], count: usize, bytes: &[u8], step: usize, pairs: 
         × (units_after_first bytes.now ≡ units ++ units_after_first (drop step bytes.now))) }
     ensures few { result ≤ count + step }
 {
-    let window = padded(bytes);
-    let lanes = unit_lanes(&window, pairs);
-    let marks = unit_marks(&window);
-    push_chosen(buffer, count, &lanes[..step], &marks[..step])
+    let (lanes, mask) = next_block(bytes, step, pairs);
+    push_chosen(buffer, count, lanes, mask)
 }
 
 /// Writes the units of a string into a buffer, as far as there is room, and returns how many the
@@ -124,12 +105,9 @@ pub(crate) fn write_units(string: &[u8], buffer: &mut [u16]) -> usize
             let block = u8x16::from_slice(&rest[1..]).to_array();
             count = push_truncated(buffer, count, &widened(block));
             rest = rest.split_at(BLOCK).1;
-        } else if rest.len() >= 19 {
-            count = push_block(buffer, count, rest, &mut pairs);
-            rest = rest.split_at(BLOCK).1;
         } else {
             let step = (rest.len() - 1).min(BLOCK);
-            count = push_end(buffer, count, rest, step, &mut pairs);
+            count = push_next(buffer, count, rest, step, &mut pairs);
             rest = rest.split_at(step).1;
         }
     }

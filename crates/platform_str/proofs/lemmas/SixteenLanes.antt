@@ -1,7 +1,8 @@
 -- Vectors of 16 lanes, lane by lane.
-use Rattle.std.proofs.Common.{◌≡◌, ℕ, ◌+◌, ◌≤◌, ◌<◌, Bool, false, cond, List, map, length, take, drop, get_or, replicate, sym, ap, ◌∙◌, arith}
-use Rattle.platform_str.proofs.Common.{zip2, top, length-map}
-use Rattle.std.proofs.lemmas.{List.get_or-map, List.get_or-take, Simd.length-chunk, Simd.get_or-chunk, Simd.get_or-zip2, Simd.get_or-replicate, Simd.length-replicate, Simd.length-zip2, Simd.tops_compared, Simd.length-sel_l, Simd.get_or-sel_l}
+use Rattle.std.proofs.Common.{◌≡◌, ℕ, ◌+◌, ◌*◌, ◌/◌, ◌%◌, ◌^◌, ◌≤◌, ◌<◌, Bool, false, cond, eqb, not, List, map, length, take, drop, get_or, replicate, sym, ap, ◌∙◌, arith}
+use Rattle.platform_str.proofs.Common.{mask_l, zip2, top, length-map}
+use Rattle.platform_str.proofs.lemmas.Choices.{bit_kept}
+use Rattle.std.proofs.lemmas.{List.get_or-map, List.get_or-take, Simd.length-chunk, Simd.get_or-chunk, Simd.get_or-zip2, Simd.get_or-replicate, Simd.length-replicate, Simd.length-zip2, Simd.tops_compared, Simd.length-sel_l, Simd.get_or-sel_l, Simd.bitmask_splat, Simd.bit_mask_l, Nat.one_shl}
 use lib.Lanes.{sel_l}
 use mir.Syntax.{w16}
 
@@ -48,3 +49,14 @@ choice test {xs} {ys} {yes} {no} {f} {g} {p} {q} a b y n =
           ∙ ap (λ x. cond (test (f i) (g i)) x (get_or no i 0)) (y.each i h)
           ∙ ap (λ x. cond (test (f i) (g i)) (p i) x) (n.each i h);
     })
+
+-- the lowest bits of a mask of the lanes that aren't 0
+pub bit_of : {xs : List ℕ} {f : ℕ → ℕ} → HasLanes xs f → (count i : ℕ) → count ≤ 16 → i < count
+    → mask_l (map (top 15) (zip2 (λ a b. cond (not (eqb a b)) 65535 0) xs (replicate 16 0))) % 2 ^ 64 % (1 * 2 ^ count % 2 ^ 64) / 2 ^ i % 2 ≡ cond (not (eqb (f i) 0)) 1 0
+bit_of {xs} {f} a count i few h =
+    let test : ℕ → Bool = λ x. not (eqb x 0) in
+    let ms = map test xs in
+    ap (λ k. mask_l (map (top 15) (zip2 (λ a b. cond (not (eqb a b)) 65535 0) xs (replicate 16 0))) % 2 ^ 64 % k / 2 ^ i % 2) (one_shl count 64 (omega (arith, few)))
+    ∙ ap (λ m. m % 2 ^ count / 2 ^ i % 2) (bitmask_splat w16 (λ x y. not (eqb x y)) xs 16 0 a.many (omega arith))
+    ∙ bit_kept (mask_l ms) count i h ∙ bit_mask_l ms i
+    ∙ ap (λ b. cond b 1 0) (get_or-map test xs i 0 false (omega (arith, a.many, few, h)) ∙ ap test (a.each i (omega (arith, few, h))))

@@ -4,7 +4,10 @@ use Rattle.std.proofs.lemmas.Bool.{cond-false}
 use Rattle.wtf8_core.proofs.Common.{cases_lt}
 use Rattle.wtf8_core.proofs.lemmas.{units.OneToOne.wide_pair, forms.Shapes.form_parts}
 use Rattle.wtf8_core.specs.{Byte.IsContinuation, Surrogate.high_unit, Surrogate.low_unit}
-use Rattle.platform_str.proofs.Common.{nat_tests, take_all, length-take-le, get_or-take, wide_single, form_ascii, form_two, form_three, form_past, encode, encode_utf16, IsCodePoint, units, flat_map, IsWtf8, HasUnits, units_of, has_units_of, code_points_in-encoded, AllByRecursion, append_assoc}
+use Rattle.platform_str.proofs.Common.{nat_tests, wide_single, form_ascii, form_two, form_three, form_past, encode, encode_utf16, IsCodePoint, units, flat_map, IsWtf8, HasUnits, units_of, has_units_of, code_points_in-encoded, AllByRecursion, append_assoc}
+use Rattle.platform_str.proofs.lemmas.Choices.{none_chosen}
+use Rattle.std.proofs.Math.Nat.{pow-suc}
+use lib.Pow.{shr-shr}
 use Rattle.platform_str.specs.ToWide.{adds_unit, bits_of_two, bits_of_three, unit_at, units_by_neighbours, units_after_first, chosen}
 
 -- what vectors compute is the unit
@@ -42,32 +45,38 @@ lane_without_pair b f s t h l m =
     let none : (x : ℕ) → x < 0xF0 → leb 0xF0 x ≡ false = λ x k. grind (arith, nat_tests, k) in
     ap (cond (ltb f 0x80) f) (sym (cond-false (leb 0xF0 b) _ _ (none b l) ∙ cond-false (leb 0xF0 f) _ _ (none f m))) ∙ lane_is_unit b f s t h
 
--- and what they compute is 1 where a unit is added
-pub lane_is_mark : (b f : ℕ) → ◌≡◌ {A = ℕ} (cond (leb 0xF0 b) 1 (cond (not (eqb (f / 0x40) 2)) 1 0)) (cond (adds_unit b f) 1 0)
-lane_is_mark b f = grind (arith, nat_tests)
+-- and a bit where a unit is added
+pub lane_is_bit : (b f : ℕ) → ◌≡◌ {A = ℕ} (cond (not (eqb (cond (leb 0xF0 b) 1 (cond (not (eqb (f / 0x40) 2)) 1 0)) 0)) 1 0) (cond (adds_unit b f) 1 0)
+lane_is_bit b f = grind (arith, nat_tests)
 
 -- what is appended, and what is left
 pub appended : (new old more rest all : List ℕ) → new ≡ old ++ more → all ≡ more ++ rest → new ++ rest ≡ old ++ all
 appended new old more rest all n a = ap (λ x. x ++ rest) n ∙ append_assoc old more rest ∙ ap (λ x. old ++ x) (sym a)
 
--- the marks of a block choose what its bytes add
-mark_chooses : (t : Bool) (x m : ℕ) → m ≡ cond t 1 0 → ◌≡◌ {A = List ℕ} (cond (eqb m 0) [] (x ∷ [])) (cond t (x ∷ []) [])
-mark_chooses true x m e = rw e refl
-mark_chooses false x m e = rw e refl
+-- the mask of a block chooses what its bytes add
+bit_chooses : (t : Bool) (x m : ℕ) → m ≡ cond t 1 0 → ◌≡◌ {A = List ℕ} (cond (eqb m 0) [] (x ∷ [])) (cond t (x ∷ []) [])
+bit_chooses true x m e = rw e refl
+bit_chooses false x m e = rw e refl
 
-pub block_marked : (n : ℕ) (w lanes marks : List ℕ) → length lanes ≡ n → length marks ≡ n → n < length w
+block_masked : (n : ℕ) (w lanes : List ℕ) (mask : ℕ) → n ≤ length lanes → n < length w → mask < 2 ^ n
     → ((i : ℕ) → i < n → get_or lanes i 0 ≡ unit_at (get_or w i 0) (get_or w (suc i) 0) (get_or w (suc (suc i)) 0) (get_or w (suc (suc (suc i))) 0))
-    → ((i : ℕ) → i < n → get_or marks i 0 ≡ cond (adds_unit (get_or w i 0) (get_or w (suc i) 0)) 1 0)
-    → units_after_first w ≡ chosen lanes marks ++ units_after_first (drop n w)
-block_marked zero w [] [] p q h u m = refl
-block_marked (suc n) (a ∷ b ∷ bs) (x ∷ xs) (y ∷ ms) p q h u m =
+    → ((i : ℕ) → i < n → mask / 2 ^ i % 2 ≡ cond (adds_unit (get_or w i 0) (get_or w (suc i) 0)) 1 0)
+    → units_after_first w ≡ chosen lanes mask ++ units_after_first (drop n w)
+block_masked zero w lanes mask p h k u m =
+    let none : mask ≡ 0 = omega (arith, k) in
+    sym (ap (λ x. chosen lanes x ++ units_after_first w) none ∙ ap (λ x. x ++ units_after_first w) (none_chosen lanes))
+block_masked (suc n) (a ∷ b ∷ bs) (x ∷ xs) mask p h k u m =
     let z : 0 < suc n = omega arith in
-    let i = block_marked n (b ∷ bs) xs ms (omega (arith, p)) (omega (arith, q)) (omega (arith, h)) (λ i l. u (suc i) (omega (arith, l))) (λ i l. m (suc i) (omega (arith, l))) in
+    let one : 1 + n ≡ suc n = omega arith in
+    let half : mask / 2 < 2 ^ n = omega (arith, k, pow-suc 2 n) in
+    let first : mask % 2 ≡ cond (adds_unit a b) 1 0 = omega (arith, m 0 z) in
+    let next : (i : ℕ) → mask / 2 / 2 ^ i ≡ mask / 2 ^ suc i = λ i. let e : 1 + i ≡ suc i = omega arith in shr-shr mask 1 i ∙ ap (λ j. mask / 2 ^ j) e in
+    let i = block_masked n (b ∷ bs) xs (mask / 2) (omega (arith, p)) (omega (arith, h)) half (λ i l. u (suc i) (omega (arith, l))) (λ i l. ap (λ x. x % 2) (next i) ∙ m (suc i) (omega (arith, l))) in
     ap (λ r. units_by_neighbours a b (get_or bs 0 0) (get_or bs 1 0) ++ r) i
-    ∙ sym (append_assoc (units_by_neighbours a b (get_or bs 0 0) (get_or bs 1 0)) (chosen xs ms) (units_after_first (drop n (b ∷ bs))))
-    ∙ ap (λ r. (r ++ chosen xs ms) ++ units_after_first (drop n (b ∷ bs)))
-    (ap (λ v. cond (adds_unit a b) (v ∷ []) []) (sym (u 0 z)) ∙ sym (mark_chooses (adds_unit a b) x y (m 0 z)))
-block_marked n w lanes marks p q h u m = absurd (omega (arith, p, q, h))
+    ∙ sym (append_assoc (units_by_neighbours a b (get_or bs 0 0) (get_or bs 1 0)) (chosen xs (mask / 2)) (units_after_first (drop n (b ∷ bs))))
+    ∙ ap (λ r. (r ++ chosen xs (mask / 2)) ++ units_after_first (drop n (b ∷ bs)))
+    (ap (λ v. cond (adds_unit a b) (v ∷ []) []) (sym (u 0 z)) ∙ sym (bit_chooses (adds_unit a b) x (mask % 2) first))
+block_masked n w lanes mask p h k u m = absurd (omega (arith, p, h))
 
 -- ASCII adds itself
 ascii_adds : (a b s t : ℕ) → b < 0x80 → units_by_neighbours a b s t ≡ b ∷ []
@@ -84,31 +93,21 @@ pub one_ascii : (w : List ℕ) → 1 < length w → get_or w 1 0 < 0x80 → unit
 one_ascii (a ∷ b ∷ bs) h l = ap (λ r. r ++ units_after_first (b ∷ bs)) (ascii_adds a b (get_or bs 0 0) (get_or bs 1 0) l)
 one_ascii w h l = absurd (omega (arith, h))
 
--- the same by what the lanes and the marks of a block are said to be
-pub some_chosen : (n : ℕ) (w lanes marks : List ℕ) → length lanes ≡ 16 → length marks ≡ 16 → n ≤ 16 → n < length w
+-- the same by what the lanes and the mask of a block are said to be
+pub some_chosen : (n : ℕ) (w lanes : List ℕ) (mask : ℕ) → length lanes ≡ 16 → n ≤ 16 → n < length w → mask < 2 ^ n
     → ((i : ℕ) → i < 16 → get_or lanes i 0 ≡ unit_at (get_or w i 0) (get_or w (1 + i) 0) (get_or w (2 + i) 0) (get_or w (3 + i) 0))
-    → ((i : ℕ) → i < 16 → get_or marks i 0 ≡ cond (adds_unit (get_or w i 0) (get_or w (1 + i) 0)) 1 0)
-    → units_after_first w ≡ chosen (take n lanes) (take n marks) ++ units_after_first (drop n w)
-some_chosen n w lanes marks p q few h u m =
-    block_marked n w (take n lanes) (take n marks) (length-take-le n lanes (omega (arith, p, few))) (length-take-le n marks (omega (arith, q, few))) h
+    → ((i : ℕ) → i < n → mask / 2 ^ i % 2 ≡ cond (adds_unit (get_or w i 0) (get_or w (1 + i) 0)) 1 0)
+    → units_after_first w ≡ chosen lanes mask ++ units_after_first (drop n w)
+some_chosen n w lanes mask p few h k u m =
+    block_masked n w lanes mask (omega (arith, p, few)) h k
     (λ i l. let one : 1 + i ≡ suc i = omega arith in
     let two : 2 + i ≡ suc (suc i) = omega arith in
     let three : 3 + i ≡ suc (suc (suc i)) = omega arith in
-    get_or-take n lanes i 0 l ∙ u i (omega (arith, l, few))
+    u i (omega (arith, l, few))
     ∙ ap (λ k. unit_at (get_or w i 0) (get_or w k 0) (get_or w (2 + i) 0) (get_or w (3 + i) 0)) one
     ∙ ap (λ k. unit_at (get_or w i 0) (get_or w (suc i) 0) (get_or w k 0) (get_or w (3 + i) 0)) two
     ∙ ap (λ k. unit_at (get_or w i 0) (get_or w (suc i) 0) (get_or w (suc (suc i)) 0) (get_or w k 0)) three)
-    (λ i l. let one : 1 + i ≡ suc i = omega arith in get_or-take n marks i 0 l ∙ m i (omega (arith, l, few)) ∙ ap (λ k. cond (adds_unit (get_or w i 0) (get_or w k 0)) 1 0) one)
-
--- and of a whole one
-pub block_chosen : (w lanes marks : List ℕ) → length lanes ≡ 16 → length marks ≡ 16 → 16 < length w
-    → ((i : ℕ) → i < 16 → get_or lanes i 0 ≡ unit_at (get_or w i 0) (get_or w (1 + i) 0) (get_or w (2 + i) 0) (get_or w (3 + i) 0))
-    → ((i : ℕ) → i < 16 → get_or marks i 0 ≡ cond (adds_unit (get_or w i 0) (get_or w (1 + i) 0)) 1 0)
-    → units_after_first w ≡ chosen lanes marks ++ units_after_first (drop 16 w)
-block_chosen w lanes marks p q h u m =
-    some_chosen 16 w lanes marks p q (omega arith) h u m
-    ∙ ap (λ l. chosen l (take 16 marks) ++ units_after_first (drop 16 w)) (take_all 16 lanes (omega (arith, p)))
-    ∙ ap (λ l. chosen lanes l ++ units_after_first (drop 16 w)) (take_all 16 marks (omega (arith, q)))
+    (λ i l. let one : 1 + i ≡ suc i = omega arith in m i l ∙ ap (λ k. cond (adds_unit (get_or w i 0) (get_or w k 0)) 1 0) one)
 
 -- one byte adds nothing
 pub none_after : (w : List ℕ) → length w ≤ 1 → units_after_first w ≡ []

@@ -1,7 +1,9 @@
 -- Units written into a buffer as far as it has room, and bytes up to its end.
-use Rattle.std.proofs.Common.{⊎_elim, ◌-◌, get_or, set}
-use Rattle.std.proofs.lemmas.List.{take-append-le, drop-drop, drop-set, drop-set-lt, drop_more}
-use Rattle.platform_str.proofs.Common.{◌≡◌, ℕ, ◌+◌, ◌≤◌, ◌<◌, List, [], ◌∷◌, ◌++◌, length, length-append, take, drop, refl, sym, ap, ◌∙◌, arith, length-take-le, take_all, HasUnits}
+use Rattle.std.proofs.Common.{⊎_elim}
+use Rattle.std.proofs.lemmas.{List.take-append-le, List.drop-drop, Simd.put_chunk_is, Simd.length-chunk, Simd.chunk-drop}
+use Rattle.std.proofs.Math.Seq.{drop-append_seam}
+use lib.Lanes.{chunk, put_chunk}
+use Rattle.platform_str.proofs.Common.{◌≡◌, ℕ, ◌+◌, ◌≤◌, ◌<◌, List, [], ◌++◌, length, length-append, take, drop, refl, sym, ap, ◌∙◌, arith, length-take-le, take_all, HasUnits}
 use Rattle.wtf8_core.proofs.Common.{cases_lt}
 use Rattle.wtf8_core.specs.Truncated.{IsTruncated}
 use Rattle.wtf8_core.proofs.lemmas.buffers.Truncated.{whole}
@@ -22,16 +24,15 @@ put_after text old now new more count end h written after len from room =
       after = after ∙ ap (λ m. drop m now) e ∙ sym (drop-drop n count now) ∙ ap (drop n) h.after ∙ drop-drop n count old ∙ ap (λ m. drop m old) (sym e);
     }
 
--- what is put back where it was overwritten
-pub put_back : (now new : List ℕ) (end x : ℕ) → drop (end + 1) new ≡ drop (end + 1) now → length new ≡ length now → end < length now → x ≡ get_or now end 0 → drop end (set new end x) ≡ drop end now
-put_back now new end x after len room is = drop-set new end x (omega (arith, len, room)) ∙ ap (λ l. x ∷ l) after ∙ ap (λ y. y ∷ drop (end + 1) now) is ∙ sym (drop_more now end 0 room)
-
--- an item is overwritten, and what is after it stays
-pub stays : (now new : List ℕ) (end k n x : ℕ) → drop k new ≡ drop k now → end < n → k ≤ n → drop n (set new end x) ≡ drop n now
-stays now new end k n x same past within =
-    let m = n - k in
-    let e : n ≡ k + m = omega (arith, within) in
-    drop-set-lt n new end x past ∙ ap (λ j. drop j new) e ∙ sym (drop-drop m k new) ∙ ap (drop m) same ∙ drop-drop m k now ∙ ap (λ j. drop j now) (sym e)
+-- four units are put back where they were overwritten
+pub put_back : (now new : List ℕ) (end : ℕ) → end + 4 ≤ length now → length new ≡ length now → drop (end + 4) new ≡ drop (end + 4) now → drop end (put_chunk end new (chunk end 4 now)) ≡ drop end now
+put_back now new end room len after =
+    let kept = chunk end 4 now in
+    let four = length-chunk end 4 now room in
+    let rest = kept ++ drop (length kept) (drop end new) in
+    ap (drop end) (put_chunk_is end new kept (omega (arith, four, room, len)))
+    ∙ ap (λ k. drop k (take end new ++ rest)) (sym (length-take-le end new (omega (arith, room, len)))) ∙ drop-append_seam (take end new) rest
+    ∙ ap (λ n. kept ++ drop n (drop end new)) four ∙ ap (λ r. kept ++ r) (drop-drop 4 end new ∙ after) ∙ sym (chunk-drop end 4 now)
 
 -- a buffer that is full, or into which all is written, has the first items of all
 pub filled : (end n : ℕ) (buffer rest all : List ℕ) → length buffer ≡ n → end ≤ n → n ≤ length all → take end buffer ++ rest ≡ all → (end < n → rest ≡ []) → buffer ≡ take n all
