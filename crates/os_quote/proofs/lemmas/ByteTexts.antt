@@ -1,7 +1,6 @@
 -- The words of bytes have their texts.
 use Rattle.os_quote.proofs.Common.{◌≡◌, ℕ, ◌*◌, ◌/◌, ◌<◌, ◌≤◌, Bool, true, false, true≢false, ◌&&◌, eqb, ltb, ◌+◌, List, [], ◌∷◌, ◌++◌, length, length-take-le, take, append_assoc, refl, sym, ap, ◌∙◌, subst, arith, and_parts, all_below, each_below, AllByRecursion, IsUtf8, IsUtf8-from_ascii, item_text, shown_by}
-use Rattle.std.proofs.lemmas.{Bool.eqb-true, Bool.ltb-true, Slice.take-put_mid, List.take-take}
-use Rattle.std.proofs.Math.Seq.{take-append-add}
+use Rattle.std.proofs.{lemmas.Bool.eqb-true, lemmas.Bool.ltb-true, lemmas.Slice.take-put_mid, lemmas.List.take-take, Math.Seq.take-append-add}
 use borrow.Rule.Slice.PartMut.{put_mid}
 use Rattle.std.specs.{Prelude.slice_index_or, Int.w64, Int.to_le_bytes}
 use mir.Val.{bool_byte}

@@ -1,8 +1,7 @@
 -- The tables have each character that is hidden, and the backslash.
 use Rattle.os_quote.proofs.Common.{◌≡◌, ⊎_elim, ℕ, suc, ◌+◌, ◌-◌, ◌/◌, ◌%◌, ◌<◌, ◌≤◌, Bool, true, false, ◌&&◌, List, [], ◌∷◌, not, eqb, ltb, bit_and, refl, sym, ap, ◌∙◌, subst, arith, true≢false, is_in_range, cases_lt, lt-ltb, le-ltb, all_below, each_below, hidden_ranges, is_in_ranges, IsUnchanged, stays_on_line, kind_bits, second_bits, third_bits, kind_bits_of_two, suspect_bits}
-use Rattle.std.specs.Bool.{if◌then◌else◌}
+use Rattle.std.specs.{Bool.if◌then◌else◌, Int.Bits.and_zero_l}
 use Rattle.std.proofs.lemmas.{Bool.and_parts, Bool.cases_Bool, Bool.or_cases, Bool.eqb-true, Bool.not-false, Nat.and_assoc}
-use Rattle.std.specs.Int.Bits.{and_zero_l}
 use Rattle.wtf8_core.proofs.lemmas.forms.Ranges.{in_range-true}
 use Rattle.os_quote.specs.Hidden.{is_suspect}
 

@@ -1,7 +1,6 @@
 -- The units of a string's chunks, and that the chunks of a text have no parts.
 use Rattle.os_str_ext.proofs.Common.{◌≡◌, ℕ, ◌<◌, List, [], ◌∷◌, ◌++◌, length, take, drop, refl, sym, ap, ◌∙◌, subst, arith, append_assoc, take-length, All-from_recursion, IsUtf8-nil, IsUtf8-append, All, AllByRecursion, flat_map, IsUtf8, IsBoundary, Chunk, joined, AreChunks, HasNoCharacter, IsChunkOf}
-use Rattle.std.proofs.Common.{◌↔◌}
-use Rattle.std.proofs.lemmas.List.Elements.{recursion_from_All}
+use Rattle.std.proofs.{Common.◌↔◌, lemmas.List.Elements.recursion_from_All}
 use Rattle.wtf8_core.proofs.lemmas.{characters.AtIndices.none_begins, forms.Cuts.utf8_cut, texts.AreWtf8.no_text_begins}
 use Rattle.os_str_ext.proofs.lemmas.{CutUnits.part_in_units, EachChunk.are_chunks_of, EachChunk.first_of, FirstChunk.edges}
 

@@ -1,7 +1,6 @@
 -- Where a needle occurs in a part of a string, and where its first and last occurrences are.
 use Rattle.os_str_ext.proofs.Common.{◌≡◌, ℕ, zero, suc, ◌+◌, ◌-◌, ◌<◌, ◌≤◌, List, [], ◌∷◌, length, take, drop, Option, Some, None, sym, ap, subst, ◌∙◌, arith, ⊎_elim, length-drop, cases_Bool, cases_eq, cases_lt, cond-true, cond-false, eq-eqb, false≢true, get_or-drop, length-take-le, option_map, slice_index, NeedleOccursAt, FindsNeedle, FindsLastNeedle, IsFirstByte, Nowhere, Passes, is_byte}
-use Rattle.std.proofs.Common.{Bool, max}
-use Rattle.std.proofs.lemmas.List.{get_or-take}
+use Rattle.std.proofs.{Common.Bool, Common.max, lemmas.List.get_or-take}
 use Rattle.memchr.specs.{Find.IsFirst, Find.IsLast, Find.NoneBefore, Find.NoneAfter, Find.TakesFirst, Find.places, Find.places_from, Pairs.HasPair, Pairs.IsPairFinderOf, Pairs.reach_of, declared.arch.all.packedpair.Finder.Finder}
 
 max_below : (a b n : ℕ) → a < n → b < n → max a b < n

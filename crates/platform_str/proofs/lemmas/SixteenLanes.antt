@@ -1,7 +1,6 @@
 -- Vectors of 16 lanes, lane by lane.
 use Rattle.std.proofs.Common.{◌≡◌, ℕ, ◌+◌, ◌*◌, ◌/◌, ◌%◌, ◌^◌, ◌≤◌, ◌<◌, Bool, false, cond, eqb, not, List, map, length, take, drop, get_or, replicate, sym, ap, ◌∙◌, arith}
-use Rattle.platform_str.proofs.Common.{mask_l, zip2, top, length-map}
-use Rattle.platform_str.proofs.lemmas.Choices.{bit_kept}
+use Rattle.platform_str.proofs.{Common.mask_l, Common.zip2, Common.top, Common.length-map, lemmas.Choices.bit_kept}
 use Rattle.std.proofs.lemmas.{List.get_or-map, List.get_or-take, Simd.length-chunk, Simd.get_or-chunk, Simd.get_or-zip2, Simd.get_or-replicate, Simd.length-replicate, Simd.length-zip2, Simd.tops_compared, Simd.length-sel_l, Simd.get_or-sel_l, Simd.bitmask_splat, Simd.bit_mask_l, Nat.one_shl}
 use lib.Lanes.{sel_l}
 use mir.Syntax.{w16}

@@ -1,12 +1,10 @@
 -- The units of a string, byte by byte.
 use Rattle.std.proofs.Common.{◌≡◌, ⊎_elim, ℕ, zero, suc, Bool, true, false, ◌+◌, ◌*◌, ◌/◌, ◌%◌, ◌^◌, ◌<◌, ◌≤◌, cond, ltb, leb, eqb, not, refl, sym, ap, ◌∙◌, subst, arith, List, [], ◌∷◌, ◌++◌, get_or, length, drop, take}
-use Rattle.std.proofs.lemmas.Bool.{cond-false}
-use Rattle.wtf8_core.proofs.Common.{cases_lt}
-use Rattle.wtf8_core.proofs.lemmas.{units.OneToOne.wide_pair, forms.Shapes.form_parts}
+use Rattle.std.proofs.{lemmas.Bool.cond-false, Math.Nat.pow-suc}
+use Rattle.wtf8_core.proofs.{Common.cases_lt, lemmas.units.OneToOne.wide_pair, lemmas.forms.Shapes.form_parts}
 use Rattle.wtf8_core.specs.{Byte.IsContinuation, Surrogate.high_unit, Surrogate.low_unit}
 use Rattle.platform_str.proofs.Common.{nat_tests, wide_single, form_ascii, form_two, form_three, form_past, encode, encode_utf16, IsCodePoint, units, flat_map, IsWtf8, HasUnits, units_of, has_units_of, code_points_in-encoded, AllByRecursion, append_assoc}
 use Rattle.platform_str.proofs.lemmas.Choices.{none_chosen}
-use Rattle.std.proofs.Math.Nat.{pow-suc}
 use lib.Pow.{shr-shr}
 use Rattle.platform_str.specs.ToWide.{adds_unit, bits_of_two, bits_of_three, unit_at, units_by_neighbours, units_after_first, chosen}
 

@@ -1,12 +1,10 @@
 -- Units written into a buffer as far as it has room, and bytes up to its end.
-use Rattle.std.proofs.Common.{⊎_elim}
+use Rattle.std.proofs.{Common.⊎_elim, Math.Seq.drop-append_seam}
 use Rattle.std.proofs.lemmas.{List.take-append-le, List.drop-drop, Simd.put_chunk_is, Simd.length-chunk, Simd.chunk-drop}
-use Rattle.std.proofs.Math.Seq.{drop-append_seam}
 use lib.Lanes.{chunk, put_chunk}
 use Rattle.platform_str.proofs.Common.{◌≡◌, ℕ, ◌+◌, ◌≤◌, ◌<◌, List, [], ◌++◌, length, length-append, take, drop, refl, sym, ap, ◌∙◌, arith, length-take-le, take_all, HasUnits}
-use Rattle.wtf8_core.proofs.Common.{cases_lt}
+use Rattle.wtf8_core.proofs.{Common.cases_lt, lemmas.buffers.Truncated.whole}
 use Rattle.wtf8_core.specs.Truncated.{IsTruncated}
-use Rattle.wtf8_core.proofs.lemmas.buffers.Truncated.{whole}
 
 -- units are written where there is room for them, and nothing after them is changed
 pub put_after : (text old now new more : List ℕ) (count end : ℕ) → IsTruncated text old now count → take end new ≡ take count now ++ more → drop end new ≡ drop end now → length new ≡ length now → count ≤ end → end ≤ length now

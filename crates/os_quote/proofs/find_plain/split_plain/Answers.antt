@@ -1,5 +1,4 @@
-use Rattle.os_quote.proofs.Common.{arith, take-append-drop, length-take-le}
-use Rattle.os_quote.proofs.lemmas.PlainBytes.{plain_prefix, plain_is_text}
+use Rattle.os_quote.proofs.{Common.arith, Common.take-append-drop, Common.length-take-le, lemmas.PlainBytes.plain_prefix, lemmas.PlainBytes.plain_is_text}
 use Rattle.os_quote.proofs.find_plain.split_plain.Goals as goal
 
 pub from_utf8_unchecked-requires : goal.from_utf8_unchecked-requires

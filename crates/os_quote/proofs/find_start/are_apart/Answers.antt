@@ -1,7 +1,5 @@
-use Rattle.os_quote.proofs.Common.{◌||◌, not, get_or, and_parts}
-use Rattle.std.proofs.Math.Dec.{leb}
-use Rattle.std.proofs.lemmas.Bool.{leb-true}
-use Rattle.os_quote.proofs.lemmas.FirstUnits.{told_apart}
+use Rattle.os_quote.proofs.{Common.◌||◌, Common.not, Common.get_or, Common.and_parts, lemmas.FirstUnits.told_apart}
+use Rattle.std.proofs.{Math.Dec.leb, lemmas.Bool.leb-true}
 use Rattle.os_quote.proofs.find_start.are_apart.Goals as goal
 
 pub returns : goal.returns

@@ -1,5 +1,4 @@
-use Rattle.os_quote.proofs.Common.{are_chunks_of, is_any}
-use Rattle.os_quote.proofs.lemmas.Escapes.{never_bad, one_bad_index}
+use Rattle.os_quote.proofs.{Common.are_chunks_of, Common.is_any, lemmas.Escapes.never_bad, lemmas.Escapes.one_bad_index}
 use Rattle.os_quote.proofs.laws.bad_escapes.Goals as goal
 
 pub returns-clause-never : goal.returns-clause-never

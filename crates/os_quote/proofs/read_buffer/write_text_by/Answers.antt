@@ -1,7 +1,6 @@
-use Rattle.os_quote.proofs.Common.{sym, subst, IsUtf8, shown_by, are_chunks_of}
+use Rattle.os_quote.proofs.{Common.sym, Common.subst, Common.IsUtf8, Common.shown_by, Common.are_chunks_of, lemmas.Unescaping.own_unescaped}
 use Rattle.std.specs.Prelude.{IfErr}
 use Rattle.os_quote.specs.Escape.{IsQuoteFaultBy}
-use Rattle.os_quote.proofs.lemmas.Unescaping.{own_unescaped}
 use Rattle.os_quote.proofs.read_buffer.write_text_by.Goals as goal
 
 pub returns-in-None-clause-string : goal.returns-in-None-clause-string

@@ -1,5 +1,4 @@
-use Rattle.std.proofs.Common.{eqb}
-use Rattle.std.proofs.lemmas.{Bool.Decides.Decides-eqb, Slice.Eq.strip_prefix_is}
+use Rattle.std.proofs.{Common.eqb, lemmas.Bool.Decides.Decides-eqb, lemmas.Slice.Eq.strip_prefix_is}
 use Rattle.os_quote.proofs.read_string.strip.Goals as goal
 
 pub returns : goal.returns

@@ -1,5 +1,4 @@
-use Rattle.os_quote.proofs.Common.{arith, length-drop, take_all}
-use Rattle.os_quote.proofs.lemmas.Texts.{first_backslash}
+use Rattle.os_quote.proofs.{Common.arith, Common.length-drop, Common.take_all, lemmas.Texts.first_backslash}
 use Rattle.os_quote.proofs.read_token.cut_backslash.Goals as goal
 
 pub returns : goal.returns

@@ -1,5 +1,4 @@
-use Rattle.os_quote.proofs.Common.{nil_from_length, shown_by}
-use Rattle.os_quote.proofs.lemmas.Tokens.{nothing_after, no_digits, no_number}
+use Rattle.os_quote.proofs.{Common.nil_from_length, Common.shown_by, lemmas.Tokens.nothing_after, lemmas.Tokens.no_digits, lemmas.Tokens.no_number}
 use Rattle.os_quote.proofs.read_token.first_token.Goals as goal
 
 pub returns-in_err-kind : goal.returns-in_err-kind

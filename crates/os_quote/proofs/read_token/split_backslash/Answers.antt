@@ -1,5 +1,4 @@
-use Rattle.os_quote.proofs.Common.{subst, HasNoBackslash}
-use Rattle.os_quote.proofs.lemmas.{Readings.cut_of_text, Texts.shown_unchanged}
+use Rattle.os_quote.proofs.{Common.subst, Common.HasNoBackslash, lemmas.Readings.cut_of_text, lemmas.Texts.shown_unchanged}
 use Rattle.os_quote.proofs.read_token.split_backslash.Goals as goal
 
 pub from_utf8_unchecked-requires : goal.from_utf8_unchecked-requires

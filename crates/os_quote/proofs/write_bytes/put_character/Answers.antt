@@ -1,6 +1,5 @@
 use Rattle.os_quote.proofs.Common.{◌≡◌, ◌+◌, ◌-◌, ◌++◌, ◌≤◌, length, take, drop, ap, ◌∙◌, sym, arith, encode_utf8, IsScalar, IsUtf8-encode, take-append-drop}
-use Rattle.std.proofs.Common.{rules}
-use Rattle.std.proofs.lemmas.List.{take-take}
+use Rattle.std.proofs.{Common.rules, lemmas.List.take-take}
 use Rattle.wtf8_core.proofs.lemmas.characters.AtIndices.{character_fits}
 use Rattle.os_quote.proofs.lemmas.ByteTexts.{placed}
 use Rattle.os_quote.proofs.write_bytes.put_character.Goals as goal

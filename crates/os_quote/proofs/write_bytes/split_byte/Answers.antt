@@ -1,8 +1,7 @@
 use Rattle.os_quote.proofs.Common.{◌<◌, ◌≤◌, ◌∷◌, ◌∙◌, ◌||◌, ◌≡◌, Bool, true, false, true≢false, IsTrue, ltb, ⊎_elim, ℕ, List, drop, sym, ap, subst, arith, item_text, shown_by}
-use Rattle.std.proofs.Common.{Option, Some, None, MatchOption}
+use Rattle.std.proofs.{Common.Option, Common.Some, Common.None, Common.MatchOption, lemmas.Bool.or_cases, lemmas.Bool.ltb-true, lemmas.Bool.Decides.nat_tests}
 use Rattle.std.specs.Option.{is_some}
 use Rattle.wtf8_core.specs.{Covered.StartsWithNoCharacter, Character.IsFirstChar}
-use Rattle.std.proofs.lemmas.{Bool.or_cases, Bool.ltb-true, Bool.Decides.nat_tests}
 use Rattle.os_quote.specs.Start.{BeginsWith, byte_item}
 use Rattle.os_quote.proofs.lemmas.ByteStarts.{from_ascii, from_unit}
 use Rattle.os_quote.proofs.write_bytes.split_byte.Goals.{then-is_ascii, else-is_ascii, else-not-is_ascii-are_apart-via-then-not-is_ascii-are_apart+else-is_some, else-not-is_ascii-are_apart-via-else-not-is_ascii-are_apart}

@@ -1,6 +1,5 @@
 use Rattle.os_quote.proofs.Common.{◌≡◌, ◌+◌, ◌*◌, sym, ap, ◌∙◌}
-use Rattle.os_quote.proofs.lemmas.ByteTexts.{past, word_has_text}
-use Rattle.os_quote.proofs.write_bytes.word_of.Goals.{in-Text, in-Line}
+use Rattle.os_quote.proofs.{lemmas.ByteTexts.past, lemmas.ByteTexts.word_has_text, write_bytes.word_of.Goals.in-Text, write_bytes.word_of.Goals.in-Line}
 use Rattle.os_quote.proofs.write_bytes.word_of.Goals as goal
 
 pub returns : goal.returns

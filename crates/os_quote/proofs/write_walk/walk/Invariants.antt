@@ -1,5 +1,4 @@
-use Rattle.os_quote.proofs.Common.{length, bytes, shown_by, escape_of}
-use Rattle.os_quote.proofs.lemmas.Taking.{TakesRest}
+use Rattle.os_quote.proofs.{Common.length, Common.bytes, Common.shown_by, Common.escape_of, lemmas.Taking.TakesRest}
 use Rattle.os_quote.proofs.write_walk.walk.Given as goal
 
 abbrev pub invariant-loop-rest : goal.invariant-loop-rest

@@ -1,5 +1,4 @@
-use Rattle.os_quote.proofs.Common.{length, shadow, Utf8, text_escape, shown_by}
-use Rattle.os_quote.proofs.lemmas.Taking.{TakesRest}
+use Rattle.os_quote.proofs.{Common.length, Common.shadow, Common.Utf8, Common.text_escape, Common.shown_by, lemmas.Taking.TakesRest}
 use Rattle.os_quote.proofs.write_walk.write_text.Given as goal
 
 abbrev pub invariant-loop-prefix : goal.invariant-loop-prefix

@@ -1,5 +1,4 @@
-use Rattle.std.proofs.Common.{◌<◌}
-use Rattle.std.proofs.lemmas.List.Elements.{All-from_get_or}
+use Rattle.std.proofs.{Common.◌<◌, lemmas.List.Elements.All-from_get_or}
 use Rattle.os_str_bytes.proofs.headline.ask_units.Goals as goal
 
 pub returns-clause-unix : goal.returns-clause-unix

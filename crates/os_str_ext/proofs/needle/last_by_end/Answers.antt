@@ -1,5 +1,4 @@
-use Rattle.std.proofs.Common.{◌+◌, refl, arith}
-use Rattle.std.proofs.lemmas.{Bool.false≢true, List.length-take-le}
+use Rattle.std.proofs.{Common.◌+◌, Common.refl, Common.arith, lemmas.Bool.false≢true, lemmas.List.length-take-le}
 use Rattle.os_str_ext.proofs.lemmas.Needles.{none_by_byte, ends_by_byte, last_there, ends_before, last_before}
 use Rattle.os_str_ext.proofs.needle.last_by_end.Goals as goal
 

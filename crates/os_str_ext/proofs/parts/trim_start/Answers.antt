@@ -1,5 +1,4 @@
-use Rattle.os_str_ext.proofs.Common.{◌<◌, ◌≢◌, length, false-eqb, arith, bytes}
-use Rattle.os_str_ext.proofs.lemmas.Runs.{cut_after_run}
+use Rattle.os_str_ext.proofs.{Common.◌<◌, Common.◌≢◌, Common.length, Common.false-eqb, Common.arith, Common.bytes, lemmas.Runs.cut_after_run}
 use Rattle.os_str_ext.proofs.parts.trim_start.Goals as goal
 
 pub split_at-requires : goal.split_at-requires

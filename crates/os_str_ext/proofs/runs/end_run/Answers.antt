@@ -1,6 +1,5 @@
 use Rattle.std.proofs.Common.{drop_of_length-le}
-use Rattle.os_str_ext.proofs.Common.{suc, arith, sym, ◌∙◌, false≢true}
-use Rattle.os_str_ext.proofs.lemmas.Runs.{passed_back, end_trim}
+use Rattle.os_str_ext.proofs.{Common.suc, Common.arith, Common.sym, Common.◌∙◌, Common.false≢true, lemmas.Runs.passed_back, lemmas.Runs.end_trim}
 use Rattle.os_str_ext.proofs.runs.end_run.Goals as goal
 
 pub loop-at-preserved : goal.loop-at-preserved

@@ -1,5 +1,4 @@
-use Rattle.os_str_ext.proofs.Common.{suc, arith, sym, ◌∙◌, false≢true}
-use Rattle.os_str_ext.proofs.lemmas.Runs.{passed_more, start_trim}
+use Rattle.os_str_ext.proofs.{Common.suc, Common.arith, Common.sym, Common.◌∙◌, Common.false≢true, lemmas.Runs.passed_more, lemmas.Runs.start_trim}
 use Rattle.os_str_ext.proofs.runs.start_run.Goals as goal
 
 pub loop-at-preserved : goal.loop-at-preserved

@@ -1,5 +1,4 @@
-use Rattle.os_str_ext.proofs.lemmas.Searches.{first_index_of_needle, cut_around_first, below_first}
-use Rattle.os_str_ext.proofs.Common.{◌^◌, arith}
+use Rattle.os_str_ext.proofs.{lemmas.Searches.first_index_of_needle, lemmas.Searches.cut_around_first, lemmas.Searches.below_first, Common.◌^◌, Common.arith}
 use Rattle.os_str_ext.proofs.search.find.Goals as goal
 
 pub returns-clause-index : goal.returns-clause-index

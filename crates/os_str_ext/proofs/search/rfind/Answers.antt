@@ -1,5 +1,4 @@
-use Rattle.os_str_ext.proofs.lemmas.Searches.{last_index_of_needle, cut_around_last, below_last}
-use Rattle.os_str_ext.proofs.Common.{◌^◌, arith}
+use Rattle.os_str_ext.proofs.{lemmas.Searches.last_index_of_needle, lemmas.Searches.cut_around_last, lemmas.Searches.below_last, Common.◌^◌, Common.arith}
 use Rattle.os_str_ext.proofs.search.rfind.Goals as goal
 
 pub returns-clause-index : goal.returns-clause-index

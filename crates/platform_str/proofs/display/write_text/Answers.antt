@@ -1,6 +1,5 @@
-use Rattle.platform_str.proofs.Common.{true, refl, sym, ap, ◌++◌, ◌∙◌, encode_utf8}
+use Rattle.platform_str.proofs.{Common.true, Common.refl, Common.sym, Common.ap, Common.◌++◌, Common.◌∙◌, Common.encode_utf8, lemmas.Displays.write_first}
 use Rattle.std.proofs.Output.{has_written_styled_append, has_written_styled_of_eq}
-use Rattle.platform_str.proofs.lemmas.Displays.{write_first}
 use Rattle.platform_str.proofs.display.write_text.Goals as goal
 
 pub loop-prefix-preserved : goal.loop-prefix-preserved

@@ -1,5 +1,4 @@
-use Rattle.platform_str.proofs.Common.{w16, take, arith, length-take-le}
-use Rattle.platform_str.proofs.lemmas.LaneTests.{count_from_splat}
+use Rattle.platform_str.proofs.{Common.w16, Common.take, Common.arith, Common.length-take-le, lemmas.LaneTests.count_from_splat}
 use Rattle.platform_str.proofs.from_wide.count_from.Goals as goal
 
 pub returns : goal.returns

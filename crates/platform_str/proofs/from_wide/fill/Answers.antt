@@ -1,5 +1,4 @@
-use Rattle.platform_str.proofs.Common.{length, arith}
-use Rattle.platform_str.proofs.lemmas.WideBuffer.{bytes_filled}
+use Rattle.platform_str.proofs.{Common.length, Common.arith, lemmas.WideBuffer.bytes_filled}
 use Rattle.platform_str.proofs.from_wide.fill.Goals as goal
 
 pub returns-in_default : goal.returns-in_default

@@ -1,5 +1,4 @@
-use Rattle.platform_str.proofs.Common.{w16, arith, take, drop, length-drop, length-take-le}
-use Rattle.platform_str.proofs.lemmas.LaneTests.{all_below_splat}
+use Rattle.platform_str.proofs.{Common.w16, Common.arith, Common.take, Common.drop, Common.length-drop, Common.length-take-le, lemmas.LaneTests.all_below_splat}
 use Rattle.platform_str.proofs.from_wide.goes_on_in_ascii.Goals as goal
 
 pub returns-then-units-gt16-clause-ascii : goal.returns-then-units-gt16-clause-ascii

@@ -1,5 +1,4 @@
-use Rattle.platform_str.proofs.Common.{◌≡◌, ◌+◌, length, AllByRecursion, IsUnit, pairs}
-use Rattle.platform_str.proofs.lemmas.FromWideCounts.{counted}
+use Rattle.platform_str.proofs.{Common.◌≡◌, Common.◌+◌, Common.length, Common.AllByRecursion, Common.IsUnit, Common.pairs, lemmas.FromWideCounts.counted}
 use Rattle.platform_str.proofs.from_wide.wtf8_len.Given as goal
 
 abbrev pub invariant-loop-rest : goal.invariant-loop-rest

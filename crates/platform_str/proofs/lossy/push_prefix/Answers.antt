@@ -1,5 +1,4 @@
-use Rattle.platform_str.proofs.Common.{◌≡◌, ◌-◌, length, take, ap, ◌∙◌, arith}
-use Rattle.platform_str.proofs.lemmas.LossyLoops.{prefix_of_block}
+use Rattle.platform_str.proofs.{Common.◌≡◌, Common.◌-◌, Common.length, Common.take, Common.ap, Common.◌∙◌, Common.arith, lemmas.LossyLoops.prefix_of_block}
 use Rattle.platform_str.proofs.lossy.push_prefix.Goals as goal
 
 pub returns : goal.returns

@@ -1,5 +1,4 @@
-use Rattle.platform_str.proofs.Common.{◌++◌, ap, sym, refl, ◌∙◌, arith}
-use Rattle.platform_str.proofs.lemmas.LossyLoops.{one_more}
+use Rattle.platform_str.proofs.{Common.◌++◌, Common.ap, Common.sym, Common.refl, Common.◌∙◌, Common.arith, lemmas.LossyLoops.one_more}
 use Rattle.platform_str.proofs.lossy.push_text.Goals as goal
 
 pub loop-len-preserved : goal.loop-len-preserved

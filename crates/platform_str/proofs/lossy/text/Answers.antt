@@ -1,5 +1,4 @@
-use Rattle.platform_str.proofs.Common.{◌++◌, ap, sym, ◌∙◌, subst, IsUtf8}
-use Rattle.platform_str.proofs.lemmas.LossyLoops.{one_more}
+use Rattle.platform_str.proofs.{Common.◌++◌, Common.ap, Common.sym, Common.◌∙◌, Common.subst, Common.IsUtf8, lemmas.LossyLoops.one_more}
 use Rattle.platform_str.proofs.lossy.text.Goals as goal
 
 pub from_utf8_unchecked-requires : goal.from_utf8_unchecked-requires

@@ -1,5 +1,4 @@
-use Rattle.platform_str.proofs.Common.{refl}
-use Rattle.platform_str.proofs.lemmas.Readings.{read_part, read_end, read_end_wtf8}
+use Rattle.platform_str.proofs.{Common.refl, lemmas.Readings.read_part, lemmas.Readings.read_end, lemmas.Readings.read_end_wtf8}
 use Rattle.platform_str.proofs.reading.read_wtf8.Goals as goal
 
 pub loop-valid_up_to-preserved : goal.loop-valid_up_to-preserved

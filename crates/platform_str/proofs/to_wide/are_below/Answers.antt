@@ -1,5 +1,4 @@
-use Rattle.platform_str.proofs.Common.{w8, arith}
-use Rattle.platform_str.proofs.lemmas.LaneTests.{all_below_splat}
+use Rattle.platform_str.proofs.{Common.w8, Common.arith, lemmas.LaneTests.all_below_splat}
 use Rattle.platform_str.proofs.to_wide.are_below.Goals as goal
 
 pub returns : goal.returns

@@ -1,5 +1,4 @@
-use Rattle.platform_str.proofs.Common.{◌+◌, rules}
-use Rattle.platform_str.proofs.lemmas.ToWide.{some_chosen}
+use Rattle.platform_str.proofs.{Common.◌+◌, Common.rules, lemmas.ToWide.some_chosen}
 use Rattle.platform_str.proofs.to_wide.next_block.Goals as goal
 
 pub returns-then-bytes-ge19-clause-added : goal.returns-then-bytes-ge19-clause-added

@@ -1,5 +1,4 @@
-use Rattle.wtf8_core.proofs.Common.{inr}
-use Rattle.wtf8_core.proofs.lemmas.forms.{Shapes.length-form_surrogate, LastForms.form_at_end, LastForms.too_short}
+use Rattle.wtf8_core.proofs.{Common.inr, lemmas.forms.Shapes.length-form_surrogate, lemmas.forms.LastForms.form_at_end, lemmas.forms.LastForms.too_short}
 use Rattle.wtf8_core.proofs.halves.split_last_surrogate.Goals as goal
 
 pub returns-in_err-prefix : goal.returns-in_err-prefix

@@ -1,8 +1,7 @@
 use Rattle.std.proofs.lemmas.Result.{IfOk-weaker}
 use Rattle.std.specs.List.{All}
 use Rattle.wtf8_core.specs.Byte.{IsByte}
-use Rattle.platform_str.proofs.Common.{sym, subst}
-use Rattle.platform_str.proofs.lemmas.Filled.{all_bytes}
+use Rattle.platform_str.proofs.{Common.sym, Common.subst, lemmas.Filled.all_bytes}
 use Rattle.platform_str.proofs.unix.UnixPlatform.read_lossy.Goals as goal
 
 pub returns-clause-formed : goal.returns-clause-formed

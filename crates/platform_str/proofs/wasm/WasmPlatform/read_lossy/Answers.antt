@@ -1,6 +1,5 @@
 use Rattle.std.proofs.lemmas.Result.{IfOk-weaker}
-use Rattle.platform_str.proofs.lemmas.Filled.{all_bytes}
-use Rattle.platform_str.proofs.Common.{sym, subst, IsLossyText, lossy_text, lossy_is_utf8}
+use Rattle.platform_str.proofs.{lemmas.Filled.all_bytes, Common.sym, Common.subst, Common.IsLossyText, Common.lossy_text, Common.lossy_is_utf8}
 use Rattle.platform_str.proofs.wasm.WasmPlatform.read_lossy.Goals as goal
 
 pub returns-clause-reading : goal.returns-clause-reading

@@ -1,5 +1,4 @@
-use Rattle.platform_str.proofs.Common.{sym, subst, HasUnits, ok_values, units_of-is}
-use Rattle.platform_str.proofs.lemmas.WideLemmas.{ok_units}
+use Rattle.platform_str.proofs.{Common.sym, Common.subst, Common.HasUnits, Common.ok_values, Common.units_of-is, lemmas.WideLemmas.ok_units}
 use Rattle.platform_str.proofs.wide.OsStr+Windows.encode_wide.Goals as goal
 
 pub invariant_of-result : goal.invariant_of-result

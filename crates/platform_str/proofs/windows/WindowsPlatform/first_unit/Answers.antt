@@ -1,6 +1,5 @@
-use Rattle.platform_str.proofs.Common.{◌∷◌, sym, ap, ◌∙◌}
+use Rattle.platform_str.proofs.{Common.◌∷◌, Common.sym, Common.ap, Common.◌∙◌, lemmas.FirstUnits.first_is_unit, lemmas.ToWide.begins_with}
 use Rattle.platform_str.specs.ToWide.{units_after_first}
-use Rattle.platform_str.proofs.lemmas.{FirstUnits.first_is_unit, ToWide.begins_with}
 use Rattle.platform_str.proofs.windows.WindowsPlatform.first_unit.Goals as goal
 
 pub returns : goal.returns

@@ -1,6 +1,5 @@
-use Rattle.wtf8_core.proofs.Common.{◌++◌, sym, subst}
+use Rattle.wtf8_core.proofs.{Common.◌++◌, Common.sym, Common.subst, lemmas.table.Pieces.only_ends, lemmas.table.Pieces.open_progress}
 use Rattle.wtf8_core.specs.Checker.{Describes, progress}
-use Rattle.wtf8_core.proofs.lemmas.table.Pieces.{only_ends, open_progress}
 use Rattle.wtf8_core.proofs.checker.Checker.feed.Goals as goal
 
 pub returns-in-Ok-clause-describes : goal.returns-in-Ok-clause-describes

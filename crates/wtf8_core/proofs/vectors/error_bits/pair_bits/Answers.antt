@@ -1,6 +1,5 @@
-use Rattle.wtf8_core.proofs.Common.{refl}
+use Rattle.wtf8_core.proofs.{Common.refl, lemmas.vectors.ComputedTests.copies}
 use Rattle.wtf8_core.specs.declared.vectors.error_bits.TheConstants.{FIRST_HIGH, FIRST_LOW, SECOND_HIGH}
-use Rattle.wtf8_core.proofs.lemmas.vectors.ComputedTests.{copies}
 use Rattle.wtf8_core.proofs.vectors.error_bits.pair_bits.Goals as goal
 
 pub entries-by_high-requires-clause-copies : goal.entries-by_high-requires-clause-copies
