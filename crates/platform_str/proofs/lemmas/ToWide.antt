@@ -87,6 +87,10 @@ block_ascii (suc n) (p ∷ b ∷ bs) h a =
     ∙ ap (λ r. b ∷ r) (block_ascii n (b ∷ bs) (omega (arith, h)) a.1)
 block_ascii n w h a = absurd (omega (arith, h))
 
+pub one_ascii : (w : List ℕ) → 1 < length w → get_or w 1 0 < 0x80 → units_after_first w ≡ get_or w 1 0 ∷ units_after_first (drop 1 w)
+one_ascii (a ∷ b ∷ bs) h l = ap (λ r. r ++ units_after_first (b ∷ bs)) (ascii_adds a b (get_or bs 0 0) (get_or bs 1 0) l)
+one_ascii w h l = absurd (omega (arith, h))
+
 -- the same by what the lanes and the mask of a block are said to be
 pub some_chosen : (n : ℕ) (w lanes : List ℕ) (mask : ℕ) → length lanes ≡ 16 → n ≤ 16 → n < length w → mask < 2 ^ n
     → ((i : ℕ) → i < 16 → get_or lanes i 0 ≡ unit_at (get_or w i 0) (get_or w (1 + i) 0) (get_or w (2 + i) 0) (get_or w (3 + i) 0))
