@@ -160,8 +160,18 @@ fn prefix_of_short(bytes: &[u8]) -> usize
 pub(crate) fn is_short_utf8(bytes: &[u8]) -> bool
     ensures { IsTrue result → IsUtf8 bytes.now }
 {
-    let len = bytes.len();
-    len <= SHORT && (is_short_ascii(bytes) || BEFORE <= len && is_short_text(bytes))
+    bytes.len() <= SHORT && (is_short_ascii(bytes) || is_text_by_steps(bytes))
+}
+
+/// Whether steps find at most 128 bytes to be UTF-8.
+///
+/// It isn't inlined, so that the questions for ASCII before it are.
+#[inline(never)]
+fn is_text_by_steps(bytes: &[u8]) -> bool
+    requires { length bytes.now ≤ 128 }
+    ensures { IsTrue result → IsUtf8 bytes.now }
+{
+    BEFORE <= bytes.len() && is_short_text(bytes)
 }
 
 /// The same as [`is_utf8`], by blocks.
