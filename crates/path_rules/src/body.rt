@@ -19,6 +19,7 @@ use crate::rules::Rules;
 /// let first = next_in(Rules::Slash, b"a/b");
 /// assert!(rt; first == Some((Component::Normal(b"a".as_slice()), b"b".as_slice())));
 /// ```
+#[inline(always)]
 pub fn next_in(rules: Rules, body: &[u8]) -> Option<(Component<&[u8]>, &[u8])>
     ensures items { MatchOption result (components_in rules body.now ≡ [])
         (λ first. components_in rules body.now ≡ item_of first.0 ∷ components_in rules first.1.now) }

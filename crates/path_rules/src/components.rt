@@ -118,6 +118,7 @@ impl<'a> Iterator for Components<'a> {
 
     ghost remaining = { item_count (λ left. left.items) };
 
+    #[inline(always)]
     fn next(&mut self) -> Option<Component<&'a [u8]>> {
         if !self.left.prefix.is_empty() {
             let prefix = self.left.prefix;
