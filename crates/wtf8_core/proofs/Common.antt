@@ -16,7 +16,7 @@ pub use Rattle.std.specs.Str.Lossy.{second_byte_min, second_byte_max, utf8_lossy
 unfoldable pub use Rattle.std.specs.Str.Lossy.{utf8_error_len, utf8_valid_len}
 pub use mathlib.Core.Bool.{Bool-set, beq}
 pub use Rattle.wtf8_core.specs.{Boundary.IsBoundary, Byte.IsByte, Byte.IsContinuation, Byte.is_continuation, Byte.needed_continuations, Byte.lead_bits, Character.WholeCharacter, Character.IsCharacterAt, Character.IsFirstChar}
-pub use Rattle.wtf8_core.specs.Checker.{IsInState, IsFaulty, Gives, Row, needed, rows, SomeRow, IsOpen, kept_bits, joined_bits, fault_at, is_between, is_plain, OnlyEnds, HasFirstFault, Progress, progress, Describes}
+pub use Rattle.wtf8_core.specs.Checker.{IsInState, IsFaulty, Gives, Row, needed, rows, SomeRow, IsOpen, kept_bits, joined_bits, fault_at, is_between, OnlyEnds, HasFirstFault, Progress, progress, Describes}
 pub use Rattle.wtf8_core.specs.{Chunks.Chunk, Chunks.joined, Chunks.AreChunks, CodePoint.IsCodePoint}
 unfoldable pub use Rattle.wtf8_core.specs.CodePoint.{encode, encode_utf16}
 pub use Rattle.wtf8_core.specs.{Covered.IsCovered, Covered.CrossesNoCharacter, Covered.StartsWithNoCharacter, Covered.HasNoCharacter, Decoder.decoder_bytes}

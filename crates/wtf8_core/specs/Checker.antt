@@ -25,11 +25,6 @@ is_between Between = true
 is_between AfterHigh = true
 is_between s = false
 
--- whether no sequence is open and no high surrogate comes directly before
-abbrev pub is_plain : State → Bool
-is_plain Between = true
-is_plain s = false
-
 -- open sequences: whether a high surrogate comes directly before, how many continuations were read, how many are missing after the next, and between which numbers the value so far lies
 pub record Row : Type 0 where
   pub high : Bool

@@ -2,7 +2,7 @@
 #![tactic(auto, using(crate::proofs::lemmas::table::Pieces::pieces))]
 
 ghost use Rattle.std.specs.Prelude.{◌≡◌, ℕ, ◌<◌, ◌≤◌, ◌∷◌, ◌++◌, List, [], length, MatchOption, MatchResult};
-ghost use Rattle.wtf8_core.specs.Checker.{IsInState, Describes, IsFaulty, OnlyEnds, HasFirstFault, fault_at, is_between, is_plain, saved_progress};
+ghost use Rattle.wtf8_core.specs.Checker.{IsInState, Describes, IsFaulty, OnlyEnds, HasFirstFault, fault_at, is_between, saved_progress};
 ghost use Rattle.wtf8_core.specs.{Wtf8.IsWtf8, EncodedPrefix.IsEncodedPrefix, declared.table.State.TheVariants.Between, declared.vectors.Encoding.TheVariants.Wtf8};
 
 use crate::byte::is_continuation;
@@ -205,14 +205,6 @@ fn is_between(state: State) -> bool
     matches!(state, State::Between | State::AfterHigh)
 }
 
-/// Whether no sequence is open and no high surrogate comes directly before.
-#[inline(always)]
-fn is_plain(state: State) -> bool
-    ensures { result ≡ is_plain state }
-{
-    matches!(state, State::Between)
-}
-
 /// The state and the bits after one more byte, or its fault.
 #[inline(always)]
 fn read_byte(state: State, bits: u32, byte: u8) -> Result<(State, u32), EncodingError>
@@ -289,7 +281,7 @@ fn read_piece(state: State, bits: u32, piece: &[u8]) -> Result<(State, u32), Enc
     let mut state = state;
     let mut bits = bits;
     let mut rest = piece;
-    while !is_plain(state) {
+    while !matches!(state, State::Between) {
         let Some((first, after)) = rest.split_first() else {
             return Ok((state, bits));
         };

@@ -64,18 +64,23 @@ impl<'a> DecodeWide<'a> {
     }
 }
 
-/// The bytes of the code point that begins at an index of units, packed into a number, the first of
-/// them in the lowest bits, and the index after that code point.
+/// The bytes of a form that are still to come, or, if there are none, those of the code point that
+/// begins at an index of units, packed into a number, the first of them in the lowest bits, and the
+/// index after that code point.
 ///
 /// Whether a unit is below the surrogates is asked first: most are, in text of every script, and
 /// such a unit is no half of a pair.
 #[tactic(auto, using(crate::proofs::lemmas::units::OneToOne::decoding))]
 #[inline(always)]
-fn form_at(units: &[u16], at: usize) -> Option<(u32, usize)>
-    ensures { MatchOption result (decoder_bytes 0 (drop at units.now) ≡ [])
-        (λ r. decoder_bytes 0 (drop at units.now)
+fn next_bytes(pending: u32, units: &[u16], at: usize) -> Option<(u32, usize)>
+    requires { pending < 2 ^ 24 }
+    ensures { MatchOption result (decoder_bytes pending (drop at units.now) ≡ [])
+        (λ r. decoder_bytes pending (drop at units.now)
         ≡ r.0 % 0x100 ∷ decoder_bytes (r.0 / 0x100) (drop r.1 units.now)) }
 {
+    if pending != 0 {
+        return Some((pending, at));
+    }
     if at >= units.len() {
         return None;
     }
@@ -88,21 +93,6 @@ fn form_at(units: &[u16], at: usize) -> Option<(u32, usize)>
         return Some((packed_form(paired(unit, units[after])), after + 1));
     }
     Some((packed_form(u32::from(unit)), after))
-}
-
-/// The bytes of a form that are still to come, or, if there are none, those of the form at an
-/// index, packed into a number, and the index of the unit after that form.
-#[inline(always)]
-fn next_bytes(pending: u32, units: &[u16], at: usize) -> Option<(u32, usize)>
-    requires { pending < 2 ^ 24 }
-    ensures { MatchOption result (decoder_bytes pending (drop at units.now) ≡ [])
-        (λ r. decoder_bytes pending (drop at units.now)
-        ≡ r.0 % 0x100 ∷ decoder_bytes (r.0 / 0x100) (drop r.1 units.now)) }
-{
-    if pending > 0 {
-        return Some((pending, at));
-    }
-    form_at(units, at)
 }
 
 impl<'a> Iterator for DecodeWide<'a> {

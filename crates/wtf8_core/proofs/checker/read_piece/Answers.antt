@@ -1,5 +1,5 @@
 use Rattle.wtf8_core.proofs.Common.{arith, ◌≡◌, [], ◌∷◌, ◌++◌, sym, ap, ◌∙◌, subst, append_assoc, IsInState, IsFaulty}
-use Rattle.wtf8_core.proofs.lemmas.table.{Pieces.extends, Entries.is_plain-true}
+use Rattle.wtf8_core.proofs.lemmas.table.Pieces.{extends}
 use Rattle.wtf8_core.proofs.checker.read_piece.Goals as goal
 
 pub loop-state-preserved : goal.loop-state-preserved
@@ -21,4 +21,4 @@ returns-in-Err c b h =
     subst (λ z. IsFaulty z c.in-Err.fault) e (extends _ after c.in-Err.fault (c.in-Err.ensures (b ++ m.prefix) (m.occurs b h)))
 
 pub returns : goal.returns
-returns c b h = grind (arith, append_assoc, is_plain-true)
+returns c b h = grind (arith, append_assoc)

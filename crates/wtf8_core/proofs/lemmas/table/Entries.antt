@@ -1,5 +1,5 @@
 -- What the tables say, by a test of each of their entries.
-use Rattle.wtf8_core.proofs.Common.{◌≡◌, ◌⊎◌, inl, inr, ⊎_elim, ℕ, suc, ◌+◌, ◌-◌, ◌*◌, ◌≤◌, Bool, true, false, leb, eqb, ◌&&◌, ◌||◌, List, [], ◌∷◌, map, ◌<◌, get_or, refl, sym, ap, ◌∙◌, and_parts, or_cases, leb-true, eqb-true, beq, needed_continuations, lead_bits, least_value, class_at, next_at, Row, needed, rows, SomeRow, is_plain, State, Between, AfterHigh, BadFourth, Refused, BadThird, Class, state_index}
+use Rattle.wtf8_core.proofs.Common.{◌≡◌, ◌⊎◌, inl, inr, ⊎_elim, ℕ, suc, ◌+◌, ◌-◌, ◌*◌, ◌≤◌, Bool, true, false, leb, eqb, ◌&&◌, ◌||◌, List, [], ◌∷◌, map, ◌<◌, get_or, refl, sym, ap, ◌∙◌, and_parts, or_cases, leb-true, eqb-true, beq, needed_continuations, lead_bits, least_value, class_at, next_at, Row, needed, rows, SomeRow, State, Between, AfterHigh, BadFourth, Refused, BadThird, Class, state_index}
 use Rattle.wtf8_core.specs.{Table.state_at, Table.class_index, declared.table.Class.TheVariants.Ascii}
 use Rattle.wtf8_core.proofs.lemmas.vectors.ComputedTests.{each_below}
 
@@ -144,7 +144,3 @@ all_pass s k = refl
 -- what the test says of each entry
 pub entered : (s : State) (k : Class) → Holds (entry s k)
 entered s k = holds (entry s k) (all_pass s k)
-
-pub is_plain-true : (s : State) → is_plain s ≡ true → s ≡ Between
-is_plain-true Between e = refl
-is_plain-true s e = cc

@@ -1,4 +1,4 @@
-use Rattle.wtf8_core.proofs.Common.{◌+◌, ◌-◌, arith, length, min, subst, ◌≡◌, get_or, get_or-drop, ap, ◌∙◌, suc, take_rest, KeepsPattern, with_zeros_before}
+use Rattle.wtf8_core.proofs.Common.{◌-◌, arith, take_rest}
 use Rattle.std.proofs.lemmas.Bool.{leb-true}
 use Rattle.wtf8_core.proofs.lemmas.vectors.Windows.{more_clamped}
 use Rattle.wtf8_core.specs.declared.vectors.Encoding.TheVariants.{Utf8}
