@@ -2,7 +2,7 @@
 #![tactic(auto, using(crate::proofs::lemmas::table::Pieces::pieces))]
 
 ghost use Rattle.std.specs.Prelude.{◌≡◌, ℕ, ◌<◌, ◌≤◌, ◌∷◌, ◌++◌, List, [], length, MatchOption, MatchResult};
-ghost use Rattle.wtf8_core.specs.Checker.{IsInState, Describes, IsFaulty, OnlyEnds, HasFirstFault, fault_at, is_between, saved_progress};
+ghost use Rattle.wtf8_core.specs.Checker.{IsInState, Describes, IsFaulty, OnlyEnds, HasFirstFault, fault_at, is_between, saved_progress, Progress, progress};
 ghost use Rattle.wtf8_core.specs.{Wtf8.IsWtf8, EncodedPrefix.IsEncodedPrefix, declared.table.State.TheVariants.Between, declared.vectors.Encoding.TheVariants.Wtf8};
 
 use crate::byte::is_continuation;
@@ -30,8 +30,6 @@ pub struct Checker {
 }
 
 impl Model for Checker {
-    ghost use Rattle.wtf8_core.specs.Checker.{Progress, progress};
-
     ghost Value = { Progress };
 
     ghost view = { λ it. progress it.state it.bits it.fault };

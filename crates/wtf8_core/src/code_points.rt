@@ -1,10 +1,10 @@
 //! The code points that bytes encode.
 #![tactic(auto, using(crate::proofs::lemmas::reader::Reading::reading))]
 
-ghost use Rattle.std.specs.Prelude.{◌≡◌, ℕ, suc, ◌∷◌, ◌+◌, ◌*◌, ◌<◌, ◌≤◌, ◌^◌, [], Ok, Err, drop, IfOk, IfSome, MatchOption, MatchResult};
-ghost use Rattle.wtf8_core.specs.{Byte.needed_continuations, Items.AreItems, Surrogate.is_high};
+ghost use Rattle.std.specs.Prelude.{◌≡◌, ℕ, suc, ◌∷◌, ◌+◌, ◌*◌, ◌<◌, ◌≤◌, ◌^◌, [], List, Result, Ok, Err, drop, IfOk, IfSome, MatchOption, MatchResult};
+ghost use Rattle.wtf8_core.specs.{Byte.needed_continuations, Items.AreItems, Surrogate.is_high, declared.fault.EncodingError.EncodingError};
 ghost use Rattle.std.specs.Iterator.{YieldsFirst, item_count};
-ghost use Rattle.wtf8_core.specs.Reader.{with_continuations, continuations, after_item, first_item, is_high_item, IsFirstItem};
+ghost use Rattle.wtf8_core.specs.Reader.{with_continuations, continuations, after_item, first_item, is_high_item, IsFirstItem, items_after};
 
 use crate::byte::is_continuation;
 use crate::fault::EncodingError;
@@ -35,12 +35,7 @@ pub struct CodePoints<'a> {
 }
 
 impl<'a> Model for CodePoints<'a> {
-    ghost use Rattle.std.specs.Prelude.{List, ℕ, Result};
-    ghost use Rattle.wtf8_core.specs.declared.fault.EncodingError.{EncodingError};
-
     ghost Value = { List (Result ℕ EncodingError) };
-
-    ghost use Rattle.wtf8_core.specs.Reader.{items_after};
 
     ghost view = { λ it. items_after it.after_high it.rest.now };
 }

@@ -1,5 +1,5 @@
 //! From 16-bit units to bytes.
-ghost use Rattle.std.specs.Prelude.{◌≡◌, ◌∷◌, ◌<◌, ◌^◌, ◌/◌, ◌%◌, [], drop, MatchOption};
+ghost use Rattle.std.specs.Prelude.{◌≡◌, ℕ, List, ◌∷◌, ◌<◌, ◌^◌, ◌/◌, ◌%◌, [], drop, MatchOption};
 ghost use Rattle.std.specs.Iterator.{YieldsFirst, item_count};
 ghost use Rattle.wtf8_core.specs.{Wtf8.HasUnits, Decoder.decoder_bytes};
 
@@ -29,11 +29,7 @@ pub struct DecodeWide<'a> {
 }
 
 impl<'a> Model for DecodeWide<'a> {
-    ghost use Rattle.std.specs.Prelude.{List, ℕ, ◌<◌, ◌^◌, drop};
-
     ghost Value = { List ℕ };
-
-    ghost use Rattle.wtf8_core.specs.Decoder.{decoder_bytes};
 
     ghost view = { λ it. decoder_bytes it.pending (drop it.at it.units.now) };
 

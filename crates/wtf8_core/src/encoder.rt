@@ -1,7 +1,7 @@
 //! From bytes to 16-bit units.
-ghost use Rattle.std.specs.Prelude.{◌≡◌, ◌∷◌};
+ghost use Rattle.std.specs.{Prelude.◌≡◌, Prelude.◌∷◌, Prelude.ℕ, Prelude.List, Prelude.Result, List.AllByRecursion};
 ghost use Rattle.std.specs.Iterator.{YieldsFirst, item_count};
-ghost use Rattle.wtf8_core.specs.{Items.AreUnitItems, Items.unit_items, Encoder.pending_items, Encoder.IsCodePointItem};
+ghost use Rattle.wtf8_core.specs.{Items.AreUnitItems, Items.unit_items, Encoder.pending_items, Encoder.IsCodePointItem, Encoder.encoder_items, declared.fault.EncodingError.EncodingError};
 
 use crate::code_points::CodePoints;
 use crate::fault::EncodingError;
@@ -21,12 +21,7 @@ pub struct EncodeWide<'a> {
 }
 
 impl<'a> Model for EncodeWide<'a> {
-    ghost use Rattle.std.specs.{Prelude.List, Prelude.ℕ, Prelude.Result, List.AllByRecursion};
-    ghost use Rattle.wtf8_core.specs.declared.fault.EncodingError.{EncodingError};
-
     ghost Value = { List (Result ℕ EncodingError) };
-
-    ghost use Rattle.wtf8_core.specs.Encoder.{encoder_items, IsCodePointItem};
 
     ghost view = { λ it. encoder_items it.pending it.code_points };
 

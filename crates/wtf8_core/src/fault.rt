@@ -136,8 +136,6 @@ impl Error for EncodingError {}
 ///
 /// `EncodingError::from((1, None))` is `Utf8 { valid_up_to: 1, error_len: None }`.
 impl From<(usize, Option<u8>)> for EncodingError {
-    ghost use Rattle.wtf8_core.specs.declared.fault.EncodingError.TheVariants.{Utf8};
-
     ghost from_gives = { λ fault error. error ≡ Utf8 fault.0 fault.1 };
 
     fn from((valid_up_to, error_len): (usize, Option<u8>)) -> Self {
