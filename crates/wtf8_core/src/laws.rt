@@ -40,6 +40,7 @@ pub fn one_fault_index()
 
 /// A first fault other than `End` stays the first fault, whatever bytes come next. So a [`Checker`]
 /// that has returned a fault returns it forever.
+#[tactic(auto, using(crate::proofs::lemmas::table::Pieces::extends))]
 pub fn fault_stays()
     ensures { (bytes : List ℕ) → (more : List ℕ) → (f : EncodingError) → IsFaulty bytes f
         → IsFaulty (bytes ++ more) f }

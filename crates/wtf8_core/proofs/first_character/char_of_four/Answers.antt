@@ -3,10 +3,7 @@ use Rattle.wtf8_core.proofs.lemmas.characters.{AtIndices.ascii_first, ByValue.va
 use Rattle.wtf8_core.proofs.first_character.char_of_four.Goals as goal
 
 pub returns-then-first-lt128 : goal.returns-then-first-lt128
-returns-then-first-lt128 c rest =
-    let a = c.args in
-    let bytes = a.first ∷ a.second ∷ a.third ∷ a.fourth ∷ rest in
-    subst (λ x. IsFirstChar bytes x 1) (sym c.from.ensures) (ascii_first bytes _ _ refl c.if-first-lt128.true)
+returns-then-first-lt128 c rest = subst (λ x. IsFirstChar (c.args.first ∷ c.args.second ∷ c.args.third ∷ c.args.fourth ∷ rest) x 1) (sym c.from.ensures) (ascii_first _ _ _ refl c.if-first-lt128.true)
 
 pub returns-then-low-ge64 : goal.returns-then-low-ge64
 returns-then-low-ge64 c rest =
@@ -26,10 +23,8 @@ returns-then-high-low c rest =
 pub returns-then-code_point-lt2048 : goal.returns-then-code_point-lt2048
 returns-then-code_point-lt2048 c rest =
     let a = c.args in
-    let k = c.low_bits-high.ensures.bits (grind (arith, nat_tests)) in
-    let l = c.low_bits-low-then-lead-2.ensures.bits (grind (arith, nat_tests)) in
     none_by_three a.first a.second a.third a.fourth rest c.if-first-lt128.false (grind (arith, nat_tests)) (grind (arith, nat_tests))
-    (λ h _. grind (arith, nat_tests, h, k, l, c.if-code_point-lt2048.true))
+    (λ h _. grind (arith, nat_tests, h, c.low_bits-high.ensures.bits, c.low_bits-low-then-lead-2.ensures.bits, c.if-code_point-lt2048.true))
 
 pub returns-then-lead-2 : goal.returns-then-lead-2
 returns-then-lead-2 c rest =
@@ -45,9 +40,7 @@ returns-then-lead-2 c rest =
 pub returns-in_err-from_u32 : goal.returns-in_err-from_u32
 returns-in_err-from_u32 c rest =
     let a = c.args in
-    let k = c.low_bits-high.ensures.bits (grind (arith, nat_tests)) in
-    let l = c.low_bits-low-then-lead-2.ensures.bits (grind (arith, nat_tests)) in
-    let is : value_of_three a.first a.second a.third ≡ c.from-then-lead-2.result * 0x1000 + c.low_bits-high.result * 0x40 + c.low_bits-low-then-lead-2.result = grind (arith, nat_tests, k, l) in
+    let is : value_of_three a.first a.second a.third ≡ c.from-then-lead-2.result * 0x1000 + c.low_bits-high.result * 0x40 + c.low_bits-low-then-lead-2.result = grind (arith, nat_tests, c.low_bits-high.ensures.bits, c.low_bits-low-then-lead-2.ensures.bits) in
     rw (c.from_residual.ensures)
     (none_by_three a.first a.second a.third a.fourth rest c.if-first-lt128.false (grind (arith, nat_tests)) (grind (arith, nat_tests))
     (λ _ s. c.in_err-from_u32.ensures.value (subst IsScalar is s)))
@@ -64,11 +57,8 @@ returns-then-high-middle c rest =
 pub returns-then-code_point-lt65536 : goal.returns-then-code_point-lt65536
 returns-then-code_point-lt65536 c rest =
     let a = c.args in
-    let k = c.low_bits-high-2.ensures.bits (grind (arith, nat_tests)) in
-    let m = c.low_bits-middle.ensures.bits (grind (arith, nat_tests)) in
-    let l = c.low_bits-low-2.ensures.bits (grind (arith, nat_tests)) in
     none_by_four a.first a.second a.third a.fourth rest c.if-first-lt128.false (grind (arith, nat_tests)) (grind (arith, nat_tests))
-    (λ h _. grind (arith, nat_tests, h, k, m, l, c.if-code_point-lt65536.true))
+    (λ h _. grind (arith, nat_tests, h, c.low_bits-high-2.ensures.bits, c.low_bits-middle.ensures.bits, c.low_bits-low-2.ensures.bits, c.if-code_point-lt65536.true))
 
 pub returns : goal.returns
 returns c rest =
@@ -85,10 +75,7 @@ returns c rest =
 pub returns-in_err-from_u32-2 : goal.returns-in_err-from_u32-2
 returns-in_err-from_u32-2 c rest =
     let a = c.args in
-    let k = c.low_bits-high-2.ensures.bits (grind (arith, nat_tests)) in
-    let m = c.low_bits-middle.ensures.bits (grind (arith, nat_tests)) in
-    let l = c.low_bits-low-2.ensures.bits (grind (arith, nat_tests)) in
-    let is : value_of_four a.first a.second a.third a.fourth ≡ c.from-2.result * 0x4_0000 + c.low_bits-high-2.result * 0x1000 + c.low_bits-middle.result * 0x40 + c.low_bits-low-2.result = grind (arith, nat_tests, k, m, l) in
+    let is : value_of_four a.first a.second a.third a.fourth ≡ c.from-2.result * 0x4_0000 + c.low_bits-high-2.result * 0x1000 + c.low_bits-middle.result * 0x40 + c.low_bits-low-2.result = grind (arith, nat_tests, c.low_bits-high-2.ensures.bits, c.low_bits-middle.ensures.bits, c.low_bits-low-2.ensures.bits) in
     rw (c.from_residual-in_err-from_u32-2.ensures)
     (none_by_four a.first a.second a.third a.fourth rest c.if-first-lt128.false (grind (arith, nat_tests)) (grind (arith, nat_tests))
     (λ _ s. c.in_err-from_u32-2.ensures.value (subst IsScalar is s)))
