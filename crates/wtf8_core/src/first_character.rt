@@ -115,12 +115,8 @@ pub(crate) fn first_char_len(bytes: &[u8]) -> Option<usize>
     ensures { IsCharacterAt bytes.now 0 result }
 {
     match len_or_fault(bytes) {
-        Some(Ok(len)) => Some(len),
-        Some(Err(_)) => None,
-        None => {
-            let (_, len) = first_char_of_few(bytes)?;
-            Some(len)
-        }
+        Some(answer) => answer.ok(),
+        None => Some(first_char_of_few(bytes)?.1),
     }
 }
 

@@ -1,8 +1,11 @@
-use Rattle.wtf8_core.proofs.Common.{Some, subst, IsUtf8Fault, BeginsWith}
+use Rattle.wtf8_core.proofs.Common.{ℕ, List, Result, Ok, Err, subst, sym, BeginsWith, IsCharacterAt}
+use Rattle.std.specs.Result.{result_ok}
 use Rattle.wtf8_core.proofs.lemmas.{characters.AtIndices.none_at, texts.StdFaults.no_char}
 use Rattle.wtf8_core.proofs.first_character.first_char_len.Goals as goal
 
-pub returns-in-Some-Err : goal.returns-in-Some-Err
-returns-in-Some-Err c =
-    let w : IsUtf8Fault c.args.bytes.now 0 (Some c.in-Some-Err.field-0-0) = subst (BeginsWith c.args.bytes.now) c.in-Some-Err.field-0-is c.in-Some-Err.ensures in
-    none_at c.args.bytes.now 0 (no_char c.args.bytes.now 0 w.valid)
+at_start : (bytes : List ℕ) (answer : Result ℕ ℕ) → BeginsWith bytes answer → IsCharacterAt bytes 0 (result_ok answer)
+at_start bytes (Ok len) h = h
+at_start bytes (Err len) h = none_at bytes 0 (no_char bytes 0 h.valid)
+
+pub returns-in-Some : goal.returns-in-Some
+returns-in-Some c = subst (IsCharacterAt c.args.bytes.now 0) (sym c.ok.ensures.value) (at_start _ c.in-Some.answer c.in-Some.ensures)
