@@ -1,4 +1,5 @@
 pub mod Bulk
+pub mod Lanes
 pub mod ToWide
 pub mod FromWide
 pub mod Laws

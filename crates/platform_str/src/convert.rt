@@ -162,7 +162,9 @@ pub trait OsStrBytes<'a>: Sized + Copy {
         if Self::Platform::is_io_safe(bytes) {
             return Ok(ByteCow::Borrowed(bytes));
         }
-        Ok(ByteCow::Owned(lossy::text_bytes::<Self::Platform, A>(alloc, bytes)?))
+        let fault = Self::Platform::utf8_fault(bytes);
+        let text = lossy::text_bytes::<Self::Platform, A>(alloc, bytes, fault)?;
+        Ok(ByteCow::Owned(text))
     }
 
     // the bytes of a string are well formed

@@ -32,6 +32,7 @@ mod from_wide;
 mod join;
 pub mod laws;
 mod lossy;
+mod memory;
 mod os_str;
 mod os_string;
 mod path;

@@ -1,30 +1,16 @@
 //! Lossy texts, by the laws of the platform.
-ghost use Rattle.std.specs.Prelude.{◌≡◌, ◌<◌, ◌≤◌, ◌+◌, ◌*◌, ◌^◌, ◌++◌, length, take, drop, IfOk, IfSome, MatchOption, OnOk};
-ghost use Rattle.std.specs.{Str.IsUtf8, String.string_bytes};
+ghost use Rattle.std.specs.Prelude.{◌≡◌, ◌<◌, ◌≤◌, ◌+◌, ◌*◌, ◌^◌, ◌++◌, length, take, drop, IfOk, MatchOption, OnOk};
+ghost use Rattle.std.specs.Str.{IsUtf8};
 ghost use Rattle.wtf8_core.specs.{Lossy.replacement, Truncated.IsTruncated, Utf8.IsUtf8Fault};
 ghost use Rattle.platform_str.specs.Lossy.{IsFirstText};
 
+use crate::memory::Pushed;
 use crate::platform::Platform;
 use std::alloc::{AllocError, Allocator};
 use wtf8_core::push_truncated;
 
 /// The bytes of U+FFFD.
 const REPLACEMENT: [u8; 3] = [0xEF, 0xBF, 0xBD];
-
-/// The length in bytes of the text at the start of a string's bytes, and the bytes after the part
-/// that follows it and is replaced by one U+FFFD; `None` if all the bytes are a text.
-#[inline(always)]
-fn first_replaced<E: Platform>(bytes: &[u8]) -> Option<(usize, &[u8])>
-    requires { E.well_formed bytes.now }
-    ensures within { IfSome result (λ first. first.0 ≤ length bytes.now) }
-    ensures text { IfSome result (λ first. IsUtf8 (take first.0 bytes.now)) }
-    ensures cases { MatchOption result (IsUtf8 bytes.now)
-        (λ first. IsFirstText E.well_formed E.lossy bytes.now (take first.0 bytes.now)
-        first.1.now) }
-{
-    let (valid, error_len) = E::utf8_fault(bytes)?;
-    Some((valid, after_fault::<E>(bytes, valid, error_len)))
-}
 
 /// The bytes after the part that one U+FFFD replaces at a string's first fault.
 #[inline(always)]
@@ -38,16 +24,18 @@ fn after_fault<E: Platform>(bytes: &[u8], valid: usize, error_len: Option<u8>) -
     rest
 }
 
-/// The same, with the text itself in place of its length.
+/// The text at the start of a string's bytes, and the bytes after the part that follows it and is
+/// replaced by one U+FFFD; `None` if all the bytes are a text.
 #[inline(always)]
 pub(crate) fn first_text<E: Platform>(bytes: &[u8]) -> Option<(&str, &[u8])>
     requires { E.well_formed bytes.now }
     ensures { MatchOption result (IsUtf8 bytes.now)
         (λ first. IsFirstText E.well_formed E.lossy bytes.now first.0.now first.1.now) }
 {
-    let (len, rest) = first_replaced::<E>(bytes)?;
-    let (prefix, _) = bytes.split_at(len);
-    Some((unsafe { str::from_utf8_unchecked(prefix) }, rest))
+    let (valid, error_len) = E::utf8_fault(bytes)?;
+    let (text, _) = bytes.split_at(valid);
+    let rest = after_fault::<E>(bytes, valid, error_len);
+    Some((unsafe { str::from_utf8_unchecked(text) }, rest))
 }
 
 /// The number of bytes of a block.
@@ -56,11 +44,7 @@ const BLOCK: usize = 16;
 /// Appends the first `len` bytes. If they fit in a block they are written as a whole block, whose
 /// length is fixed, and the excess is truncated.
 #[inline(always)]
-fn push_prefix<A: Allocator>(
-    text: &mut Vec<u8, A>,
-    bytes: &[u8],
-    len: usize,
-) -> Result<(), AllocError>
+fn push_prefix<A: Allocator>(text: &mut Vec<u8, A>, bytes: &[u8], len: usize) -> Pushed
     requires { len ≤ length bytes.now }
     ensures { OnOk result (text.new.items ≡ text.old.items ++ take len bytes.now) }
 {
@@ -76,11 +60,7 @@ fn push_prefix<A: Allocator>(
 
 /// Appends the first `len` bytes, and then U+FFFD.
 #[inline(always)]
-pub(crate) fn push_replaced<A: Allocator>(
-    text: &mut Vec<u8, A>,
-    bytes: &[u8],
-    len: usize,
-) -> Result<(), AllocError>
+pub(crate) fn push_replaced<A: Allocator>(text: &mut Vec<u8, A>, bytes: &[u8], len: usize) -> Pushed
     requires { len ≤ length bytes.now }
     ensures { OnOk result (text.new.items ≡ (text.old.items ++ take len bytes.now) ++ replacement) }
 {
@@ -96,50 +76,27 @@ fn text_room(bytes: &[u8]) -> usize {
     bytes.len().saturating_add(REPLACEMENT.len() - 1)
 }
 
-/// Appends the lossy text of a string.
-fn push_text<E: Platform, A: Allocator>(
-    text: &mut Vec<u8, A>,
-    bytes: &[u8],
-) -> Result<(), AllocError>
-    requires { E.well_formed bytes.now }
-    ensures { OnOk result (text.new.items ≡ text.old.items ++ E.lossy bytes.now) }
-{
-    let mut rest = bytes;
-    while let Some((len, after)) = first_replaced::<E>(rest) {
-        push_replaced(text, rest, len)?;
-        rest = after;
-    }
-    text.extend_from_slice(rest)
-}
-
-/// The bytes of the lossy text of a string, in new memory.
+/// The bytes of the lossy text of a string whose first fault is known, in new memory.
 pub(crate) fn text_bytes<E: Platform, A: Allocator>(
     alloc: A,
     bytes: &[u8],
+    first_fault: Option<(usize, Option<u8>)>,
 ) -> Result<Vec<u8, A>, AllocError>
-    requires { E.well_formed bytes.now }
+    requires formed { E.well_formed bytes.now }
+    requires fault { MatchOption first_fault (IsUtf8 bytes.now)
+        (λ fault. IsUtf8Fault bytes.now fault.0 fault.1) }
     ensures { IfOk result (λ text. text.items ≡ E.lossy bytes.now) }
 {
     let mut text = Vec::with_capacity(alloc, text_room(bytes))?;
-    push_text::<E, A>(&mut text, bytes)?;
+    let mut rest = bytes;
+    let mut fault = first_fault;
+    while let Some((valid, error_len)) = fault {
+        push_replaced(&mut text, rest, valid)?;
+        rest = after_fault::<E>(rest, valid, error_len);
+        fault = E::utf8_fault(rest);
+    }
+    text.extend_from_slice(rest)?;
     Ok(text)
-}
-
-/// The lossy text of a string whose first fault is known, in new memory.
-pub(crate) fn text<E: Platform, A: Allocator>(
-    alloc: A,
-    bytes: &[u8],
-    valid: usize,
-    error_len: Option<u8>,
-) -> Result<String<A>, AllocError>
-    requires formed { E.well_formed bytes.now }
-    requires fault { IsUtf8Fault bytes.now valid error_len }
-    ensures { IfOk result (λ text. string_bytes text ≡ E.lossy bytes.now) }
-{
-    let mut text = Vec::with_capacity(alloc, text_room(bytes))?;
-    push_replaced(&mut text, bytes, valid)?;
-    push_text::<E, A>(&mut text, after_fault::<E>(bytes, valid, error_len))?;
-    Ok(unsafe { String::from_utf8_unchecked(text) })
 }
 
 /// Writes the lossy text of a string's bytes into a buffer, as far as there is room, and returns its

@@ -210,12 +210,12 @@ impl<'a, E: Platform> OsStr<'a, E> {
         ensures text { IfOk result (λ text. str_cow_bytes text ≡ E.lossy (bytes self.entry)) }
         ensures without_memory { IsUtf8 (bytes self.entry) → IsOk result }
     {
-        let Some((valid, error_len)) = E::utf8_fault(self.bytes) else {
+        let Some(fault) = E::utf8_fault(self.bytes) else {
             let text = unsafe { str::from_utf8_unchecked(self.bytes) };
             return Ok(StrCow::Borrowed(text));
         };
-        let text = lossy::text::<E, A>(alloc, self.bytes, valid, error_len)?;
-        Ok(StrCow::Owned(text))
+        let text = lossy::text_bytes::<E, A>(alloc, self.bytes, Some(fault))?;
+        Ok(StrCow::Owned(unsafe { String::from_utf8_unchecked(text) }))
     }
 
     /// The lossy text, for printing (std's `OsStr::display`): `{}` writes the text that

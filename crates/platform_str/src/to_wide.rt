@@ -2,20 +2,21 @@
 //! what the bytes beside it say, without a branch. Units that are added are put together by fours,
 //! which takes three quarters of the time of one by one.
 ghost use Rattle.std.specs.Prelude.{◌≡◌, ◌++◌, ◌+◌, ◌/◌, ◌%◌, ◌^◌, ◌≤◌, ◌<◌, ℕ, true, if◌then◌else◌, take, drop, length, slice_index, count_ones, IsOk, OnOk, vec_len, vec_capacity};
-ghost use Rattle.std.specs.List.{All};
 ghost use Rattle.wtf8_core.specs.{Wtf8.IsWtf8, UnitsOf.units_of};
-ghost use Rattle.platform_str.specs.ToWide.{adds_unit, unit_at, units_after_first, chosen};
+ghost use Rattle.platform_str.specs.{Lanes.HasLanes, ToWide.adds_unit, ToWide.unit_at, ToWide.units_after_first, ToWide.chosen};
 
-use std::alloc::{AllocError, Allocator};
+use crate::memory::Pushed;
+use std::alloc::Allocator;
 use std::simd::prelude::*;
 use wtf8_core::vectors::window::put_in_zeros;
 
-/// Whether each of 16 bytes is below a bound.
+/// Whether each of the 16 bytes from index `from` on is below a bound.
 #[inline(always)]
-fn are_below(block: [u8; 16], bound: u8) -> bool
-    ensures { result ≡ true → All (λ b. b < bound) block }
+fn are_below(bytes: &[u8], from: usize, bound: u8) -> bool
+    requires { from + 16 ≤ length bytes.now }
+    ensures { result ≡ true → (i : ℕ) → i < 16 → slice_index bytes.now (from + i) < bound }
 {
-    u8x16::from_array(block)
+    u8x16::from_slice(&bytes[from..])
         .simd_ge(u8x16::splat(bound))
         .to_bitmask()
         == 0
@@ -33,28 +34,15 @@ pub(crate) fn widened(block: [u8; 16]) -> [u16; 16]
 #[inline(always)]
 fn lanes(bytes: &[u8], from: usize) -> u16x16
     requires { from + 16 ≤ length bytes.now }
-    ensures lanes { length result ≡ 16 }
-    ensures bytes { (i : ℕ) → i < 16 → slice_index result i ≡ slice_index bytes.now (from + i) }
+    ensures { HasLanes result (λ i. slice_index bytes.now (from + i)) }
 {
     u8x16::from_slice(&bytes[from..]).cast::<u16>()
 }
 
-/// Whether no lead of four bytes is among the first 17 bytes: those after the first add no half of a
-/// surrogate pair then.
-#[inline(always)]
-fn have_no_pair(bytes: &[u8]) -> bool
-    requires { 17 ≤ length bytes.now }
-    ensures before { result ≡ true → All (λ b. b < 0xF0) (take 16 bytes.now) }
-    ensures first { result ≡ true → All (λ b. b < 0xF0) (take 16 (drop 1 bytes.now)) }
-{
-    let before = u8x16::from_slice(bytes).to_array();
-    let first = u8x16::from_slice(&bytes[1..]).to_array();
-    are_below(before, 0xF0) & are_below(first, 0xF0)
-}
-
 /// The unit that each of 16 bytes after the first adds, if it adds one. Halves of pairs are computed
-/// once a block may have some, and `pairs` is set then, so that no later block is asked: without
-/// halves other characters take 0.86 of the time, and to ask each block costs mixed text a tenth.
+/// once a block may have some, after a lead of four bytes, and `pairs` is set then, so that no later
+/// block is asked: without halves other characters take 0.86 of the time, and to ask each block
+/// costs mixed text a tenth.
 #[inline(always)]
 fn unit_lanes(bytes: &[u8], pairs: &mut bool) -> [u16; 16]
     requires { 19 ≤ length bytes.now }
@@ -69,7 +57,7 @@ fn unit_lanes(bytes: &[u8], pairs: &mut bool) -> [u16; 16]
     let unit = two % u16x16::splat(0x800);
     let unit = first.simd_ge(u16x16::splat(0xE0)).select(three, unit);
     let ascii = first.simd_lt(u16x16::splat(0x80));
-    if !*pairs && have_no_pair(bytes) {
+    if !*pairs && (are_below(bytes, 0, 0xF0) & are_below(bytes, 1, 0xF0)) {
         return ascii.select(first, unit).to_array();
     }
     *pairs = true;
@@ -100,17 +88,6 @@ fn unit_mask(bytes: &[u8], count: usize) -> usize
         .simd_ne(u16x16::splat(0))
         .to_bitmask() as usize;
     mask % (1 << count)
-}
-
-/// The bytes, of which there are at most 19, and zeros after them.
-#[inline(always)]
-fn padded(bytes: &[u8]) -> [u8; 19]
-    requires { length bytes.now ≤ 19 }
-    ensures { (i : ℕ) → slice_index result i ≡ slice_index bytes.now i }
-{
-    let mut window = [0; 19];
-    put_in_zeros(bytes, &mut window, 0);
-    window
 }
 
 /// For each mask of four bits, where it has them, and zeros after that.
@@ -164,7 +141,8 @@ pub(crate) fn next_block(bytes: &[u8], count: usize, pairs: &mut bool) -> ([u16;
     if bytes.len() >= 19 {
         return (unit_lanes(bytes, pairs), unit_mask(bytes, count));
     }
-    let window = padded(bytes);
+    let mut window = [0; 19];
+    put_in_zeros(bytes, &mut window, 0);
     (unit_lanes(&window, pairs), unit_mask(&window, count))
 }
 
@@ -176,7 +154,7 @@ fn push_next<A: Allocator>(
     bytes: &[u8],
     count: usize,
     pairs: &mut bool,
-) -> Result<(), AllocError>
+) -> Pushed
     requires count { count ≤ 16 }
     requires within { count < length bytes.now }
     ensures ok { OnOk result (units.new.items ++ units_after_first (drop count bytes.now)
@@ -234,17 +212,14 @@ pub(crate) fn first_unit(string: &[u8]) -> u16
 #[inline(always)]
 pub(crate) fn goes_on_in_ascii(bytes: &[u8]) -> bool
     ensures room { result ≡ true → 16 < length bytes.now }
-    ensures ascii { result ≡ true → All (λ b. b < 0x80) (take 16 (drop 1 bytes.now)) }
+    ensures ascii { result ≡ true → (i : ℕ) → i < 16 → slice_index bytes.now (1 + i) < 0x80 }
 {
-    bytes.len() > 16 && are_below(u8x16::from_slice(&bytes[1..]).to_array(), 0x80)
+    bytes.len() > 16 && are_below(bytes, 1, 0x80)
 }
 
 /// Appends the units of a string. If the vector has room for as many units as the string has bytes,
 /// this doesn't allocate.
-pub(crate) fn push_units<A: Allocator>(
-    units: &mut Vec<u16, A>,
-    string: &[u8],
-) -> Result<(), AllocError>
+pub(crate) fn push_units<A: Allocator>(units: &mut Vec<u16, A>, string: &[u8]) -> Pushed
     requires { IsWtf8 string.now }
     ensures ok { OnOk result (units.new.items ≡ units.old.items ++ units_of string.now) }
     ensures room { vec_len units.old + length string.now ≤ vec_capacity units.old → IsOk result }

@@ -94,6 +94,6 @@ impl Platform for Wasm {
     }
 
     fn read_lossy<A: Allocator>(alloc: A, bytes: &[u8]) -> Result<Vec<u8, A>, AllocError> {
-        lossy::text_bytes::<Unix, A>(alloc, bytes)
+        lossy::text_bytes::<Unix, A>(alloc, bytes, utf8_fault(bytes))
     }
 }

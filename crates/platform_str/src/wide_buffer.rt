@@ -57,22 +57,6 @@ fn push_in_room(buffer: &mut [u16], count: usize, lanes: [u16; 16], mask: usize)
     end
 }
 
-/// Appends those units of a block at which a mask has a bit.
-#[inline(always)]
-fn push_chosen(buffer: &mut [u16], count: usize, lanes: [u16; 16], mask: usize) -> usize
-    requires bits { mask < 2 ^ 16 }
-    requires room { count + 16 < 2 ^ 64 }
-    ensures written { Appends (chosen lanes mask) buffer.old count buffer.new result }
-    ensures end { result ≡ count + count_ones mask }
-{
-    if buffer.len() >= ROOM && count <= buffer.len() - ROOM {
-        return push_in_room(buffer, count, lanes, mask);
-    }
-    let mut block = [0; BLOCK];
-    let len = put_chosen(&mut block, 0, lanes, mask);
-    push_truncated(buffer, count, &block[..len])
-}
-
 /// Appends what up to 16 bytes after the first add. It is kept out of the loop over ASCII, which is
 /// faster without it.
 #[inline(never)]
@@ -85,7 +69,12 @@ fn push_next(buffer: &mut [u16], count: usize, bytes: &[u8], step: usize, pairs:
     ensures few { result ≤ count + step }
 {
     let (lanes, mask) = next_block(bytes, step, pairs);
-    push_chosen(buffer, count, lanes, mask)
+    if buffer.len() >= ROOM && count <= buffer.len() - ROOM {
+        return push_in_room(buffer, count, lanes, mask);
+    }
+    let mut block = [0; BLOCK];
+    let len = put_chosen(&mut block, 0, lanes, mask);
+    push_truncated(buffer, count, &block[..len])
 }
 
 /// Writes the units of a string into a buffer, as far as there is room, and returns how many the

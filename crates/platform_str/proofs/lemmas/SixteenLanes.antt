@@ -2,17 +2,13 @@
 use Rattle.std.proofs.Common.{◌≡◌, ℕ, ◌+◌, ◌*◌, ◌/◌, ◌%◌, ◌^◌, ◌≤◌, ◌<◌, Bool, false, cond, eqb, not, List, map, length, take, drop, get_or, replicate, sym, ap, ◌∙◌, arith}
 use Rattle.platform_str.proofs.{Common.mask_l, Common.zip2, Common.top, Common.length-map, lemmas.Choices.bit_kept}
 use Rattle.std.proofs.lemmas.{List.get_or-map, List.get_or-take, Simd.length-chunk, Simd.get_or-chunk, Simd.get_or-zip2, Simd.get_or-replicate, Simd.length-replicate, Simd.length-zip2, Simd.tops_compared, Simd.length-sel_l, Simd.get_or-sel_l, Simd.bitmask_splat, Simd.bit_mask_l, Nat.one_shl}
+use Rattle.platform_str.specs.Lanes.{HasLanes}
 use lib.Lanes.{sel_l}
 use mir.Syntax.{w16}
 
--- there are 16 lanes, and f says what each is
-pub record HasLanes (xs : List ℕ) (f : ℕ → ℕ) : Type 0 where
-  pub many : length xs ≡ 16
-  pub each : (i : ℕ) → i < 16 → get_or xs i 0 ≡ f i
-
 -- those of a list, from its first item on
-pub from_first : {lanes : List ℕ} (xs : List ℕ) → length lanes ≡ 16 → ((i : ℕ) → i < 16 → get_or lanes i 0 ≡ get_or xs (0 + i) 0) → HasLanes lanes (λ i. get_or xs i 0)
-from_first {lanes} xs m e = record { many = m; each = λ i h. let same : 0 + i ≡ i = omega arith in e i h ∙ ap (λ k. get_or xs k 0) same }
+pub from_first : {lanes : List ℕ} (xs : List ℕ) → HasLanes lanes (λ i. get_or xs (0 + i) 0) → HasLanes lanes (λ i. get_or xs i 0)
+from_first {lanes} xs a = record { many = a.many; each = λ i h. let same : 0 + i ≡ i = omega arith in a.each i h ∙ ap (λ k. get_or xs k 0) same }
 
 -- a load from a list, at an index
 pub loaded : (at : ℕ) (xs : List ℕ) → at + 16 ≤ length xs → HasLanes (take 16 (drop at xs)) (λ i. get_or xs (at + i) 0)

@@ -9,7 +9,7 @@ use lib.Pow.{shr-shr}
 use Rattle.platform_str.specs.ToWide.{adds_unit, bits_of_two, bits_of_three, unit_at, units_by_neighbours, units_after_first, chosen}
 
 -- what vectors compute is the unit
-abbrev two_lanes : ℕ → ℕ → ℕ
+abbrev pub two_lanes : ℕ → ℕ → ℕ
 two_lanes f s = (f * 0x40 % 2 ^ 16 + s % 0x40) % 2 ^ 16
 
 abbrev three_lanes : ℕ → ℕ → ℕ → ℕ
@@ -56,56 +56,46 @@ bit_chooses : (t : Bool) (x m : ℕ) → m ≡ cond t 1 0 → ◌≡◌ {A = Lis
 bit_chooses true x m e = rw e refl
 bit_chooses false x m e = rw e refl
 
-block_masked : (n : ℕ) (w lanes : List ℕ) (mask : ℕ) → n ≤ length lanes → n < length w → mask < 2 ^ n
-    → ((i : ℕ) → i < n → get_or lanes i 0 ≡ unit_at (get_or w i 0) (get_or w (suc i) 0) (get_or w (suc (suc i)) 0) (get_or w (suc (suc (suc i))) 0))
-    → ((i : ℕ) → i < n → mask / 2 ^ i % 2 ≡ cond (adds_unit (get_or w i 0) (get_or w (suc i) 0)) 1 0)
+pub some_chosen : (n : ℕ) (w lanes : List ℕ) (mask : ℕ) → n ≤ length lanes → n < length w → mask < 2 ^ n
+    → ((i : ℕ) → i < n → get_or lanes i 0 ≡ unit_at (get_or w i 0) (get_or w (1 + i) 0) (get_or w (2 + i) 0) (get_or w (3 + i) 0))
+    → ((i : ℕ) → i < n → mask / 2 ^ i % 2 ≡ cond (adds_unit (get_or w i 0) (get_or w (1 + i) 0)) 1 0)
     → units_after_first w ≡ chosen lanes mask ++ units_after_first (drop n w)
-block_masked zero w lanes mask p h k u m =
+some_chosen zero w lanes mask p h k u m =
     let none : mask ≡ 0 = omega (arith, k) in
     sym (ap (λ x. chosen lanes x ++ units_after_first w) none ∙ ap (λ x. x ++ units_after_first w) (none_chosen lanes))
-block_masked (suc n) (a ∷ b ∷ bs) (x ∷ xs) mask p h k u m =
+some_chosen (suc n) (a ∷ b ∷ bs) (x ∷ xs) mask p h k u m =
     let z : 0 < suc n = omega arith in
-    let one : 1 + n ≡ suc n = omega arith in
+    let at = λ (k : ℕ). get_or (a ∷ b ∷ bs) k 0 in
     let half : mask / 2 < 2 ^ n = omega (arith, k, pow-suc 2 n) in
     let first : mask % 2 ≡ cond (adds_unit a b) 1 0 = omega (arith, m 0 z) in
-    let next : (i : ℕ) → mask / 2 / 2 ^ i ≡ mask / 2 ^ suc i = λ i. let e : 1 + i ≡ suc i = omega arith in shr-shr mask 1 i ∙ ap (λ j. mask / 2 ^ j) e in
-    let i = block_masked n (b ∷ bs) xs (mask / 2) (omega (arith, p)) (omega (arith, h)) half (λ i l. u (suc i) (omega (arith, l))) (λ i l. ap (λ x. x % 2) (next i) ∙ m (suc i) (omega (arith, l))) in
+    let bit : (i : ℕ) → mask / 2 / 2 ^ i ≡ mask / 2 ^ suc i = λ i. let e : 1 + i ≡ suc i = omega arith in shr-shr mask 1 i ∙ ap (λ j. mask / 2 ^ j) e in
+    let one : (i : ℕ) → 1 + suc i ≡ suc (1 + i) = λ i. omega arith in
+    let two : (i : ℕ) → 2 + suc i ≡ suc (2 + i) = λ i. omega arith in
+    let three : (i : ℕ) → 3 + suc i ≡ suc (3 + i) = λ i. omega arith in
+    let i = some_chosen n (b ∷ bs) xs (mask / 2) (omega (arith, p)) (omega (arith, h)) half
+    (λ i l. rw (ap at (one i), ap at (two i), ap at (three i)) at (u (suc i) (omega (arith, l))))
+    (λ i l. ap (λ x. x % 2) (bit i) ∙ (rw (ap at (one i)) at (m (suc i) (omega (arith, l))))) in
     ap (λ r. units_by_neighbours a b (get_or bs 0 0) (get_or bs 1 0) ++ r) i
     ∙ sym (append_assoc (units_by_neighbours a b (get_or bs 0 0) (get_or bs 1 0)) (chosen xs (mask / 2)) (units_after_first (drop n (b ∷ bs))))
     ∙ ap (λ r. (r ++ chosen xs (mask / 2)) ++ units_after_first (drop n (b ∷ bs)))
     (ap (λ v. cond (adds_unit a b) (v ∷ []) []) (sym (u 0 z)) ∙ sym (bit_chooses (adds_unit a b) x (mask % 2) first))
-block_masked n w lanes mask p h k u m = absurd (omega (arith, p, h))
+some_chosen n w lanes mask p h k u m = absurd (omega (arith, p, h))
 
 -- ASCII adds itself
 ascii_adds : (a b s t : ℕ) → b < 0x80 → units_by_neighbours a b s t ≡ b ∷ []
 ascii_adds a b s t h = grind (arith, nat_tests, h)
 
-pub block_ascii : (n : ℕ) (w : List ℕ) → n < length w → AllByRecursion (λ b. b < 0x80) (take n (drop 1 w)) → units_after_first w ≡ take n (drop 1 w) ++ units_after_first (drop n w)
+pub block_ascii : (n : ℕ) (w : List ℕ) → n < length w → ((i : ℕ) → i < n → get_or w (1 + i) 0 < 0x80) → units_after_first w ≡ take n (drop 1 w) ++ units_after_first (drop n w)
 block_ascii zero w h a = refl
 block_ascii (suc n) (p ∷ b ∷ bs) h a =
-    ap (λ r. r ++ units_after_first (b ∷ bs)) (ascii_adds p b (get_or bs 0 0) (get_or bs 1 0) a.0)
-    ∙ ap (λ r. b ∷ r) (block_ascii n (b ∷ bs) (omega (arith, h)) a.1)
+    let next = λ (i : ℕ). let e : 1 + suc i ≡ suc (1 + i) = omega arith in e in
+    ap (λ r. r ++ units_after_first (b ∷ bs)) (ascii_adds p b (get_or bs 0 0) (get_or bs 1 0) (a 0 (omega arith)))
+    ∙ ap (λ r. b ∷ r) (block_ascii n (b ∷ bs) (omega (arith, h)) (λ i l. subst (λ k. get_or (p ∷ b ∷ bs) k 0 < 0x80) (next i) (a (suc i) (omega (arith, l)))))
 block_ascii n w h a = absurd (omega (arith, h))
 
 pub one_ascii : (w : List ℕ) → 1 < length w → get_or w 1 0 < 0x80 → units_after_first w ≡ get_or w 1 0 ∷ units_after_first (drop 1 w)
 one_ascii (a ∷ b ∷ bs) h l = ap (λ r. r ++ units_after_first (b ∷ bs)) (ascii_adds a b (get_or bs 0 0) (get_or bs 1 0) l)
 one_ascii w h l = absurd (omega (arith, h))
-
--- the same by what the lanes and the mask of a block are said to be
-pub some_chosen : (n : ℕ) (w lanes : List ℕ) (mask : ℕ) → length lanes ≡ 16 → n ≤ 16 → n < length w → mask < 2 ^ n
-    → ((i : ℕ) → i < 16 → get_or lanes i 0 ≡ unit_at (get_or w i 0) (get_or w (1 + i) 0) (get_or w (2 + i) 0) (get_or w (3 + i) 0))
-    → ((i : ℕ) → i < n → mask / 2 ^ i % 2 ≡ cond (adds_unit (get_or w i 0) (get_or w (1 + i) 0)) 1 0)
-    → units_after_first w ≡ chosen lanes mask ++ units_after_first (drop n w)
-some_chosen n w lanes mask p few h k u m =
-    block_masked n w lanes mask (omega (arith, p, few)) h k
-    (λ i l. let one : 1 + i ≡ suc i = omega arith in
-    let two : 2 + i ≡ suc (suc i) = omega arith in
-    let three : 3 + i ≡ suc (suc (suc i)) = omega arith in
-    u i (omega (arith, l, few))
-    ∙ ap (λ k. unit_at (get_or w i 0) (get_or w k 0) (get_or w (2 + i) 0) (get_or w (3 + i) 0)) one
-    ∙ ap (λ k. unit_at (get_or w i 0) (get_or w (suc i) 0) (get_or w k 0) (get_or w (3 + i) 0)) two
-    ∙ ap (λ k. unit_at (get_or w i 0) (get_or w (suc i) 0) (get_or w (suc (suc i)) 0) (get_or w k 0)) three)
-    (λ i l. let one : 1 + i ≡ suc i = omega arith in m i l ∙ ap (λ k. cond (adds_unit (get_or w i 0) (get_or w k 0)) 1 0) one)
 
 -- one byte adds nothing
 pub none_after : (w : List ℕ) → length w ≤ 1 → units_after_first w ≡ []

@@ -24,8 +24,7 @@ loop-rest-preserved-then-goes_on_in_ascii g c =
     let rest = c.loop-rest.rest.now in
     let block = take 16 (drop 1 rest) in
     let room = c.goes_on_in_ascii.ensures.room c.if-goes_on_in_ascii.true in
-    let ascii = recursion_from_All (λ b. b < 0x80) _ (c.goes_on_in_ascii.ensures.ascii c.if-goes_on_in_ascii.true) in
-    let adds = block_ascii 16 rest room ascii ∙ ap (λ r. block ++ units_after_first r) (sym c.split_at.ensures.back) in
+    let adds = block_ascii 16 rest room (c.goes_on_in_ascii.ensures.ascii c.if-goes_on_in_ascii.true) ∙ ap (λ r. block ++ units_after_first r) (sym c.split_at.ensures.back) in
     let done = c.in_ok-extend_from_slice.ensures.items ∙ ap (λ x. c.loop-rest.units.items ++ x) c.widened.ensures in (
       omega (arith, room, c.split_at.ensures.back_len),
       appended _ c.loop-rest.units.items block (units_after_first c.split_at.result.1.now) _ done adds ∙ c.loop-rest.invariant.1,

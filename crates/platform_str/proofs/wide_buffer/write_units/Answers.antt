@@ -27,8 +27,7 @@ loop-rest-preserved-then-goes_on_in_ascii c =
     let rest = c.loop-rest.rest.now in
     let block = take 16 (drop 1 rest) in
     let room = c.goes_on_in_ascii.ensures.room c.if-goes_on_in_ascii.true in
-    let ascii = recursion_from_All (λ b. b < 0x80) _ (c.goes_on_in_ascii.ensures.ascii c.if-goes_on_in_ascii.true) in
-    let adds = block_ascii 16 rest room ascii ∙ ap (λ r. block ++ units_after_first r) (sym c.split_at.ensures.back) in
+    let adds = block_ascii 16 rest room (c.goes_on_in_ascii.ensures.ascii c.if-goes_on_in_ascii.true) ∙ ap (λ r. block ++ units_after_first r) (sym c.split_at.ensures.back) in
     let all = c.loop-rest.invariant.2 in
     let written = subst (λ units. Appends units c.loop-rest.buffer c.loop-rest.count c.push_truncated-count-then-goes_on_in_ascii.new.buffer c.push_truncated-count-then-goes_on_in_ascii.result) c.widened.ensures c.push_truncated-count-then-goes_on_in_ascii.ensures.written in (
       omega (arith, room, c.split_at.ensures.back_len),

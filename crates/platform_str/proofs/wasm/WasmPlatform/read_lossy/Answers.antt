@@ -8,5 +8,5 @@ returns-clause-reading g c = IfOk-weaker c.text_bytes.result _ _ (λ reading e. 
 pub returns-clause-formed : goal.returns-clause-formed
 returns-clause-formed g c = IfOk-weaker c.text_bytes.result _ _ (λ reading w. lossy_is_utf8 c.args.bytes.now reading.items w) (returns-clause-reading g c)
 
-pub text_bytes-requires : goal.text_bytes-requires
-text_bytes-requires g c = all_bytes c.args.bytes.now c.type_inv.bytes
+pub text_bytes-requires-clause-formed : goal.text_bytes-requires-clause-formed
+text_bytes-requires-clause-formed g c = all_bytes c.args.bytes.now c.type_inv.bytes
