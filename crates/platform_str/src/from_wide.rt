@@ -77,19 +77,6 @@ fn goes_on_in_ascii(units: &[u16]) -> bool
             == 0
 }
 
-/// Writes 16 ASCII units from index `at` on.
-#[inline(always)]
-fn put_ascii(bytes: &mut [u8], at: usize, block: [u16; 16])
-    requires ascii { All (λ u. u < 0x80) block }
-    requires room { at + 16 ≤ length bytes.old }
-    ensures written { take (at + 16) bytes.new ≡ take at bytes.old ++ block }
-    ensures len { length bytes.new ≡ length bytes.old }
-{
-    u16x16::from_array(block)
-        .cast::<u8>()
-        .copy_to_slice(&mut bytes[at..]);
-}
-
 /// The bytes that each of 16 units after the first gives, as a word: the first byte in its lowest
 /// bits, and in its highest how many they are.
 #[inline(always)]
@@ -216,7 +203,8 @@ pub(crate) fn write_wtf8(units: &[u16], bytes: &mut [u8])
     let mut rest = units;
     while rest.len() > 1 {
         if goes_on_in_ascii(rest) {
-            put_ascii(bytes, end, u16x16::from_slice(&rest[1..]).to_array());
+            let block = u16x16::from_slice(&rest[1..]).cast::<u8>();
+            block.copy_to_slice(&mut bytes[end..]);
             end += 16;
             rest = rest.split_at(16).1;
         } else if rest.len() > 20 {

@@ -20,8 +20,7 @@ fn after_fault<E: Platform>(bytes: &[u8], valid: usize, error_len: Option<u8>) -
     ensures { IsFirstText E.well_formed E.lossy bytes.now (take valid bytes.now) result.now }
 {
     let (_, after) = bytes.split_at(valid);
-    let (_, rest) = after.split_at(E::replaced_len(after, error_len));
-    rest
+    after.split_at(E::replaced_len(after, error_len)).1
 }
 
 /// The text at the start of a string's bytes, and the bytes after the part that follows it and is
@@ -127,17 +126,7 @@ pub(crate) fn replace_in_place<E: Platform>(bytes: &mut [u8])
     while let Some((valid, _)) = E::utf8_fault(bytes.split_at(at).1) {
         let start = at + valid;
         let len = E::lossy_len(bytes.split_at(start).1);
-        write_replacement(bytes, start);
         at = start + len;
+        bytes[start..at].copy_from_slice(&REPLACEMENT);
     }
-}
-
-/// Writes U+FFFD over the three bytes from an index on.
-fn write_replacement(bytes: &mut [u8], start: usize)
-    requires { start + 3 ≤ length bytes.old }
-    ensures prefix { take (start + 3) bytes.new ≡ take start bytes.old ++ replacement }
-    ensures after { drop (start + 3) bytes.new ≡ drop (start + 3) bytes.old }
-    ensures same_length { length bytes.new ≡ length bytes.old }
-{
-    bytes[start..start + 3].copy_from_slice(&REPLACEMENT);
 }

@@ -94,8 +94,7 @@ impl<'a, E: Platform + 'a> OsStrBytes<'a> for Path<'a, E> {
     }
 
     fn from_io_bytes(raw: &'a [u8]) -> Option<Self> {
-        let string = OsStr::from_io_bytes(raw)?;
-        Some(Path::new(string))
+        Some(Path::new(OsStr::from_io_bytes(raw)?))
     }
 
     fn to_io_bytes(self) -> Option<&'a [u8]> {

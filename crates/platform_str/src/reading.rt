@@ -14,10 +14,8 @@ pub(crate) fn read_wtf8<A: Allocator>(alloc: A, bytes: &[u8]) -> Result<Vec<u8, 
     let mut reading = Vec::with_capacity(alloc, bytes.len())?;
     let mut rest = bytes;
     while let Some((valid_up_to, refused_len)) = wtf8_fault(rest) {
-        let (_, faulty) = rest.split_at(valid_up_to);
-        let (_, after) = faulty.split_at(refused_len);
         push_replaced(&mut reading, rest, valid_up_to)?;
-        rest = after;
+        rest = rest.split_at(valid_up_to).1.split_at(refused_len).1;
     }
     reading.extend_from_slice(rest)?;
     Ok(reading)

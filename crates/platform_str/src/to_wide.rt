@@ -22,19 +22,12 @@ fn are_below(bytes: &[u8], from: usize, bound: u8) -> bool
         == 0
 }
 
-/// The units of 16 ASCII bytes.
+/// The 16 bytes from index `from` on, each in a lane of 16 bits. ASCII bytes are units so.
 #[inline(always)]
-pub(crate) fn widened(block: [u8; 16]) -> [u16; 16]
-    ensures { result ≡ block }
-{
-    u8x16::from_array(block).cast::<u16>().to_array()
-}
-
-/// The 16 bytes from index `from` on, each in a lane of 16 bits.
-#[inline(always)]
-fn lanes(bytes: &[u8], from: usize) -> u16x16
+pub(crate) fn lanes(bytes: &[u8], from: usize) -> u16x16
     requires { from + 16 ≤ length bytes.now }
-    ensures { HasLanes result (λ i. slice_index bytes.now (from + i)) }
+    ensures units { result ≡ take 16 (drop from bytes.now) }
+    ensures lanes { HasLanes result (λ i. slice_index bytes.now (from + i)) }
 {
     u8x16::from_slice(&bytes[from..]).cast::<u16>()
 }
@@ -232,8 +225,7 @@ pub(crate) fn push_units<A: Allocator>(units: &mut Vec<u16, A>, string: &[u8]) -
     let mut pairs = false;
     while rest.len() > 1 {
         if goes_on_in_ascii(rest) {
-            let block = u8x16::from_slice(&rest[1..]).to_array();
-            units.extend_from_slice(&widened(block))?;
+            units.extend_from_slice(&lanes(rest, 1).to_array())?;
             rest = rest.split_at(16).1;
         } else if rest.len() <= 16 && rest[1] < 0x80 {
             // the last letters of ASCII one by one: 49 ns for a path of 10 to 80 bytes, and 71 by a block

@@ -71,10 +71,7 @@ impl Platform for Unix {
     }
 
     fn replaced_len(bytes: &[u8], error_len: Option<u8>) -> usize {
-        match error_len {
-            Some(len) => usize::from(len),
-            None => bytes.len(),
-        }
+        error_len.map_or(bytes.len(), usize::from)
     }
 
     fn first_unit(bytes: &[u8]) -> (u16, usize) {

@@ -38,11 +38,7 @@ impl<'a> Iterator for WideUnits<'a> {
 
     #[inline(always)]
     fn next(&mut self) -> Option<u16> {
-        let item = self.items.next()?;
-        if let Ok(unit) = item {
-            return Some(unit);
-        }
-        None
+        self.items.next()?.ok()
     }
 }
 

@@ -4,7 +4,7 @@ ghost use Rattle.std.specs.Prelude.{◌≡◌, ◌++◌, ◌+◌, ◌≤◌, ◌
 ghost use Rattle.wtf8_core.specs.{Wtf8.IsWtf8, UnitsOf.units_of, Truncated.IsTruncated};
 ghost use Rattle.platform_str.specs.ToWide.{Appends, units_after_first, chosen};
 
-use crate::to_wide::{first_unit, goes_on_in_ascii, next_block, put_chosen, widened};
+use crate::to_wide::{first_unit, goes_on_in_ascii, lanes, next_block, put_chosen};
 use std::simd::prelude::*;
 
 /// The units of a block, and how many a buffer has room for where a block is written into it: four
@@ -91,8 +91,7 @@ pub(crate) fn write_units(string: &[u8], buffer: &mut [u16]) -> usize
     let mut pairs = false;
     while rest.len() > 1 {
         if goes_on_in_ascii(rest) {
-            let block = u8x16::from_slice(&rest[1..]).to_array();
-            count = push_truncated(buffer, count, &widened(block));
+            count = push_truncated(buffer, count, &lanes(rest, 1).to_array());
             rest = rest.split_at(BLOCK).1;
         } else {
             let step = (rest.len() - 1).min(BLOCK);

@@ -116,8 +116,7 @@ fn fill_before(align: Option<fmt::Alignment>, padding: usize) -> usize
     match align {
         Some(fmt::Alignment::Right) => padding,
         Some(fmt::Alignment::Center) => padding / 2,
-        Some(fmt::Alignment::Left) => 0,
-        None => 0,
+        Some(fmt::Alignment::Left) | None => 0,
     }
 }
 

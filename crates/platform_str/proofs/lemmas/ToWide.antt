@@ -15,18 +15,6 @@ two_lanes f s = (f * 0x40 % 2 ^ 16 + s % 0x40) % 2 ^ 16
 abbrev three_lanes : ℕ → ℕ → ℕ → ℕ
 three_lanes f s t = (two_lanes f s * 0x40 % 2 ^ 16 + t % 0x40) % 2 ^ 16
 
-two_exact : (f s : ℕ) → f < 2 ^ 8 → two_lanes f s ≡ bits_of_two f s
-two_exact f s h = omega arith
-
-three_exact : (f s t : ℕ) → f < 2 ^ 8 → three_lanes f s t ≡ bits_of_three f s t
-three_exact f s t h = omega arith
-
-high_exact : (x : ℕ) → x < 2 ^ 16 → (x / 0x10 + 0xD7C0) % 2 ^ 16 ≡ 0xD7C0 + x / 0x10
-high_exact x h = omega arith
-
-low_exact : (x : ℕ) → (x % 0x400 + 0xDC00) % 2 ^ 16 ≡ 0xDC00 + x % 0x400
-low_exact x = omega arith
-
 pub lane_is_unit : (b f s t : ℕ) → f < 2 ^ 8
     → cond (ltb f 0x80) f
     (cond (leb 0xF0 b) ((three_lanes f s t % 0x400 + 0xDC00) % 2 ^ 16)
@@ -34,7 +22,11 @@ pub lane_is_unit : (b f s t : ℕ) → f < 2 ^ 8
     (cond (leb 0xE0 f) (three_lanes f s t)
     (two_lanes f s % 0x800)))) ≡ unit_at b f s t
 lane_is_unit b f s t h =
-    rw (low_exact (three_lanes f s t), high_exact (three_lanes f s t) (omega arith), three_exact f s t h, two_exact f s h) refl
+    let two : two_lanes f s ≡ bits_of_two f s = omega arith in
+    let three : three_lanes f s t ≡ bits_of_three f s t = omega arith in
+    let low : (three_lanes f s t % 0x400 + 0xDC00) % 2 ^ 16 ≡ 0xDC00 + three_lanes f s t % 0x400 = omega arith in
+    let high : (three_lanes f s t / 0x10 + 0xD7C0) % 2 ^ 16 ≡ 0xD7C0 + three_lanes f s t / 0x10 = omega arith in
+    rw (low, high, three, two) refl
 
 -- where no lead of four is beside a byte, two choices fewer do
 pub lane_without_pair : (b f s t : ℕ) → f < 2 ^ 8 → b < 0xF0 → f < 0xF0
@@ -123,12 +115,10 @@ skip : (f k : ℕ) (rest : List ℕ) → f < 0xF0 → 0x80 ≤ k → k < 0xC0 �
 skip f k rest h l m = ap (λ x. x ++ units_after_first (k ∷ rest)) (adds_nothing f k (get_or rest 0 0) (get_or rest 1 0) h l m)
 
 -- a form adds the units of its code point, and its last byte is no lead of four
-record FormAdds (before : ℕ) (form units rest : List ℕ) : Type 0 where
-  last : ℕ
-  small : last < 0xF0
-  are : units_after_first (before ∷ (form ++ rest)) ≡ units ++ units_after_first (last ∷ rest)
+abbrev FormAdds : ℕ → ℕ → List ℕ → Type 0
+FormAdds a c rest = (last : ℕ) × (last < 0xF0) × (units_after_first (a ∷ (encode c ++ rest)) ≡ encode_utf16 c ++ units_after_first (last ∷ rest))
 
-form_adds : (a c : ℕ) (rest : List ℕ) → a < 0xF0 → IsCodePoint c → FormAdds a (encode c) (encode_utf16 c) rest
+form_adds : (a c : ℕ) (rest : List ℕ) → a < 0xF0 → IsCodePoint c → FormAdds a c rest
 form_adds a c rest h i = ⊎_elim one (λ g. ⊎_elim (two g) (λ n. ⊎_elim (three n) four (cases_lt c 0x1_0000)) (cases_lt c 0x800)) (cases_lt c 0x80)
   where
     all : List ℕ → List ℕ
@@ -140,54 +130,38 @@ form_adds a c rest h i = ⊎_elim one (λ g. ⊎_elim (two g) (λ n. ⊎_elim (t
     k : ℕ
     k = 0x80 + c % 0x40
 
-    one : c < 0x80 → FormAdds a (encode c) (encode_utf16 c) rest
-    one l = record {
-      last = c;
-      small = omega (arith, l);
-      are = ap all (form_ascii c l) ∙ ap (λ x. x ++ units_after_first (c ∷ rest)) (ascii_adds a c (get_or rest 0 0) (get_or rest 1 0) l ∙ sym (wide_single c (omega (arith, l))));
-    }
+    one : c < 0x80 → FormAdds a c rest
+    one l =
+        let adds = ascii_adds a c (get_or rest 0 0) (get_or rest 1 0) l ∙ sym (wide_single c (omega (arith, l))) in
+        (c, omega (arith, l), ap all (form_ascii c l) ∙ ap (λ x. x ++ units_after_first (c ∷ rest)) adds)
 
-    two : 0x80 ≤ c → c < 0x800 → FormAdds a (encode c) (encode_utf16 c) rest
+    two : 0x80 ≤ c → c < 0x800 → FormAdds a c rest
     two g l =
         let f = 0xC0 + c / 0x40 in
-        record {
-          last = k;
-          small = omega arith;
-          are = ap all (form_two c g l)
-              ∙ ap (λ x. x ++ units_after_first (f ∷ k ∷ rest)) (two_adds a c (get_or rest 0 0) h g l ∙ sym (wide_single c (omega (arith, l))))
-              ∙ ap (λ x. encode_utf16 c ++ x) (skip f k rest (omega (arith, l)) (omega arith) (omega arith));
-        }
+        let adds = two_adds a c (get_or rest 0 0) h g l ∙ sym (wide_single c (omega (arith, l))) in
+        let none = skip f k rest (omega (arith, l)) (omega arith) (omega arith) in
+        (k, omega arith, ap all (form_two c g l) ∙ ap (λ x. x ++ units_after_first (f ∷ k ∷ rest)) adds ∙ ap (λ x. encode_utf16 c ++ x) none)
 
-    three : 0x800 ≤ c → c < 0x1_0000 → FormAdds a (encode c) (encode_utf16 c) rest
+    three : 0x800 ≤ c → c < 0x1_0000 → FormAdds a c rest
     three g l =
         let f = 0xE0 + c / 0x1000 in
-        record {
-          last = k;
-          small = omega arith;
-          are = ap all (form_three c g l)
-              ∙ ap (λ x. x ++ units_after_first (f ∷ j ∷ k ∷ rest)) (three_adds a c h g l ∙ sym (wide_single c l))
-              ∙ ap (λ x. encode_utf16 c ++ x) (skip f j (k ∷ rest) (omega (arith, l)) (omega arith) (omega arith) ∙ skip j k rest (omega arith) (omega arith) (omega arith));
-        }
+        let adds = three_adds a c h g l ∙ sym (wide_single c l) in
+        let none = skip f j (k ∷ rest) (omega (arith, l)) (omega arith) (omega arith) ∙ skip j k rest (omega arith) (omega arith) (omega arith) in
+        (k, omega arith, ap all (form_three c g l) ∙ ap (λ x. x ++ units_after_first (f ∷ j ∷ k ∷ rest)) adds ∙ ap (λ x. encode_utf16 c ++ x) none)
 
-    four : 0x1_0000 ≤ c → FormAdds a (encode c) (encode_utf16 c) rest
+    four : 0x1_0000 ≤ c → FormAdds a c rest
     four g =
-        let f = 0xF0 + c / 0x4_0000 in
         let b = 0x80 + (c / 0x1000) % 0x40 in
-        record {
-          last = k;
-          small = omega arith;
-          are = ap all (form_past c g)
-              ∙ ap (λ x. x ++ units_after_first (f ∷ b ∷ j ∷ k ∷ rest)) (high_adds a c h g i)
-              ∙ ap (λ x. (high_unit c ∷ []) ++ (x ++ units_after_first (b ∷ j ∷ k ∷ rest))) (low_adds c g i)
-              ∙ ap (λ x. x ++ units_after_first (b ∷ j ∷ k ∷ rest)) (sym (wide_pair c g))
-              ∙ ap (λ x. encode_utf16 c ++ x) (skip b j (k ∷ rest) (omega arith) (omega arith) (omega arith) ∙ skip j k rest (omega arith) (omega arith) (omega arith));
-        }
+        let after = units_after_first (b ∷ j ∷ k ∷ rest) in
+        let adds = ap (λ x. (high_unit c ∷ []) ++ (x ++ after)) (low_adds c g i) ∙ ap (λ x. x ++ after) (sym (wide_pair c g)) in
+        let none = skip b j (k ∷ rest) (omega arith) (omega arith) (omega arith) ∙ skip j k rest (omega arith) (omega arith) (omega arith) in
+        (k, omega arith, ap all (form_past c g) ∙ ap (λ x. x ++ units_after_first ((0xF0 + c / 0x4_0000) ∷ b ∷ j ∷ k ∷ rest)) (high_adds a c h g i) ∙ adds ∙ ap (λ x. encode_utf16 c ++ x) none)
 
 forms_add : (a : ℕ) (cs : List ℕ) → a < 0xF0 → AllByRecursion IsCodePoint cs → units_after_first (a ∷ flat_map encode cs) ≡ units cs
 forms_add a [] h i = refl
 forms_add a (c ∷ cs) h i =
     let f = form_adds a c (flat_map encode cs) h i.0 in
-    f.are ∙ ap (λ x. encode_utf16 c ++ x) (forms_add f.last cs f.small i.1)
+    f.2 ∙ ap (λ x. encode_utf16 c ++ x) (forms_add f.0 cs f.1 i.1)
 
 -- the bytes of a string add its units
 pub string_adds : (s : List ℕ) → IsWtf8 s → units_after_first (0 ∷ s) ≡ units_of s
@@ -197,14 +171,11 @@ string_adds s w = ap (λ x. units_after_first (0 ∷ x)) w.1.joined ∙ forms_ad
 no_continuation : (b : ℕ) → (IsContinuation b → ⊥) → adds_unit 0 b ≡ true
 no_continuation b h = grind (arith, nat_tests, h)
 
-form_begins : (c : ℕ) (rest : List ℕ) → adds_unit 0 (get_or (encode c ++ rest) 0 0) ≡ true
-form_begins c rest =
-    let parts = form_parts c in
-    ap (λ form. adds_unit 0 (get_or (form ++ rest) 0 0)) parts.is ∙ no_continuation parts.lead parts.begins
-
 begins_new : (cs : List ℕ) → 0 < length (flat_map encode cs) → adds_unit 0 (get_or (flat_map encode cs) 0 0) ≡ true
 begins_new [] h = absurd (omega (arith, h))
-begins_new (c ∷ cs) h = form_begins c (flat_map encode cs)
+begins_new (c ∷ cs) h =
+    let parts = form_parts c in
+    ap (λ form. adds_unit 0 (get_or (form ++ flat_map encode cs) 0 0)) parts.is ∙ no_continuation parts.lead parts.begins
 
 pub begins_with : (s : List ℕ) → IsWtf8 s → 0 < length s → units_of s ≡ unit_at 0 (get_or s 0 0) (get_or s 1 0) (get_or s 2 0) ∷ units_after_first s
 begins_with [] w h = absurd (omega (arith, h))

@@ -1,5 +1,5 @@
 -- The units of a string, if its bytes have no fault.
-use Rattle.platform_str.proofs.Common.{◌≡◌, ℕ, List, [], ◌∷◌, map, Result, Ok, Err, sym, ap, ◌∙◌, flat_map, IsWtf8, HasUnits, units, AreItems, AreUnitItems, unit_items, ok_values, EncodingError, units_whole, ok_values_of_oks}
+use Rattle.platform_str.proofs.Common.{◌≡◌, ℕ, List, [], ◌∷◌, map, Result, Ok, refl, sym, ap, ◌∙◌, flat_map, IsWtf8, HasUnits, units, AreItems, AreUnitItems, unit_items, ok_values, EncodingError, units_whole, ok_values_of_oks}
 use Rattle.wtf8_core.specs.Items.AreItems.{Whole, Faulty}
 use Rattle.wtf8_core.proofs.lemmas.reader.Complete.{never_both}
 
@@ -22,18 +22,19 @@ ok_units {b} {items} w a = by a.items a.are_items a.are
         record { all_ok = all ∙ ap (λ l. map Ok l) (sym values); has = record { code_points = r.code_points; encoded = r.encoded; are = values } }
     by code_points (Faulty r l) e = absurd (never_both b w.0 r.code_points r.fault w.1 r.first)
 
--- a list that has no fault doesn't begin with one
-no_err : (f : EncodingError) (rest : List Item) (us : List ℕ) → Err f ∷ rest ≡ map Ok us → ⊥
-no_err f rest [] e = cc
-no_err f rest (u ∷ us) e = cc
+-- the first item is the first value, and no fault comes after it
+pub record FirstOk (items rest : List Item) (item : Item) : Type 0 where
+  pub unit : ℕ
+  pub is : item ≡ Ok unit
+  pub others : rest ≡ map Ok (ok_values rest)
+  pub values : ok_values items ≡ unit ∷ ok_values rest
 
--- the first unit is the first value, and no fault comes after it
-pub first_ok : {items rest : List Item} {u : ℕ} → items ≡ map Ok (ok_values items) → items ≡ Ok u ∷ rest → (rest ≡ map Ok (ok_values rest)) × (ok_values items ≡ u ∷ ok_values rest)
-first_ok {items} {rest} {u} a e =
-    let v : ok_values items ≡ u ∷ ok_values rest = ap ok_values e in
-    let w : Ok u ∷ rest ≡ Ok u ∷ map Ok (ok_values rest) = sym e ∙ a ∙ ap (λ l. map Ok l) v in
-    (cc, v)
+first_of : (items rest : List Item) (item : Item) (us : List ℕ) → ok_values items ≡ us → item ∷ rest ≡ map Ok us → items ≡ item ∷ rest → FirstOk items rest item
+first_of items rest item [] v e i = absurd (cc)
+first_of items rest item (u ∷ us) v e i =
+    let first : item ≡ Ok u = cc in
+    let values : ok_values items ≡ u ∷ ok_values rest = ap ok_values (i ∙ ap (λ x. x ∷ rest) first) in
+    record { unit = u; is = first; others = cc; values = values }
 
--- the first item isn't a fault
-pub first_err : {items rest : List Item} {f : EncodingError} → items ≡ map Ok (ok_values items) → items ≡ Err f ∷ rest → ⊥
-first_err {items} {rest} {f} a e = no_err f rest (ok_values items) (sym e ∙ a)
+pub first_ok : {items rest : List Item} {item : Item} → items ≡ map Ok (ok_values items) → items ≡ item ∷ rest → FirstOk items rest item
+first_ok {items} {rest} {item} a e = first_of items rest item (ok_values items) refl (sym e ∙ a) e

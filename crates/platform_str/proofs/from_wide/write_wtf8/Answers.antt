@@ -1,4 +1,5 @@
-use Rattle.platform_str.proofs.Common.{rules, ◌++◌, ◌<◌, [], length, length-append, length-take-le, length-drop, take, drop, slice_index, ap, ◌∙◌, sym, subst, arith, take_all, append-nil, recursion_from_All, HasUnits}
+use Rattle.std.proofs.lemmas.{List.map-id, Simd.Each1-from_get_or, Simd.length-put_chunk, Simd.take_more_put_chunk}
+use Rattle.platform_str.proofs.Common.{rules, ◌≡◌, ◌+◌, ◌≤◌, ℕ, map, put_chunk, ◌++◌, ◌<◌, [], length, length-append, length-take-le, length-drop, take, drop, slice_index, ap, ◌∙◌, sym, subst, arith, take_all, append-nil, recursion_from_All, HasUnits}
 use Rattle.platform_str.specs.FromWide.{bytes_by_neighbours, bytes_after_first}
 use Rattle.platform_str.proofs.lemmas.{ToWide.appended, FromWide.are_units, FromWide.string_given, FromWide.first_gives, FromWide.block_ascii, FromWide.none_after}
 use Rattle.platform_str.proofs.from_wide.write_wtf8.Goals as goal
@@ -17,11 +18,13 @@ loop-rest-init c =
     let room = c.requires _ (string_given us (are_units us c.type_inv.units)) in
     (search rules, written, omega (arith, room, c.put_unit-end.ensures.end, c.put_unit-end.ensures.len, ap length gives, length-append (bytes_by_neighbours 0 (slice_index us 0) c.unit_or_zero.result) (bytes_after_first us)))
 
-pub put_ascii-requires-clause-ascii : goal.put_ascii-requires-clause-ascii
-put_ascii-requires-clause-ascii c = c.goes_on_in_ascii.ensures.ascii c.if-goes_on_in_ascii.true
+pub overflow_cast-block : goal.overflow_cast-block
+overflow_cast-block c =
+    let ascii = c.goes_on_in_ascii.ensures.ascii c.if-goes_on_in_ascii.true in
+    Each1-from_get_or _ _ 0 (λ i h. omega (arith, ascii i 0 h))
 
-pub put_ascii-requires-clause-room : goal.put_ascii-requires-clause-room
-put_ascii-requires-clause-room c =
+pub store-bytes : goal.store-bytes
+store-bytes c =
     let rest = c.loop-rest.rest.now in
     let block = take 16 (drop 1 rest) in
     let room = c.goes_on_in_ascii.ensures.room c.if-goes_on_in_ascii.true in
@@ -34,10 +37,16 @@ loop-rest-preserved-then-goes_on_in_ascii c =
     let block = take 16 (drop 1 rest) in
     let room = c.goes_on_in_ascii.ensures.room c.if-goes_on_in_ascii.true in
     let ascii = recursion_from_All (λ u. u < 0x80) _ (c.goes_on_in_ascii.ensures.ascii c.if-goes_on_in_ascii.true) in
-    let gives = block_ascii 16 rest room ascii ∙ ap (λ r. block ++ bytes_after_first r) (sym c.split_at.ensures.back) in (
+    let gives = block_ascii 16 rest room ascii ∙ ap (λ r. block ++ bytes_after_first r) (sym c.split_at.ensures.back) in
+    let size = length-take-le 16 (drop 1 rest) (omega (arith, room, length-drop 1 rest)) in
+    let end = c.loop-rest.end in
+    let bytes = c.loop-rest.bytes in
+    let stored = put_chunk end bytes (map (λ (u : ℕ). u) block) in
+    let long : end + 16 ≤ length bytes = omega (arith, c.loop-rest.invariant.2, ap length gives, length-append block (bytes_after_first c.split_at.result.1.now), size) in
+    let written : take (end + 16) stored ≡ take end bytes ++ block = rw (map-id block) (take_more_put_chunk end bytes block (end + 16) (omega (arith, size)) long) in (
       omega (arith, room, c.split_at.ensures.back_len),
-      appended _ (take c.loop-rest.end c.loop-rest.bytes) block _ _ c.put_ascii.ensures.written gives ∙ c.loop-rest.invariant.1,
-      omega (arith, c.loop-rest.invariant.2, c.put_ascii.ensures.len, ap length gives, length-append block (bytes_after_first c.split_at.result.1.now), length-take-le 16 (drop 1 rest) (omega (arith, room, length-drop 1 rest))),
+      appended _ (take end bytes) block _ _ written gives ∙ c.loop-rest.invariant.1,
+      omega (arith, c.loop-rest.invariant.2, length-put_chunk end bytes (map (λ (u : ℕ). u) block), ap length gives, length-append block (bytes_after_first c.split_at.result.1.now), size),
     )
 
 pub returns : goal.returns

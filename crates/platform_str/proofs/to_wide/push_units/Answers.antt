@@ -25,11 +25,11 @@ loop-rest-preserved-then-goes_on_in_ascii g c =
     let block = take 16 (drop 1 rest) in
     let room = c.goes_on_in_ascii.ensures.room c.if-goes_on_in_ascii.true in
     let adds = block_ascii 16 rest room (c.goes_on_in_ascii.ensures.ascii c.if-goes_on_in_ascii.true) ∙ ap (λ r. block ++ units_after_first r) (sym c.split_at.ensures.back) in
-    let done = c.in_ok-extend_from_slice.ensures.items ∙ ap (λ x. c.loop-rest.units.items ++ x) c.widened.ensures in (
+    let done = c.in_ok-extend_from_slice.ensures.items ∙ ap (λ x. c.loop-rest.units.items ++ x) c.lanes.ensures.units in (
       omega (arith, room, c.split_at.ensures.back_len),
       appended _ c.loop-rest.units.items block (units_after_first c.split_at.result.1.now) _ done adds ∙ c.loop-rest.invariant.1,
       omega (arith, c.loop-rest.invariant.2, c.in_ok-extend_from_slice.ensures.capacity),
-      omega (arith, room, c.loop-rest.invariant.3, c.split_at.ensures.back_len, c.in_ok-extend_from_slice.ensures.len, ap length c.widened.ensures, length-take-le 16 (drop 1 rest) (omega (arith, room, length-drop 1 rest))),
+      omega (arith, room, c.loop-rest.invariant.3, c.split_at.ensures.back_len, c.in_ok-extend_from_slice.ensures.len, ap length c.lanes.ensures.units, length-take-le 16 (drop 1 rest) (omega (arith, room, length-drop 1 rest))),
     )
 
 pub loop-rest-preserved-then-rest-lt128 : goal.loop-rest-preserved-then-rest-lt128

@@ -31,9 +31,9 @@ nonzero_rem-unit c = Each2-splat _ _ 16 0x800 (Each1-all _ (λ _. omega arith) _
 pub returns-then-are_below : goal.returns-then-are_below
 returns-then-are_below c i h =
     let at = λ (k : ℕ). get_or c.args.bytes.now k 0 in
-    let first = c.lanes-first.ensures in
-    let two = joined first c.lanes.ensures in
-    let unit = choice leb (splat 0xE0) first (joined two c.lanes-2.ensures) (both (λ a b. a % b) two (splat 0x800)) in
+    let first = c.lanes-first.ensures.lanes in
+    let two = joined first c.lanes.ensures.lanes in
+    let unit = choice leb (splat 0xE0) first (joined two c.lanes-2.ensures.lanes) (both (λ a b. a % b) two (splat 0x800)) in
     let none = and_parts c.are_below.result c.are_below-then-not-pairs.result c.if-are_below.true in
     let same : 0 + i ≡ i = omega arith in
     let before = subst (λ k. at k < 0xF0) same (c.are_below.ensures none.0 i h) in
@@ -43,10 +43,10 @@ returns-then-are_below c i h =
 pub returns : goal.returns
 returns c i h =
     let at = λ (k : ℕ). get_or c.args.bytes.now k 0 in
-    let before = from_first c.args.bytes.now c.lanes-before.ensures in
-    let first = c.lanes-first.ensures in
-    let two = joined first c.lanes.ensures in
-    let three = joined two c.lanes-2.ensures in
+    let before = from_first c.args.bytes.now c.lanes-before.ensures.lanes in
+    let first = c.lanes-first.ensures.lanes in
+    let two = joined first c.lanes.ensures.lanes in
+    let three = joined two c.lanes-2.ensures.lanes in
     let high = both plus (both (λ a b. a / b) three (splat 0x10)) (splat 0xD7C0) in
     let low = both plus (both (λ a b. a % b) three (splat 0x400)) (splat 0xDC00) in
     let unit = choice leb (splat 0xE0) first three (both (λ a b. a % b) two (splat 0x800)) in

@@ -8,7 +8,7 @@ nonzero_div-halves c = Each2-splat _ _ 16 0x40 (Each1-all _ (λ _. omega arith) 
 
 pub returns-clause-bits : goal.returns-clause-bits
 returns-clause-bits c i h =
-    let before = from_first c.args.bytes.now c.lanes-2.ensures in
-    let lead = choice (λ a b. not (eqb a b)) (both (λ a b. a / b) c.lanes.ensures (splat 0x40)) (splat 2) (splat 1) (splat 0) in
+    let before = from_first c.args.bytes.now c.lanes-2.ensures.lanes in
+    let lead = choice (λ a b. not (eqb a b)) (both (λ a b. a / b) c.lanes.ensures.lanes (splat 0x40)) (splat 2) (splat 1) (splat 0) in
     bit_of (choice leb (splat 0xF0) before (splat 1) lead) c.args.count i c.requires.count h
     ∙ lane_is_bit (get_or c.args.bytes.now i 0) (get_or c.args.bytes.now (1 + i) 0)

@@ -29,9 +29,9 @@ loop-rest-preserved-then-goes_on_in_ascii c =
     let room = c.goes_on_in_ascii.ensures.room c.if-goes_on_in_ascii.true in
     let adds = block_ascii 16 rest room (c.goes_on_in_ascii.ensures.ascii c.if-goes_on_in_ascii.true) ∙ ap (λ r. block ++ units_after_first r) (sym c.split_at.ensures.back) in
     let all = c.loop-rest.invariant.2 in
-    let written = subst (λ units. Appends units c.loop-rest.buffer c.loop-rest.count c.push_truncated-count-then-goes_on_in_ascii.new.buffer c.push_truncated-count-then-goes_on_in_ascii.result) c.widened.ensures c.push_truncated-count-then-goes_on_in_ascii.ensures.written in (
+    let written = subst (λ units. Appends units c.loop-rest.buffer c.loop-rest.count c.push_truncated-count-then-goes_on_in_ascii.new.buffer c.push_truncated-count-then-goes_on_in_ascii.result) c.lanes.ensures.units c.push_truncated-count-then-goes_on_in_ascii.ensures.written in (
       omega (arith, room, c.split_at.ensures.back_len),
-      omega (arith, room, c.loop-rest.invariant.1, c.split_at.ensures.back_len, c.push_truncated-count-then-goes_on_in_ascii.ensures.len, ap length c.widened.ensures, length-take-le 16 (drop 1 rest) (omega (arith, room, length-drop 1 rest))),
+      omega (arith, room, c.loop-rest.invariant.1, c.split_at.ensures.back_len, c.push_truncated-count-then-goes_on_in_ascii.ensures.len, ap length c.lanes.ensures.units, length-take-le 16 (drop 1 rest) (omega (arith, room, length-drop 1 rest))),
       (all.0 ++ block, written all.0 c.args.buffer.now all.1, appended _ all.0 block (units_after_first c.split_at.result.1.now) _ refl adds ∙ all.2),
     )
 
