@@ -1,6 +1,6 @@
 -- How many bytes units have, by counts of units and of pairs.
 use Rattle.platform_str.proofs.Common.{◌≡◌, ℕ, zero, suc, ◌+◌, ◌*◌, ◌≤◌, ◌<◌, Bool, cond, eqb, leb, List, [], ◌∷◌, length, length-append, take, drop, refl, ap, ◌∙◌, arith, cond_both, nat_tests, length-take, sum_by-cons, count_by-le-length, AllByRecursion, flat_map, count_by, zip2, IsHigh, IsLow, is_pair, paired, encode, form_past, HasUnits, IsUnit, units_once, encoded_units, begins_pair, pairs}
-use Rattle.platform_str.proofs.lemmas.LaneTests.{six_and_six}
+use Rattle.platform_str.proofs.lemmas.LaneTests.{six_and_six, sixes}
 use Rattle.wtf8_core.specs.Decoder.{code_points_of}
 
 -- one byte for each unit, one more for each from 80 on, one more for each from 800 on
@@ -57,11 +57,11 @@ counted_prefix (suc n) (u ∷ us) h = omega (arith, count_first (leb 0x80) u (ta
 pub lane_is_pair : (u v : ℕ) → IsUnit u → IsUnit v → eqb (six_and_six u v) 3511 ≡ is_pair u v
 lane_is_pair u v h k = grind (arith, nat_tests)
 
-pub pairs_prefix : (n : ℕ) (us : List ℕ) → n < length us → AllByRecursion IsUnit us → count_by (λ x. eqb x 3511) (zip2 six_and_six (take n us) (take n (drop 1 us))) + pairs (drop n us) ≡ pairs us
+pub pairs_prefix : (n : ℕ) (us : List ℕ) → n < length us → AllByRecursion IsUnit us → count_by (λ x. eqb x 3511) (sixes n (take n us) (take n (drop 1 us))) + pairs (drop n us) ≡ pairs us
 pairs_prefix zero us h a = omega arith
 pairs_prefix (suc n) (u ∷ v ∷ us) h a =
     let one : cond (eqb (six_and_six u v) 3511) 1 0 ≡ begins_pair u (v ∷ us) = ap (λ t. cond t 1 0) (lane_is_pair u v a.0 a.1.0) in
-    omega (arith, one, count_first (λ x. eqb x 3511) (six_and_six u v) (zip2 six_and_six (take n (v ∷ us)) (take n us)), pairs_prefix n (v ∷ us) (omega arith) a.1)
+    omega (arith, one, count_first (λ x. eqb x 3511) (six_and_six u v) (sixes n (take n (v ∷ us)) (take n us)), pairs_prefix n (v ∷ us) (omega arith) a.1)
 pairs_prefix n us h a = absurd (omega arith)
 
 -- at most three bytes for a unit, and at most as many pairs as units

@@ -2,12 +2,12 @@
 use Rattle.std.proofs.Common.{◌≡◌, ℕ, ◌+◌, ◌*◌, ◌/◌, ◌%◌, ◌^◌, ◌<◌, ◌≤◌, Bool, true, false, cond, ltb, leb, eqb, refl, sym, ◌∙◌, arith, List, [], ◌∷◌, ◌++◌, length, take, replicate}
 use Rattle.std.specs.Int.{w32, to_le_bytes}
 use Rattle.platform_str.proofs.Common.{nat_tests, false≢true, length-take, put_chunk, zip2, is_pair, encode, IsUnit}
-use Rattle.platform_str.proofs.lemmas.{LaneTests.six_and_six, LaneTests.take_prefix_put_chunk, SixteenLanes.splat, SixteenLanes.both, FromWideCounts.lane_is_pair, FromWide.last_gives, FromWide.high_gives, FromWide.alone_gives, FromWide.no_pair_after_low}
+use Rattle.platform_str.proofs.lemmas.{LaneTests.six_and_six, LaneTests.sixes, LaneTests.take_prefix_put_chunk, SixteenLanes.splat, SixteenLanes.both, FromWideCounts.lane_is_pair, FromWide.last_gives, FromWide.high_gives, FromWide.alone_gives, FromWide.no_pair_after_low}
 use Rattle.platform_str.specs.{FromWide.bytes_by_neighbours, FromWide.word_bytes, Lanes.HasLanes}
 
 -- the high six bits of two units
 pub six_bits : {us vs : List ℕ} {f g : ℕ → ℕ} → HasLanes us f → HasLanes vs g
-    → HasLanes (zip2 (λ a b. (a + b) % 2 ^ 16) (zip2 (λ a b. a * 2 ^ b % 2 ^ 16) (zip2 (λ a b. a / 2 ^ b) us (replicate 16 10)) (replicate 16 6)) (zip2 (λ a b. a / 2 ^ b) vs (replicate 16 10))) (λ i. six_and_six (f i) (g i))
+    → HasLanes (sixes 16 us vs) (λ i. six_and_six (f i) (g i))
 six_bits a b = both (λ a b. (a + b) % 2 ^ 16) (both (λ a b. a * 2 ^ b % 2 ^ 16) (both (λ a b. a / 2 ^ b) a (splat 10)) (splat 6)) (both (λ a b. a / 2 ^ b) b (splat 10))
 
 -- four bytes as a word

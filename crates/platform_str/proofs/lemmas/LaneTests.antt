@@ -24,25 +24,13 @@ count_from_splat w y n xs p l =
 abbrev pub six_and_six : ℕ → ℕ → ℕ
 six_and_six u v = ((u / 2 ^ 10) * 2 ^ 6 % 2 ^ 16 + v / 2 ^ 10) % 2 ^ 16
 
--- lane by lane from two lists
-zip2_maps : {X Y Z W V : Type 0} (f : X → Y → Z) (g : W → X) (h : V → Y) (us : List W) (vs : List V) → zip2 f (map g us) (map h vs) ≡ zip2 (λ a b. f (g a) (h b)) us vs
-zip2_maps f g h (u ∷ us) (v ∷ vs) = ap (λ l. f (g u) (h v) ∷ l) (zip2_maps f g h us vs)
-zip2_maps f g h us vs = refl
+-- these of two lists, as vectors compute them
+abbrev pub sixes : ℕ → List ℕ → List ℕ → List ℕ
+sixes n us vs = zip2 (λ a b. (a + b) % 2 ^ 16) (zip2 (λ a b. a * 2 ^ b % 2 ^ 16) (zip2 (λ a b. a / 2 ^ b) us (replicate n 10)) (replicate n 6)) (zip2 (λ a b. a / 2 ^ b) vs (replicate n 10))
 
--- how many lanes equal y, for the bits of units and of the units after them
-pub count_is_splat : (n y : ℕ) (us vs : List ℕ) → length us ≡ n → length vs ≡ n → n ≤ 64
-    → count_ones (mask_l (map (top 15) (zip2 (λ a b. cond (eqb a b) (2 ^ 16 - 1) 0) (zip2 (λ a b. (a + b) % 2 ^ 16) (zip2 (λ a b. a * 2 ^ b % 2 ^ 16) (zip2 (λ a b. a / 2 ^ b) us (replicate n 10)) (replicate n 6)) (zip2 (λ a b. a / 2 ^ b) vs (replicate n 10))) (replicate n y))) % 2 ^ 64)
-    ≡ count_by (λ x. eqb x y) (zip2 six_and_six us vs)
-count_is_splat n y us vs p q l =
-    let f : ℕ → ℕ = λ a. a / 2 ^ 10 in
-    let g : ℕ → ℕ = λ a. a * 2 ^ 6 % 2 ^ 16 in
-    let a = zip2_splat (λ a b. a / 2 ^ b) us n 10 p in
-    let b = zip2_splat (λ a b. a / 2 ^ b) vs n 10 q in
-    let s = zip2_splat (λ a b. a * 2 ^ b % 2 ^ 16) (map f us) n 6 (length-map us f ∙ p) in
-    let m = map-map g f us in
-    let z = zip2_maps (λ a b. (a + b) % 2 ^ 16) (λ x. g (f x)) f us vs in
-    let k = length-zip2 six_and_six us vs (p ∙ sym q) in
-    rw (a, b, s, m, z) (ap count_ones (bitmask_splat w16 eqb (zip2 six_and_six us vs) n y (k ∙ p) l) ∙ ones-mask_l (λ x. eqb x y) (zip2 six_and_six us vs))
+-- how many lanes equal y
+pub count_is_splat : (n y : ℕ) (xs : List ℕ) → length xs ≡ n → n ≤ 64 → count_ones (mask_l (map (top 15) (zip2 (λ a b. cond (eqb a b) (2 ^ 16 - 1) 0) xs (replicate n y))) % 2 ^ 64) ≡ count_by (λ x. eqb x y) xs
+count_is_splat n y xs p l = ap count_ones (bitmask_splat w16 eqb xs n y p l) ∙ ones-mask_l (λ x. eqb x y) xs
 
 -- the first lanes of a vector that was stored
 pub take_prefix_put_chunk : (i n : ℕ) (xs ys : List ℕ) → i + length ys ≤ length xs → n ≤ length ys → take (i + n) (put_chunk i xs ys) ≡ take i xs ++ take n ys

@@ -1,4 +1,4 @@
-use Rattle.platform_str.proofs.Common.{[], ◌∷◌, ◌++◌, ◌<◌, ap, arith, sym, ◌∙◌, append-nil, take, drop, length, length-drop, length-take-le, recursion_from_All, rules, slice_index}
+use Rattle.platform_str.proofs.Common.{[], ◌∷◌, ◌++◌, ◌<◌, ap, arith, sym, ◌∙◌, append-nil, take, drop, length, length-drop, length-take-le, rules, slice_index}
 use Rattle.platform_str.specs.ToWide.{units_after_first}
 use Rattle.platform_str.proofs.lemmas.ToWide.{none_after, appended, begins_with, block_ascii, one_ascii, no_units}
 use Rattle.platform_str.proofs.to_wide.push_units.Goals as goal

@@ -1,4 +1,4 @@
-use Rattle.platform_str.proofs.Common.{◌++◌, ◌<◌, [], ◌∷◌, append-nil, ap, sym, subst, refl, ◌∙◌, arith, rules, length, length-drop, length-take-le, take, drop, recursion_from_All}
+use Rattle.platform_str.proofs.Common.{◌++◌, ◌<◌, [], ◌∷◌, append-nil, ap, sym, subst, refl, ◌∙◌, arith, rules, length, length-drop, length-take-le, take, drop}
 use Rattle.wtf8_core.specs.Truncated.{IsTruncated}
 use Rattle.wtf8_core.proofs.lemmas.buffers.Truncated.{none_yet}
 use Rattle.platform_str.specs.ToWide.{Appends, units_after_first}
