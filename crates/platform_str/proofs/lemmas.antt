@@ -1,10 +1,6 @@
 pub mod LossyLoops
-pub mod InPlace
-pub mod Readings
 pub mod FirstUnits
-pub mod FourBytes
 pub mod WideLemmas
-pub mod WideBuffer
 pub mod ByteOrder
 pub mod LaneTests
 pub mod FromWide

@@ -1,5 +1,5 @@
 -- How many bytes units have, by counts of units and of pairs.
-use Rattle.platform_str.proofs.Common.{◌≡◌, ℕ, zero, suc, ◌+◌, ◌*◌, ◌≤◌, ◌<◌, Bool, cond, eqb, leb, List, [], ◌∷◌, length, length-append, take, drop, refl, ap, ◌∙◌, arith, cond_both, nat_tests, length-take, sum_by-cons, count_by-le-length, AllByRecursion, flat_map, count_by, zip2, IsHigh, IsLow, is_pair, paired, encode, form_past, HasUnits, IsUnit, units_once, encoded_units, begins_pair, pairs}
+use Rattle.platform_str.proofs.Common.{◌≡◌, ℕ, zero, suc, ◌+◌, ◌*◌, ◌≤◌, ◌<◌, Bool, cond, eqb, leb, List, [], ◌∷◌, length, length-append, take, drop, refl, ap, ◌∙◌, arith, cond_both, nat_tests, length-take, sum_by-cons, count_by-le-length, AllByRecursion, flat_map, count_by, IsHigh, IsLow, is_pair, paired, encode, form_past, HasUnits, IsUnit, units_once, encoded_units, begins_pair, pairs}
 use Rattle.platform_str.proofs.lemmas.LaneTests.{six_and_six, sixes}
 use Rattle.wtf8_core.specs.Decoder.{code_points_of}
 

@@ -1,7 +1,7 @@
 -- What vectors compute of units, lane by lane.
-use Rattle.std.proofs.Common.{◌≡◌, ℕ, ◌+◌, ◌*◌, ◌/◌, ◌%◌, ◌^◌, ◌<◌, ◌≤◌, Bool, true, false, cond, ltb, leb, eqb, refl, sym, ◌∙◌, arith, List, [], ◌∷◌, ◌++◌, length, take, replicate}
+use Rattle.std.proofs.Common.{◌≡◌, ℕ, ◌+◌, ◌*◌, ◌/◌, ◌%◌, ◌^◌, ◌<◌, ◌≤◌, Bool, true, false, cond, ltb, leb, eqb, refl, sym, ◌∙◌, arith, List, [], ◌∷◌, ◌++◌, length, take}
 use Rattle.std.specs.Int.{w32, to_le_bytes}
-use Rattle.platform_str.proofs.Common.{nat_tests, false≢true, length-take, put_chunk, zip2, is_pair, encode, IsUnit}
+use Rattle.platform_str.proofs.Common.{nat_tests, false≢true, length-take, put_chunk, is_pair, encode, IsUnit}
 use Rattle.platform_str.proofs.lemmas.{LaneTests.six_and_six, LaneTests.sixes, LaneTests.take_prefix_put_chunk, SixteenLanes.splat, SixteenLanes.both, FromWideCounts.lane_is_pair, FromWide.last_gives, FromWide.high_gives, FromWide.alone_gives, FromWide.no_pair_after_low}
 use Rattle.platform_str.specs.{FromWide.bytes_by_neighbours, FromWide.word_bytes, Lanes.HasLanes}
 

@@ -1,7 +1,7 @@
 -- What a test of all lanes says of each lane.
-use Rattle.std.proofs.Common.{◌≡◌, ℕ, ◌+◌, ◌*◌, ◌/◌, ◌-◌, ◌%◌, ◌^◌, ◌≤◌, ◌<◌, true, cond, eqb, leb, List, ◌∷◌, map, length, replicate, take, ◌++◌, refl, sym, ap, ◌∙◌, arith, eqb-true, leb-false}
+use Rattle.std.proofs.Common.{◌≡◌, ℕ, ◌+◌, ◌*◌, ◌/◌, ◌-◌, ◌%◌, ◌^◌, ◌≤◌, ◌<◌, true, cond, eqb, leb, List, map, length, replicate, take, ◌++◌, refl, sym, ap, ◌∙◌, arith, eqb-true, leb-false}
 use Rattle.platform_str.proofs.Common.{take-append-add, length-map, length-take-le, take-take, All, count_by, zip2, mask_l, top, put_chunk}
-use Rattle.std.proofs.lemmas.Simd.{tops_compared, zip2_splat, zip2_splat_left, mask_l-mod, bitmask_splat, ones-mask_l, length-zip2, map-map, take_more_put_chunk}
+use Rattle.std.proofs.lemmas.Simd.{tops_compared, zip2_splat_left, mask_l-mod, bitmask_splat, ones-mask_l, take_more_put_chunk}
 use Rattle.std.specs.Int.RustNames.{count_ones}
 use Rattle.wtf8_core.proofs.lemmas.vectors.Lanes.{none_set}
 use mir.Syntax.{Width, w16}
