@@ -99,9 +99,7 @@ impl fmt::Write for Shortfall {
     fn write_str(&mut self, text: &str) -> fmt::Result {
         let mut rest = text.as_bytes();
         while let Some((first, after)) = rest.split_first() {
-            if is_char_start(*first) {
-                self.left = self.left.saturating_sub(1);
-            }
+            self.left = self.left.saturating_sub(usize::from(is_char_start(*first)));
             rest = after;
         }
         Ok(())

@@ -4,21 +4,14 @@ use Rattle.std.specs.{Char.encode_utf8, List.repeat, Fmt.is_char_start, Fmt.char
 use Rattle.platform_str.specs.{Lossy.IsFirstText, Display.fill_before, Display.filled, declared.writeable.Shortfall.Shortfall}
 use Rattle.platform_str.proofs.lemmas.LossyLoops.{encode_fffd}
 
-count_none : (text : List ℕ) → length text ≡ 0 → char_count text ≡ 0
+pub count_none : (text : List ℕ) → length text ≡ 0 → char_count text ≡ 0
 unfolding char_count
 count_none [] e = refl
 count_none (x ∷ text) e = absurd (omega arith)
 
-count_more : (x : ℕ) (text : List ℕ) → char_count (x ∷ text) ≡ cond (is_char_start x) 1 0 + char_count text
+pub count_more : (x : ℕ) (text : List ℕ) → char_count (x ∷ text) ≡ cond (is_char_start x) 1 0 + char_count text
 unfolding char_count
 count_more x text = refl
-
--- one more byte begins a character, or doesn't
-pub counted : (left n all x : ℕ) (rest after : List ℕ) → rest ≡ x ∷ after → n ≡ left - cond (is_char_start x) 1 0 → left - char_count rest ≡ all → n - char_count after ≡ all
-counted left n all x rest after e k i = let first = ap char_count e ∙ count_more x after in omega (arith, first, k, i)
-
-pub none_counted : (left all : ℕ) (rest : List ℕ) → length rest ≡ 0 → left - char_count rest ≡ all → left ≡ all
-none_counted left all rest e i = let none = count_none rest e in omega (arith, none, i)
 
 pub count_append : (a b : List ℕ) → char_count (a ++ b) ≡ char_count a + char_count b
 unfolding char_count

@@ -4,14 +4,9 @@ use Rattle.platform_str.proofs.Common.{cond_both, nat_tests, take-append-drop, r
 use Rattle.wtf8_core.specs.Decoder.{code_points_of}
 use Rattle.platform_str.specs.FromWide.{bytes_by_neighbours, bytes_after_first, word_bytes}
 
--- numbers of 16 bits are units, and so are those that come after others
+-- numbers of 16 bits are units
 pub are_units : (us : List ℕ) → ((i : ℕ) → Fits w16 (get_or us i 0)) → AllByRecursion IsUnit us
 are_units us h = recursion_from_All IsUnit us (All-from_get_or IsUnit us 0 (λ i _. omega (arith, h i)))
-
-pub units_after : (n : ℕ) (us : List ℕ) → AllByRecursion IsUnit us → AllByRecursion IsUnit (drop n us)
-units_after zero us a = a
-units_after (suc n) [] a = tt
-units_after (suc n) (u ∷ us) a = units_after n us a.1
 
 -- what one unit gives
 ascii_gives : (b u v : ℕ) → u < 0x80 → bytes_by_neighbours b u v ≡ u ∷ []

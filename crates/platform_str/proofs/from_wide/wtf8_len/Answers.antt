@@ -1,5 +1,5 @@
-use Rattle.platform_str.proofs.Common.{rules, ◌≤◌, ◌<◌, ◌*◌, ◌^◌, length, ap, sym, subst, arith, AllByRecursion, IsUnit, pairs}
-use Rattle.platform_str.proofs.lemmas.{FromWideCounts.counted, FromWideCounts.counted_prefix, FromWideCounts.counted_few, FromWideCounts.count_few, FromWideCounts.counted_none, FromWideCounts.pairs_few, FromWideCounts.all_counted, FromWideCounts.string_counted, FromWide.are_units, FromWide.units_after}
+use Rattle.platform_str.proofs.Common.{rules, ◌≤◌, ◌<◌, ◌*◌, ◌^◌, length, ap, arith, pairs}
+use Rattle.platform_str.proofs.lemmas.{FromWideCounts.counted, FromWideCounts.counted_prefix, FromWideCounts.counted_few, FromWideCounts.count_few, FromWideCounts.counted_none, FromWideCounts.pairs_few, FromWideCounts.all_counted, FromWideCounts.string_counted, FromWide.are_units}
 use Rattle.platform_str.proofs.from_wide.wtf8_len.Goals as goal
 
 pub overflow_add-len : goal.overflow_add-len
@@ -30,7 +30,6 @@ loop-rest-preserved-then-rest-gt16 c =
     let after = c.split_at.ensures.back in (
       omega (arith, c.loop-rest.invariant.0, c.count_from.ensures, c.count_from-then-rest-gt16.ensures, counted_prefix 16 rest (omega (arith, c.if-rest-gt16.true)), ap counted after),
       omega (arith, c.loop-rest.invariant.1, c.count_pairs-pairs.ensures, ap pairs after),
-      subst (AllByRecursion IsUnit) (sym after) (units_after 16 rest c.loop-rest.invariant.2),
     )
 
 pub overflow_sub-result : goal.overflow_sub-result
