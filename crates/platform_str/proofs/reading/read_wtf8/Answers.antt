@@ -25,18 +25,11 @@ module _ {rest : List ℕ} {v n : ℕ} (f : IsFaultAt rest v n) where
       ∙ append_assoc made f.first.before (replacement ++ later) in
       subst (IsLossyReading all) (sym made_is) (left (f.first.before ++ (replacement ++ later)) prefix_first)
 
--- if the rest is WTF-8, everything is read
-read_end : (all made : List ℕ) {rest once : List ℕ} → IsLeftToRead all made rest → IsWtf8 rest → once ≡ made ++ rest → IsLossyReading all once
-read_end all made {rest} {once} left w o = subst (IsLossyReading all) (sym o) (left rest (formed w))
-
-read_end_wtf8 : (all made : List ℕ) {rest once : List ℕ} → IsLeftToRead all made rest → IsWtf8 rest → once ≡ made ++ rest → IsWtf8 once
-read_end_wtf8 all made left w o = reading_wtf8 all _ (read_end all made left w o)
-
 pub loop-valid_up_to-preserved : goal.loop-valid_up_to-preserved
 loop-valid_up_to-preserved g c = read_part c.in-Some.ensures c.args.bytes.now _ c.loop-valid_up_to.invariant refl c.split_at.ensures.back c.split_at-in-Some.ensures.back refl c.in_ok-push_replaced.ensures
 
 pub returns-clause-reading : goal.returns-clause-reading
-returns-clause-reading g c = read_end c.args.bytes.now _ c.loop-valid_up_to.invariant c.in_default.ensures c.in_ok-extend_from_slice.ensures.items
+returns-clause-reading g c = subst (IsLossyReading c.args.bytes.now) (sym c.in_ok-extend_from_slice.ensures.items) (c.loop-valid_up_to.invariant _ (formed c.in_default.ensures))
 
 pub returns-clause-formed : goal.returns-clause-formed
-returns-clause-formed g c = read_end_wtf8 c.args.bytes.now _ c.loop-valid_up_to.invariant c.in_default.ensures c.in_ok-extend_from_slice.ensures.items
+returns-clause-formed g c = reading_wtf8 c.args.bytes.now _ (returns-clause-reading g c)
