@@ -9,5 +9,4 @@ pub mod Displays
 pub mod FromWideCounts
 pub mod SixteenLanes
 pub mod ToWide
-pub mod Filled
 pub mod Choices

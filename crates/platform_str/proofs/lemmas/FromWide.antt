@@ -72,9 +72,6 @@ forms_given b (u ∷ v ∷ us) n =
 pub string_given : (us : List ℕ) → AllByRecursion IsUnit us → HasUnits (bytes_after_first (0 ∷ us)) us
 string_given us a = subst (λ b. HasUnits b us) (sym (forms_given 0 us (grind (arith, nat_tests)))) (encoded_units us a)
 
-pub has_none : (us : List ℕ) → us ≡ [] → HasUnits [] us
-has_none us e = subst (HasUnits []) (sym e) (string_given [] tt)
-
 -- the first unit gives its part
 pub first_gives : (us : List ℕ) (v : ℕ) → 0 < length us → v ≡ get_or us 1 0 → bytes_after_first (0 ∷ us) ≡ bytes_by_neighbours 0 (get_or us 0 0) v ++ bytes_after_first us
 first_gives [] v h e = absurd (omega (arith, h))

@@ -1,9 +1,9 @@
 use Rattle.platform_str.proofs.Common.{◌≡◌, [], length, sym, subst, false≢true, with_items_is, HasUnits, units_of-is, ◌∙◌}
-use Rattle.platform_str.proofs.lemmas.FromWide.{has_none}
+use Rattle.platform_str.proofs.lemmas.FromWide.{string_given}
 use Rattle.platform_str.proofs.wide.OsString+Windows+A.from_wide.Goals as goal
 
 pub returns-in_err-vec-clause-without_memory : goal.returns-in_err-vec-clause-without_memory
-returns-in_err-vec-clause-without_memory g c = λ none. absurd (false≢true (c.in_err-vec.ensures.succeeds (c.wtf8_len-len.ensures [] (has_none c.args.units.now none))))
+returns-in_err-vec-clause-without_memory g c = λ none. absurd (false≢true (c.in_err-vec.ensures.succeeds (c.wtf8_len-len.ensures [] (subst (HasUnits []) (sym none) (string_given [] tt)))))
 
 pub write_wtf8-requires : goal.write_wtf8-requires
 write_wtf8-requires g c = λ string h. c.as_mut_slice.ensures.len ∙ c.in_ok-resize.ensures.len ∙ c.wtf8_len-len.ensures string h
