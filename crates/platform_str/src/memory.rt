@@ -1,5 +1,5 @@
-//! What calls answer that request memory.
+//! What calls that request memory return.
 use std::alloc::AllocError;
 
-/// What a call answers that appends: `AllocError` if the memory is refused.
+/// What a call that appends returns: `AllocError` if the memory is refused.
 pub(crate) type Pushed = Result<(), AllocError>;

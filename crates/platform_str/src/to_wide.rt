@@ -22,7 +22,7 @@ fn are_below(bytes: &[u8], from: usize, bound: u8) -> bool
         == 0
 }
 
-/// The 16 bytes from index `from` on, each in a lane of 16 bits. ASCII bytes are units so.
+/// The 16 bytes from index `from` on, each in a lane of 16 bits: if they are ASCII, their units.
 #[inline(always)]
 pub(crate) fn lanes(bytes: &[u8], from: usize) -> u16x16
     requires { from + 16 ≤ length bytes.now }

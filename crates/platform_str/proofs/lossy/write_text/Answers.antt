@@ -11,13 +11,10 @@ loop-text-preserved g c =
     let text = c.in-Some.text.now in
     let first = c.push_truncated-count.ensures.written made old all.1.0 in
     let both = c.push_truncated-count-in-Some.ensures.written _ old first in
-    let written = subst (λ t. IsTruncated ((made ++ t) ++ replacement) old c.push_truncated-count-in-Some.new.buffer c.push_truncated-count-in-Some.result) c.as_bytes.ensures.value both in
-    let shorter = c.in-Some.ensures.shorter in
-    let few = all.1.1.1 in
-    let same = ap length c.as_bytes.ensures.value in
-    let one = c.push_truncated-count.ensures.len in
-    let two = c.push_truncated-count-in-Some.ensures.len in
-    ((made ++ text) ++ replacement, (written, (made_more all.1.1.0 c.in-Some.ensures, omega arith)))
+    let written = subst (λ t. IsTruncated ((made ++ t) ++ replacement) old c.push_truncated-count-in-Some.new.buffer c.push_truncated-count-in-Some.result) c.as_bytes.ensures.value both in (
+      (made ++ text) ++ replacement,
+      (written, (made_more all.1.1.0 c.in-Some.ensures, omega (arith, all.1.1.1, c.in-Some.ensures.shorter, ap length c.as_bytes.ensures.value, c.push_truncated-count.ensures.len, c.push_truncated-count-in-Some.ensures.len))),
+    )
 
 pub loop-text-init : goal.loop-text-init
 loop-text-init g c = ([], (none_yet c.args.buffer.now, (record { rest_is = c.requires.formed; lossy_is = refl }, omega arith)))

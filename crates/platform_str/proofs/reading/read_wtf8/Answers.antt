@@ -1,4 +1,4 @@
-use Rattle.platform_str.proofs.Common.{◌≡◌, ℕ, List, ◌++◌, take, drop, sym, ap, ◌∙◌, subst, append_assoc, take_at, drop_at, IsWtf8, replacement, IsLeftToRead, refl}
+use Rattle.platform_str.proofs.Common.{◌≡◌, ℕ, List, ◌++◌, take, drop, sym, ap, ◌∙◌, subst, append_assoc, take_at, drop_at, replacement, IsLeftToRead, refl}
 use Rattle.wtf8_core.specs.{Fault.IsFaultAt, LossyReading.IsLossyReading, LossyReading.IsLossyReading.formed, LossyReading.IsLossyReading.replaced}
 use Rattle.wtf8_core.proofs.lemmas.reader.LossyReadings.{reading_wtf8}
 use Rattle.platform_str.proofs.reading.read_wtf8.Goals as goal
