@@ -1,4 +1,4 @@
-use Rattle.wtf8_core.proofs.Common.{◌∷◌, subst, sym, IsFirstChar, StartsWithNoCharacter}
+use Rattle.wtf8_core.proofs.Common.{subst, sym, IsFirstChar, StartsWithNoCharacter, arith, common_steps, nat_tests}
 use Rattle.wtf8_core.proofs.lemmas.characters.AtIndices.{ascii_first, none_in_none}
 use Rattle.wtf8_core.proofs.first_character.first_char_of_few.Goals as goal
 
@@ -12,6 +12,4 @@ pub returns-in_err-character : goal.returns-in_err-character
 returns-in_err-character c = rw c.from_residual-in_err-character.ensures (subst StartsWithNoCharacter (sym c.in_ok-first.ensures.cases.0) c.in_err-character.ensures)
 
 pub returns : goal.returns
-returns c =
-    let s = c.in_ok-first.first.now ∷ c.in_ok-first.after.now in
-    subst (λ s. IsFirstChar s c.in_ok-character.character c.len_utf8.result) (sym c.in_ok-first.ensures.cases.0) (subst (λ n. IsFirstChar s c.in_ok-character.character n) (sym c.len_utf8.ensures.len) c.in_ok-character.ensures)
+returns c = grind (arith, nat_tests, common_steps, c.len_utf8.ensures.len, c.in_ok-character.ensures)

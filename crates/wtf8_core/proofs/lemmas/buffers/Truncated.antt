@@ -1,5 +1,5 @@
 -- A list that is written into a buffer from its start, as far as there is room.
-use Rattle.wtf8_core.proofs.Common.{◌≡◌, ℕ, ◌+◌, ◌<◌, ◌≤◌, List, [], ◌∷◌, ◌++◌, length, take, drop, set, refl, sym, ap, ◌∙◌, arith, nat_tests, common_steps, take-append-add, drop-drop, length-append, length-take-le, length-drop, take_all, drop_all}
+use Rattle.wtf8_core.proofs.Common.{◌≡◌, ℕ, ◌+◌, ◌<◌, ◌≤◌, List, [], ◌∷◌, ◌++◌, length, take, set, refl, sym, ◌∙◌, arith, nat_tests, common_steps, take-append-add, drop-drop, length-append, length-take-le, length-drop, take_all, drop_all}
 use Rattle.std.proofs.lemmas.{List.take_more_set, List.drop-set-lt, List.length-set, List.take-append-le, Slice.take-put_mid, Slice.drop-put_mid}
 use borrow.Rule.Slice.PartMut.{put_mid}
 use Rattle.wtf8_core.specs.Truncated.{IsTruncated}
@@ -17,16 +17,7 @@ module _ (done old new : List ℕ) (count : ℕ) (h : IsTruncated done old new c
 
   -- one more item is written
   pub one_more : (x : ℕ) → count < length new → IsTruncated (done ++ x ∷ []) old (set new count x) (count + 1)
-  one_more x room =
-      let more = length-append done (x ∷ []) in
-      record {
-        same_length = length-set new count x ∙ h.same_length;
-        count_is = omega arith;
-        prefix = take_all (length old) (done ++ x ∷ []) (omega arith) ∙ ap (λ d. d ++ x ∷ []) (sym (whole (omega arith))) ∙ sym (take_more_set new count x room);
-        after =
-            drop-set-lt (count + 1) new count x (omega arith)
-            ∙ sym (drop-drop 1 count new) ∙ ap (drop 1) h.after ∙ drop-drop 1 count old;
-      }
+  one_more x room = grind (arith, nat_tests, common_steps, length-set, take_more_set, drop-set-lt, whole, length-append, take_all, drop-drop)
 
   -- a list is written after it
   pub all_written : (more part : List ℕ) (n : ℕ) → part ≡ more → n ≡ length more → count + n ≤ length new → IsTruncated (done ++ more) old (put_mid count n new part) (count + n)

@@ -19,12 +19,7 @@ is_scalar c p e = grind (arith, nat_tests)
 
 -- a whole character has one to four bytes, and they are there
 pub character_fits : (s : List ℕ) (i j : ℕ) → WholeCharacter s i j → (i + 1 ≤ j) × (j ≤ i + 4) × (j ≤ length s)
-character_fits s i j w =
-    let b = form_bounds w.char in
-    let e = w.end in
-    let p = w.occurs.index in
-    let l : length s ≡ length w.occurs.before + (length (encode w.char) + length w.occurs.after) = ap length w.occurs.joined ∙ length-append w.occurs.before (encode w.char ++ w.occurs.after) ∙ ap (λ n. length w.occurs.before + n) (length-append (encode w.char) w.occurs.after) in
-    (omega arith, omega arith, omega arith)
+character_fits s i j w = grind (arith, nat_tests, common_steps, form_bounds, length-append, w.end, w.occurs.index, w.occurs.joined)
 
 -- the character that begins bytes is their first item
 first_of_char : (b c : ℕ) (bs rest : List ℕ) → IsScalar c → b ∷ bs ≡ encode c ++ rest → first_item false b bs ≡ Ok c

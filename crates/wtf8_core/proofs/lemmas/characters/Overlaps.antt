@@ -1,5 +1,5 @@
 -- Whole characters don't overlap, so a boundary stays one in a part that ends or starts at a boundary.
-use Rattle.wtf8_core.proofs.Common.{◌≡◌, ◌⊎◌, inl, inr, ⊎_elim, ℕ, zero, suc, ◌+◌, ◌-◌, ◌<◌, ◌≤◌, List, ◌++◌, length, take, drop, get_or, sym, ap, ◌∙◌, subst, arith, length-drop, take-append-add, cases_lt, cases_eq, drop-drop, drop-take, length-take-le, get_or-drop, get_or_append_left, IsContinuation, encode, WholeCharacter, IsBoundary, All-from_recursion, All-get_or}
+use Rattle.wtf8_core.proofs.Common.{◌≡◌, ◌⊎◌, inl, inr, ⊎_elim, ℕ, zero, suc, ◌+◌, ◌-◌, ◌<◌, ◌≤◌, List, ◌++◌, length, take, drop, get_or, sym, ap, ◌∙◌, subst, arith, length-drop, take-append-add, cases_lt, cases_eq, drop-drop, drop-take, length-take-le, get_or-drop, get_or_append_left, IsContinuation, encode, WholeCharacter, IsBoundary, All-from_recursion, All-get_or, common_steps, nat_tests}
 use Rattle.wtf8_core.proofs.lemmas.{forms.Shapes.form_bounds, forms.Shapes.form_parts, characters.AtIndices.begins_at, characters.AtIndices.whole_at, characters.AtIndices.character_fits, characters.AtIndices.same_end}
 
 -- the bytes of a form after the first are continuations, and the first is none
@@ -46,11 +46,7 @@ apart s i j a b w v =
 
 -- a boundary is at most the length
 pub boundary_within : (b : List ℕ) (i : ℕ) → IsBoundary b i → i ≤ length b
-boundary_within b i k =
-    ⊎_elim (λ z. omega arith)
-    (⊎_elim (λ z. omega arith)
-    (⊎_elim (λ s. let f = character_fits b i s.0 s.1 in omega arith) (λ s. (character_fits b s.0 i s.1).2)))
-    k.is
+boundary_within b i k = grind (arith, nat_tests, common_steps, character_fits, k.is)
 
 -- a string can't be cut inside a whole character
 pub no_boundary_inside : (s : List ℕ) (i j k : ℕ) → WholeCharacter s i j → IsBoundary s k → i < k → k < j → ⊥
@@ -73,12 +69,7 @@ in_prefix s a b j w le fits =
 
 -- the same for what follows an index
 pub in_rest : (s : List ℕ) (a b j : ℕ) → WholeCharacter s a b → j ≤ a → WholeCharacter (drop j s) (a - j) (b - j)
-in_rest s a b j w le =
-    let e = w.end in
-    let f = character_fits s a b w in
-    let d : drop (a - j) (drop j s) ≡ encode w.char ++ w.occurs.after = drop-drop (a - j) j s ∙ ap (λ n. drop n s) (let z : j + (a - j) ≡ a = omega arith in z) ∙ begins_at s a b w in
-    let z : a - j + length (encode w.char) ≡ b - j = omega arith in
-    subst (WholeCharacter (drop j s) (a - j)) z (whole_at (drop j s) (a - j) w.char w.occurs.after (omega (arith, length-drop j s)) w.scalar d)
+in_rest s a b j w le = grind (arith, nat_tests, common_steps, character_fits, begins_at, whole_at, drop-drop, length-drop, w.end, w.scalar)
 
 -- a boundary is also one of a prefix that ends at a boundary
 pub boundary_in_prefix : (s : List ℕ) (i j : ℕ) → i ≤ j → IsBoundary s i → IsBoundary s j → IsBoundary (take j s) i

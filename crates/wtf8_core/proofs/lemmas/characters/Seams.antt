@@ -1,5 +1,5 @@
 -- Bytes in whole characters and in none, and the indices across which no whole character extends.
-use Rattle.wtf8_core.proofs.Common.{◌≡◌, ◌⊎◌, inl, inr, ⊎_elim, ℕ, zero, suc, ◌+◌, ◌-◌, ◌<◌, ◌≤◌, true, false, List, [], ◌∷◌, ◌++◌, length, drop, Result, Ok, Err, refl, sym, ap, ◌∙◌, subst, arith, length-append, append_assoc, and_parts, cases_lt, cases_eq, cases_Bool, drop-append_seam, scalar, IsScalar, AllByRecursion, flat_map, IsUtf8, all_scalars, IsByte, is_surrogate, encode, WholeCharacter, IsCovered, CrossesNoCharacter, first_item, EncodingError}
+use Rattle.wtf8_core.proofs.Common.{◌≡◌, ◌⊎◌, inl, inr, ⊎_elim, ℕ, zero, suc, ◌+◌, ◌-◌, ◌<◌, ◌≤◌, true, false, List, [], ◌∷◌, ◌++◌, length, drop, Result, Ok, Err, refl, sym, ap, ◌∙◌, subst, arith, length-append, append_assoc, and_parts, cases_lt, cases_eq, cases_Bool, drop-append_seam, scalar, IsScalar, AllByRecursion, flat_map, IsUtf8, all_scalars, IsByte, is_surrogate, encode, WholeCharacter, IsCovered, CrossesNoCharacter, first_item, EncodingError, common_steps, nat_tests}
 use Rattle.wtf8_core.proofs.lemmas.{forms.Shapes.form_bounds, forms.Shapes.form_bytes, forms.ByStd.forms_encode, characters.AtIndices.character_fits, characters.AtIndices.same_end, characters.AtIndices.whole_at, characters.AtIndices.begins_at, characters.AtIndices.none_at, characters.AtIndices.none_begins, characters.AtIndices.none_past, characters.AtIndices.none_in_none, characters.AtIndices.none_at_other, characters.AtIndices.none_at_fault, characters.AtIndices.scalar_no_surrogate, characters.AtIndices.scalar_point, characters.AtIndices.is_scalar, characters.Overlaps.no_start_inside, characters.Overlaps.in_rest, reader.Sound.split_code_point}
 
 -- P holds of each index of xs, counted from i on
@@ -154,6 +154,4 @@ text_covered s x t r e u k =
 
 -- and uncovered bytes at the start end at a seam
 pub seam_after_uncovered : (s p : List ℕ) → Uncovered s 0 p → CrossesNoCharacter s (length p)
-seam_after_uncovered s p h a b w low high =
-    let f = character_fits s a b w in
-    h a (omega arith) (omega arith) (record { start = a; end = b; whole = w; from = omega arith; below = omega arith })
+seam_after_uncovered s p h a b w low high = grind (arith, nat_tests, common_steps, character_fits)

@@ -1,12 +1,10 @@
 -- The code point, and the units, with which a string ends; and forms at the start and the end of bytes.
-use Rattle.wtf8_core.proofs.Common.{◌⊎◌, ⊎_elim, ◌≡◌, ℕ, ◌-◌, ◌<◌, List, [], ◌∷◌, ◌++◌, length, take, drop, refl, sym, ap, ◌∙◌, arith, append-nil, length-append, take-append-drop, drop-append_seam, take-append_seam, flat_map-append, flat_map, IsHigh, encode, encode_utf16, last_or, units}
+use Rattle.wtf8_core.proofs.Common.{◌⊎◌, ⊎_elim, ◌≡◌, ℕ, ◌-◌, ◌<◌, List, [], ◌∷◌, ◌++◌, length, take, drop, refl, sym, ap, ◌∙◌, arith, append-nil, length-append, take-append-drop, drop-append_seam, take-append_seam, flat_map-append, flat_map, IsHigh, encode, encode_utf16, last_or, units, common_steps, nat_tests}
 use Rattle.wtf8_core.proofs.lemmas.forms.{Shapes.form_bounds, ByStd.form_same, Cuts.bytes_found}
 
 -- the last bytes of a list
 pub at_end : (s x y : List ℕ) → s ≡ x ++ y → drop (length s - length y) s ≡ y
-at_end s x y e =
-    let h : length s - length y ≡ length x = omega (arith, ap length e, length-append x y) in
-    ap (λ k. drop k s) h ∙ ap (drop (length x)) e ∙ drop-append_seam x y
+at_end s x y e = grind (arith, nat_tests, common_steps, length-append, drop-append_seam)
 
 -- what three or four last bytes are, where bytes end with a form
 pub form_at_end : (s last prefix : List ℕ) (n c : ℕ) → last ≡ drop (length s - n) s → length (encode c) ≡ n → s ≡ prefix ++ encode c → last ≡ encode c

@@ -1,5 +1,5 @@
 -- Pieces, one after the other.
-use Rattle.wtf8_core.proofs.Common.{◌≡◌, ◌≢◌, inl, inr, ⊎_elim, ℕ, ◌+◌, ◌<◌, Bool, true, false, List, [], ◌∷◌, ◌++◌, map, length, take, drop, get_or, take-append-drop, Option, None, Ok, refl, sym, ap, ◌∙◌, subst, append_assoc, append-nil, All, All-from_recursion, IsByte, IsCodePoint, encode, IsWtf8, last_or, IsRefused, AreItems, items_after, items_from, class_at, next_at, Gives, Row, needed, SomeRow, IsOpen, rows, IsInState, IsFaulty, OnlyEnds, HasFirstFault, joined_bits, fault_at, Progress, progress, Describes, is_between, is_high, IsEncodedPrefix, EncodingError, Byte, CodePoint, End, Utf8, State, Between, AfterHigh, Refused, Class, cases_Bool}
+use Rattle.wtf8_core.proofs.Common.{◌≡◌, ◌≢◌, inl, inr, ⊎_elim, ℕ, ◌+◌, ◌<◌, Bool, true, false, List, [], ◌∷◌, ◌++◌, map, length, take, drop, get_or, take-append-drop, Option, None, Ok, refl, sym, ap, ◌∙◌, subst, append_assoc, append-nil, All, All-from_recursion, IsByte, IsCodePoint, encode, IsWtf8, last_or, IsRefused, AreItems, items_after, items_from, class_at, next_at, Gives, Row, needed, SomeRow, IsOpen, rows, IsInState, IsFaulty, OnlyEnds, HasFirstFault, joined_bits, fault_at, Progress, progress, Describes, is_between, is_high, IsEncodedPrefix, EncodingError, Byte, CodePoint, End, Utf8, State, Between, AfterHigh, Refused, Class, cases_Bool, arith, common_steps, nat_tests}
 use Rattle.std.proofs.lemmas.List.{take_more}
 use Rattle.wtf8_core.proofs.lemmas.{forms.Appending.all_flat_map, table.Entries.at_index, forms.Shapes.form_bytes, reader.Complete.never_both, reader.Complete.one_fault, reader.Complete.items_of_encoded, reader.Complete.after_zero, reader.FirstErr.items_all_ok, reader.Reading.items-nil, reader.Reading.within-end, reader.Sound.items_of_bytes, table.Steps.items_now, table.Steps.gives_more, table.Steps.first_fault, table.Steps.goes}
 use Rattle.wtf8_core.specs.declared.vectors.Encoding.TheVariants.{Wtf8}
@@ -13,26 +13,7 @@ refused_extends last refused rest p (Utf8 i j) n s = s
 
 -- what comes after a fault doesn't matter
 pub extends : (b p : List ℕ) (f : EncodingError) → IsFaulty b f → IsFaulty (b ++ p) f
-extends b p f h =
-    let g = h.first.1 in
-    record {
-      first = (
-        h.first.0,
-        record {
-          before = g.before;
-          from = g.from ++ p;
-          joined = ap (λ l. l ++ p) g.joined ∙ append_assoc g.before g.from p;
-          encoded = g.encoded;
-          begins = record {
-            refused = g.begins.refused;
-            rest = g.begins.rest ++ p;
-            is = ap (λ l. l ++ p) g.begins.is ∙ append_assoc g.begins.refused g.begins.rest p;
-            refusal = refused_extends _ g.begins.refused g.begins.rest p f h.stays g.begins.refusal;
-          };
-        },
-      );
-      stays = h.stays;
-    }
+extends b p f h = grind (arith, nat_tests, common_steps, append_assoc, h.stays)
 
 -- no sequence is open: all bytes were read
 encoded : (h : Bool) (b : List ℕ) → Gives b (items_after h) → IsWtf8 b

@@ -1,5 +1,5 @@
 -- The function and the relation of units, and units of parts.
-use Rattle.wtf8_core.proofs.Common.{◌≡◌, ◌↔◌, ℕ, ◌<◌, ◌^◌, List, ◌++◌, take, drop, map, sym, ap, ◌∙◌, subst, flat_map-append, All, flat_map, All-from_recursion, recursion_from_All, IsCodePoint, encode, encode_utf16, Encodes, IsWtf8, HasUnits, units, IsWtf8LossyText, without_surrogate, ok_values, code_points_in, units_of, wtf8_lossy, IsBoundary}
+use Rattle.wtf8_core.proofs.Common.{◌≡◌, ◌↔◌, ℕ, ◌<◌, ◌^◌, List, ◌++◌, take, drop, map, sym, ap, ◌∙◌, subst, flat_map-append, All, flat_map, All-from_recursion, recursion_from_All, IsCodePoint, encode, encode_utf16, Encodes, IsWtf8, HasUnits, units, IsWtf8LossyText, without_surrogate, ok_values, code_points_in, units_of, wtf8_lossy, IsBoundary, arith, common_steps, nat_tests}
 use Rattle.wtf8_core.proofs.lemmas.{reader.Complete.items_if_encoded, reader.FirstErr.ok_values_of_oks, forms.Appending.all_flat_map, units.OneToOne.wide_units, units.OneToOne.IsUnit, units.OneToOne.units_once, units.OneToOne.units_encoded, forms.Cuts.boundary_cut, forms.Cuts.encodes_parts}
 
 -- the function of code points gives those that are encoded
@@ -40,11 +40,7 @@ units_listed b w =
 
 -- the units of two parts
 units_parts : (b p q cs ds es : List ℕ) → Encodes b cs → Encodes p ds → Encodes q es → cs ≡ ds ++ es → units_of b ≡ units_of p ++ units_of q
-units_parts b p q cs ds es s t u e =
-    let x = code_points_in-encoded b cs s in
-    let y = code_points_in-encoded p ds t in
-    let z = code_points_in-encoded q es u in
-    ap units (x ∙ e) ∙ flat_map-append encode_utf16 ds es ∙ ap (λ l. l ++ units es) (ap units (sym y)) ∙ ap (λ l. units_of p ++ l) (ap units (sym z))
+units_parts b p q cs ds es s t u e = grind (arith, nat_tests, common_steps, code_points_in-encoded, flat_map-append)
 
 -- the units of both sides of a boundary
 pub units_cut : (b : List ℕ) (i : ℕ) → IsWtf8 b → IsBoundary b i → units_of b ≡ units_of (take i b) ++ units_of (drop i b)

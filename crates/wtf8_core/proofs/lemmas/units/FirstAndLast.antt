@@ -1,5 +1,5 @@
 -- The first and the last unit of a string.
-use Rattle.wtf8_core.proofs.Common.{drop_all, ◌≡◌, ⊎_elim, ℕ, ◌+◌, ◌-◌, ◌*◌, ◌/◌, ◌%◌, ◌<◌, ◌≤◌, List, [], ◌∷◌, ◌++◌, length, take, drop, map, Result, Ok, Err, refl, sym, ap, ◌∙◌, subst, arith, append_assoc, length-append, length-drop, take-append-drop, get_or, eqb, cases_lt, eqb-true, eq-eqb, nat_tests, IsTrue, flat_map, IsLow, IsSurrogate, high_unit, low_unit, encode, encode_utf16, units, IsWtf8, units_of, AreItems, AreUnitItems, unit_items, IsPrefix, IsSuffix, EncodingError}
+use Rattle.wtf8_core.proofs.Common.{drop_all, ◌≡◌, ⊎_elim, ℕ, ◌+◌, ◌-◌, ◌*◌, ◌/◌, ◌%◌, ◌<◌, ◌≤◌, List, [], ◌∷◌, ◌++◌, length, take, drop, map, Result, Ok, Err, refl, sym, ap, ◌∙◌, subst, arith, append_assoc, length-append, length-drop, take-append-drop, get_or, eqb, cases_lt, eqb-true, eq-eqb, nat_tests, IsTrue, flat_map, IsLow, IsSurrogate, high_unit, low_unit, encode, encode_utf16, units, IsWtf8, units_of, AreItems, AreUnitItems, unit_items, IsPrefix, IsSuffix, EncodingError, common_steps}
 use Rattle.wtf8_core.specs.Items.AreItems.{Whole, Faulty}
 use Rattle.wtf8_core.proofs.lemmas.{forms.Shapes.form_past, forms.Ranges.low_surrogate, reader.Complete.never_both, reader.FirstErr.units_whole, units.OneToOne.wide_single, units.OneToOne.wide_pair, characters.FourBytes.four_first, forms.Cuts.cut_before, occurrence.Wtf8.units_of_encoded, forms.LastForms.at_end, forms.LastForms.at_last, forms.LastForms.form_at_end, forms.LastForms.no_points, forms.LastForms.last_point, forms.LastForms.forms_last, forms.LastForms.units_last}
 
@@ -61,9 +61,7 @@ half_of s last w l e h =
 
 -- bytes whose fourth last is below F0 end with no form past FFFF
 pub no_past_form : (s last prefix : List ℕ) (c : ℕ) → last ≡ drop (length s - 4) s → 0x1_0000 ≤ c → s ≡ prefix ++ encode c → get_or last 0 0 < 0xF0 → ⊥
-no_past_form s last prefix c e h f i =
-    let q : get_or last 0 0 ≡ 0xF0 + c / 0x4_0000 = ap (λ z. get_or z 0 0) (form_at_end s last prefix 4 c e (ap length (form_past c h)) f ∙ form_past c h) in
-    omega arith
+no_past_form s last prefix c e h f i = grind (arith, nat_tests, common_steps, form_at_end, form_past)
 
 -- a string that ends with neither has no low surrogate as its last unit
 pub no_low_suffix : (s : List ℕ) (l : ℕ) → IsWtf8 s → IsLow l

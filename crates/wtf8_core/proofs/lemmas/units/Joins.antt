@@ -1,5 +1,5 @@
 -- Strings joined, by units: the same as by bytes, unless a high surrogate is followed by a low one.
-use Rattle.wtf8_core.proofs.Common.{◌≡◌, ℕ, ◌+◌, ◌-◌, ◌/◌, ◌%◌, ◌≤◌, List, [], ◌∷◌, ◌++◌, length, take, drop, refl, sym, ap, ◌∙◌, subst, arith, append_assoc, append-nil, length-append, take-append_seam, drop-append-add, flat_map-append, AllByRecursion, flat_map, IsCodePoint, encode, encode_utf16, HasNoSurrogatePair, MayPrecede, last_or, units, Encodes, IsWtf8, units_of, paired}
+use Rattle.wtf8_core.proofs.Common.{◌≡◌, ℕ, ◌+◌, ◌-◌, ◌/◌, ◌%◌, ◌≤◌, List, [], ◌∷◌, ◌++◌, length, take, drop, refl, sym, ap, ◌∙◌, subst, arith, append_assoc, append-nil, length-append, take-append_seam, drop-append-add, flat_map-append, AllByRecursion, flat_map, IsCodePoint, encode, encode_utf16, HasNoSurrogatePair, MayPrecede, last_or, units, Encodes, IsWtf8, units_of, paired, common_steps, nat_tests}
 use Rattle.wtf8_core.specs.Join.{IsJoin, IsPairBetween}
 use Rattle.wtf8_core.proofs.lemmas.{forms.Ranges.high_surrogate, forms.Ranges.low_surrogate, forms.Shapes.form_surrogate, forms.ByStd.forms_prefix, units.OneToOne.wide_single, units.OneToOne.may_precede, units.OneToOne.paired_units, units.Cuts.encodes_prefix, units.Cuts.encodes_suffix, forms.Appending.encodes_one, forms.Appending.encodes_joined, occurrence.Wtf8.units_of_encoded, forms.LastForms.last_point, forms.LastForms.split_at_last, forms.LastForms.forms_last, forms.LastForms.units_last}
 
@@ -45,15 +45,7 @@ pub record ArePairBytes (a b : List ℕ) (c : ℕ) : Type 0 where
   pub low_bytes : 3 ≤ length b
 
 pub pair_bytes : (a b : List ℕ) (c : ℕ) → IsPairBetween a b c → ArePairBytes a b c
-pair_bytes a b c m =
-    let x = ap length (form_surrogate m.high (high_surrogate m.high m.is_high)) in
-    let y = ap length (form_surrogate m.low (low_surrogate m.low m.is_low)) in
-    record {
-      past = omega (arith, m.pair);
-      code_point = omega (arith, m.pair, m.is_high.1, m.is_low.1);
-      high_bytes = omega (arith, ap length m.ends, length-append m.prefix (encode m.high), x);
-      low_bytes = omega (arith, ap length m.begins, length-append (encode m.low) m.rest, y);
-    }
+pair_bytes a b c m = grind (arith, nat_tests, common_steps, form_surrogate, high_surrogate, low_surrogate, length-append, m.is_high, m.is_low, m.ends, m.begins)
 
 -- the first string is extended by the second without its first two bytes, and the form of the pair is written over the last three bytes of the first and the byte after them
 pub written_join : (a b v w : List ℕ) (c : ℕ) → IsWtf8 a → IsWtf8 b → IsPairBetween a b c → v ≡ a ++ drop 2 b → w ≡ take (length a - 3) v ++ (encode c ++ drop (length a - 3 + 4) v) → IsJoin IsWtf8 units_of a b w

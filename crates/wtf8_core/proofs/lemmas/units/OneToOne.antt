@@ -1,5 +1,5 @@
 -- Units and code points, one to one.
-use Rattle.wtf8_core.proofs.Common.{◌≡◌, ℕ, ◌<◌, ◌≤◌, List, [], ◌∷◌, ◌++◌, length, get_or, Fits, w16, refl, sym, ap, ◌∙◌, arith, cond_both, nat_tests, All-from_get_or, recursion_from_All, AllByRecursion, flat_map, IsHigh, IsLow, high_unit, low_unit, is_pair, paired, IsCodePoint, encode, encode_utf16, HasNoSurrogatePair, MayPrecede, units, HasUnits, code_points_of, decoder_bytes, drop, drop_all, subst, true, false, ◌+◌}
+use Rattle.wtf8_core.proofs.Common.{◌≡◌, ℕ, ◌<◌, ◌≤◌, List, [], ◌∷◌, ◌++◌, length, get_or, Fits, w16, refl, sym, ap, ◌∙◌, arith, cond_both, nat_tests, All-from_get_or, recursion_from_All, AllByRecursion, flat_map, IsHigh, IsLow, high_unit, low_unit, is_pair, paired, IsCodePoint, encode, encode_utf16, HasNoSurrogatePair, MayPrecede, units, HasUnits, code_points_of, decoder_bytes, drop, drop_all, subst, true, false, ◌+◌, common_steps}
 use Rattle.std.specs.Prelude.{slice_index}
 use Rattle.std.proofs.lemmas.List.{drop_more}
 use Rattle.wtf8_core.proofs.lemmas.reader.Complete.{encoded_once}
@@ -72,19 +72,11 @@ paired_units u v h l = grind (arith, nat_tests, h, l)
 
 -- one more unit
 reading_single : (u : ℕ) (us cs : List ℕ) → IsUnit u → MayPrecede u cs → IsReading us cs → IsReading (u ∷ us) (u ∷ cs)
-reading_single u us cs h m r = record {
-  code_points = (omega arith, r.code_points);
-  no_pair = (m, r.no_pair);
-  are = ap (λ x. u ∷ x) r.are ∙ ap (λ x. x ++ units cs) (sym (wide_single u h));
-}
+reading_single u us cs h m r = grind (arith, nat_tests, common_steps, wide_single, r.no_pair, r.are)
 
 -- a pair at the start
 reading_pair : (u v : ℕ) (us cs : List ℕ) → IsHigh u → IsLow v → IsReading us cs → IsReading (u ∷ v ∷ us) (paired u v ∷ cs)
-reading_pair u v us cs h l r = record {
-  code_points = (omega (arith, h.1, l.1), r.code_points);
-  no_pair = (may_precede (paired u v) cs (λ i. omega (arith, i.1)), r.no_pair);
-  are = ap (λ x. u ∷ v ∷ x) r.are ∙ ap (λ x. x ++ units cs) (sym (paired_units u v h l));
-}
+reading_pair u v us cs h l r = grind (arith, nat_tests, common_steps, paired_units, r.no_pair, r.are)
 
 -- units are read so
 pub reading : (us : List ℕ) → AllByRecursion IsUnit us → IsReading us (code_points_of us)

@@ -1,5 +1,5 @@
 -- Prefixes and suffixes of WTF-8 by units: by bytes, but where a half of a pair is at the edge.
-use Rattle.wtf8_core.proofs.Common.{◌≡◌, ℕ, List, [], ◌∷◌, ◌++◌, refl, sym, ap, ◌∙◌, subst, arith, append_assoc, flat_map-append, append_cancel_left, append_cancel_right, AllByRecursion, flat_map, IsHigh, IsLow, IsCodePoint, encode, encode_utf16, HasNoSurrogatePair, MayPrecede, last_or, units, Encodes, IsWtf8, units_of, IsPrefix, IsSuffix}
+use Rattle.wtf8_core.proofs.Common.{◌≡◌, ℕ, List, [], ◌∷◌, ◌++◌, refl, sym, ap, ◌∙◌, subst, arith, append_assoc, flat_map-append, append_cancel_left, append_cancel_right, AllByRecursion, flat_map, IsHigh, IsLow, IsCodePoint, encode, encode_utf16, HasNoSurrogatePair, MayPrecede, last_or, units, Encodes, IsWtf8, units_of, IsPrefix, IsSuffix, common_steps, nat_tests}
 use Rattle.wtf8_core.proofs.lemmas.{forms.Appending.last_append, forms.Appending.encodes_one, units.OneToOne.wide_single, units.OneToOne.precedes_wide, units.OneToOne.may_precede, units.Cuts.encodes_prefix, units.Cuts.units_prefix, units.Cuts.units_suffix, units.Cuts.last_unit, occurrence.Wtf8.units_of_encoded, occurrence.Wtf8.wtf8_occurrence, forms.LastForms.last_point, forms.LastForms.split_at_last, forms.LastForms.forms_last, forms.LastForms.units_last}
 
 -- what is a prefix of the code points is one of the bytes
@@ -69,9 +69,7 @@ ends_joined x y v w = let u = wtf8_occurrence.ends x y v w in (u, (wtf8_occurren
 
 -- a string that begins with no low surrogate is a suffix in units exactly where it is one in bytes
 pub end_plain : (s p : List ℕ) → IsWtf8 s → IsWtf8 p → IsSuffix p s → IsSuffix (units_of p) (units_of s)
-end_plain s p c d f =
-    let w = ends_joined f.rest p d (subst IsWtf8 f.joined c) in
-    record { rest = units_of f.rest; joined = ap units_of f.joined ∙ w.1 }
+end_plain s p c d f = grind (arith, nat_tests, common_steps, ends_joined, f.joined)
 
 pub plain_end : (s p : List ℕ) → IsWtf8 s → IsWtf8 p → ((c : ℕ) (y : List ℕ) → IsLow c → p ≡ encode c ++ y → ⊥) → IsSuffix (units_of p) (units_of s) → IsSuffix p s
 plain_end s p (cs, c) (ps, d) n f =

@@ -1,11 +1,8 @@
-use Rattle.wtf8_core.proofs.{Common.◌++◌, Common.sym, Common.subst, lemmas.table.Pieces.only_ends, lemmas.table.Pieces.open_progress}
-use Rattle.wtf8_core.specs.Checker.{Describes, progress}
+use Rattle.wtf8_core.proofs.{Common.◌++◌, Common.arith, Common.common_steps, Common.nat_tests, lemmas.table.Pieces.only_ends, lemmas.table.Pieces.open_progress}
 use Rattle.wtf8_core.proofs.checker.Checker.feed.Goals as goal
 
 pub returns-in-Ok-clause-describes : goal.returns-in-Ok-clause-describes
-returns-in-Ok-clause-describes c b h =
-    subst (λ fault. Describes (progress c.in-Ok.state c.in-Ok.bits fault) (b ++ c.args.piece.now)) (sym c.in_default.is)
-    (c.in-Ok.ensures b (open_progress c.self.inside.state c.self.inside.bits c.self.inside.fault c.args.self.now b c.self.view_is c.in_default.is h))
+returns-in-Ok-clause-describes c b h = grind (arith, nat_tests, common_steps, open_progress, c.in_default.is, c.in-Ok.ensures, c.self.view_is)
 
 pub returns-in-Ok-clause-answer : goal.returns-in-Ok-clause-answer
 returns-in-Ok-clause-answer c b h f g =

@@ -1,4 +1,4 @@
-use Rattle.wtf8_core.proofs.Common.{true, refl, sym, ap, ◌∙◌, fault_text, Utf8}
+use Rattle.wtf8_core.proofs.Common.{true, refl, sym, ap, ◌∙◌, fault_text, Utf8, arith, common_steps, nat_tests}
 use Rattle.std.proofs.Output.{has_written_styled_append, has_written_styled_of_eq}
 use Rattle.wtf8_core.proofs.fault.EncodingErrorDisplay.fmt.Goals as goal
 
@@ -22,6 +22,4 @@ pub returns-in-CodePoint-clause-styled : goal.returns-in-CodePoint-clause-styled
 returns-in-CodePoint-clause-styled g c = λ flush ok. has_written_styled_of_eq _ _ _ _ _ (sym (ap fault_text c.in-CodePoint.is)) (c.write_code_point.ensures flush ok)
 
 pub returns-in-Some-clause-styled : goal.returns-in-Some-clause-styled
-returns-in-Some-clause-styled g c = λ flush ok.
-    let i = c.in-Utf8.valid_up_to in
-    has_written_styled_of_eq _ _ _ _ _ (sym (ap (λ len. fault_text (Utf8 i len)) c.in-Some.is) ∙ sym (ap fault_text c.in-Utf8.is)) (c.write_ill_formed.ensures flush ok)
+returns-in-Some-clause-styled g c = grind (arith, nat_tests, common_steps, c.in-Some.is, c.in-Utf8.is, c.write_ill_formed.ensures)
