@@ -8,13 +8,14 @@ ghost use Rattle.os_str_ext.specs.Parts.{part_bytes};
 
 use crate::os_units::NonUnicodeOsStr;
 use platform_str::{OsStr, Platform};
-use std::alloc::AllocError;
 use std::marker::Model;
+use std::ops::Range;
 
 /// An iterator over the chunks of a string, from the first on. After `None` it gives only `None`.
 ///
 /// [`OsStrBytesExt::utf8_chunks`](crate::OsStrBytesExt::utf8_chunks) makes it. A clone has the same
 /// chunks left; cloning doesn't allocate, and its answer is always `Ok`.
+#[derive_where(Clone)]
 #[derive(Drop)]
 pub struct Utf8Chunks<'a, E: Platform + 'a> {
     rest: OsStr<'a, E>,
@@ -34,19 +35,6 @@ impl<'a, E: Platform> Model for Utf8Chunks<'a, E> {
     ghost view = { λ it. chunks_of (bytes it.rest) };
 
     ghost invariant = { λ it. IsUncoveredUpTo (bytes it.rest) it.uncovered };
-}
-
-impl<'a, E: Platform> Clone for Utf8Chunks<'a, E> {
-    ghost is_clone = { λ x y. y ≡ x };
-
-    ghost is_infallible = { λ _. Unit {0} };
-
-    fn clone(&self) -> Result<Self, AllocError> {
-        Ok(Utf8Chunks {
-            rest: self.rest,
-            uncovered: self.uncovered,
-        })
-    }
 }
 
 impl<'a, E: Platform> Utf8Chunks<'a, E> {
@@ -112,40 +100,25 @@ fn first_chunk<'a, E: Platform>(
     ensures { chunks_of (bytes string.entry) ≡ (part_bytes result.0, result.1.now) ∷ result.2 }
 {
     let bytes = string.as_encoded_bytes();
-    let ChunkEnds {
-        part_end,
-        text_end,
-        uncovered_after,
-    } = chunk_ends::<E>(bytes, uncovered);
-    let (prefix, rest) = bytes.split_at(text_end);
-    let (part, text) = prefix.split_at(part_end);
-    (
-        NonUnicodeOsStr::new(OsStr::from_encoded_bytes_unchecked(part)),
-        unsafe { str::from_utf8_unchecked(text) },
-        Utf8Chunks {
-            rest: OsStr::from_encoded_bytes_unchecked(rest),
-            uncovered: uncovered_after,
-        },
-    )
+    let (text, uncovered) = first_text::<E>(bytes, uncovered);
+    let (prefix, rest) = bytes.split_at(text.end);
+    let (part, text) = prefix.split_at(text.start);
+    let part = NonUnicodeOsStr::new(OsStr::from_encoded_bytes_unchecked(part));
+    let text = unsafe { str::from_utf8_unchecked(text) };
+    let rest = OsStr::from_encoded_bytes_unchecked(rest);
+    (part, text, Utf8Chunks { rest, uncovered })
 }
 
-/// Where the part and the text of the first chunk end, and a number of bytes after it at none of
-/// which a whole character starts, as far as is known.
-pub(crate) struct ChunkEnds {
-    pub(crate) part_end: usize,
-    pub(crate) text_end: usize,
-    pub(crate) uncovered_after: usize,
-}
-
-/// The ends of the first chunk, if no whole character starts at any of the first `uncovered` bytes.
+/// The text of the first chunk, which starts where the part ends, and a number of bytes after it at
+/// none of which a whole character starts. None starts at any of the first `uncovered` bytes.
 ///
 /// The part is skipped fault by fault, by the length of each. A byte with which no character begins
 /// is skipped by itself, without a search.
-pub(crate) fn chunk_ends<E: Platform>(bytes: &[u8], uncovered: usize) -> ChunkEnds
+fn first_text<E: Platform>(bytes: &[u8], uncovered: usize) -> (Range<usize>, usize)
     requires formed { E.well_formed bytes.now }
     requires uncovered { IsUncoveredUpTo bytes.now uncovered }
-    ensures ends { IsFirstChunk bytes.now result.part_end result.text_end }
-    ensures uncovered { IsUncoveredUpTo (drop result.text_end bytes.now) result.uncovered_after }
+    ensures ends { IsFirstChunk bytes.now result.0.start result.0.end }
+    ensures uncovered { IsUncoveredUpTo (drop result.0.end bytes.now) result.1 }
 {
     let mut at = uncovered;
     while at < bytes.len() {
@@ -155,27 +128,15 @@ pub(crate) fn chunk_ends<E: Platform>(bytes: &[u8], uncovered: usize) -> ChunkEn
         }
         let (_, rest) = bytes.split_at(at);
         let Some((valid_up_to, error_len)) = E::utf8_fault(rest) else {
-            return ChunkEnds {
-                part_end: at,
-                text_end: bytes.len(),
-                uncovered_after: 0,
-            };
+            return (at..bytes.len(), 0);
         };
         let len = part_len(rest, valid_up_to, error_len);
         if valid_up_to > 0 {
-            return ChunkEnds {
-                part_end: at,
-                text_end: at + valid_up_to,
-                uncovered_after: len,
-            };
+            return (at..at + valid_up_to, len);
         }
         at += len;
     }
-    ChunkEnds {
-        part_end: bytes.len(),
-        text_end: bytes.len(),
-        uncovered_after: 0,
-    }
+    (bytes.len()..bytes.len(), 0)
 }
 
 /// Whether no character begins with this byte (80 to C1 and F5 to FF, hexadecimal).

@@ -1,6 +1,6 @@
 use Rattle.os_str_ext.proofs.Common.{arith}
 use Rattle.os_str_ext.proofs.lemmas.UncoveredStart.{one_more, part_more, text_found, uncovered_after_text, text_to_end, all_uncovered}
-use Rattle.os_str_ext.proofs.chunks.chunk_ends.Goals as goal
+use Rattle.os_str_ext.proofs.chunks.first_text.Goals as goal
 
 pub loop-at-preserved-then-begins_no_character : goal.loop-at-preserved-then-begins_no_character
 loop-at-preserved-then-begins_no_character g c = one_more c.args.bytes.now c.loop-at.at c.loop-at.invariant c.loop-at-test.true (c.begins_no_character.ensures.0 c.if-begins_no_character.true)

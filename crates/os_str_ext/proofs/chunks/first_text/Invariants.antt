@@ -1,5 +1,5 @@
 use Rattle.os_str_ext.proofs.Common.{length, ◌-◌, IsUncoveredUpTo}
-use Rattle.os_str_ext.proofs.chunks.chunk_ends.Given as goal
+use Rattle.os_str_ext.proofs.chunks.first_text.Given as goal
 
 abbrev pub invariant-loop-at : goal.invariant-loop-at
 invariant-loop-at g l = IsUncoveredUpTo l.bytes l.at
