@@ -158,7 +158,8 @@ impl SliceIndex for RangeToInclusive<usize> {
 fn fits<E: Platform>(string: OsStr<'_, E>, start: usize, end: usize) -> bool
     ensures { IsTrue result ↔ FitsIn (bytes string.entry) start end }
 {
-    fits_in_bytes(string.as_encoded_bytes(), start, end)
+    let bytes = string.as_encoded_bytes();
+    start <= end && end <= bytes.len() && is_boundary(bytes, start) && is_boundary(bytes, end)
 }
 
 /// The same for the bytes from index `start` to index `last` (inclusive).
@@ -166,10 +167,4 @@ fn fits_inclusive<E: Platform>(string: OsStr<'_, E>, start: usize, last: usize) 
     ensures { IsTrue result ↔ FitsIn (bytes string.entry) start (last + 1) }
 {
     last < string.len() && fits(string, start, last + 1)
-}
-
-fn fits_in_bytes(bytes: &[u8], start: usize, end: usize) -> bool
-    ensures { IsTrue result ↔ FitsIn bytes.now start end }
-{
-    start <= end && end <= bytes.len() && is_boundary(bytes, start) && is_boundary(bytes, end)
 }
