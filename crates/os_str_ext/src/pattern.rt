@@ -3,8 +3,6 @@ ghost use Rattle.std.specs.Prelude.{◌≡◌, ◌<◌, ◌≤◌, ◌↔◌, �
 ghost use Rattle.std.specs.{Char.encode_utf8, Str.IsUtf8, String.string_bytes};
 ghost use Rattle.os_str_ext.specs.Patterns.{either_way, char_has_bytes};
 
-use std::alloc::AllocError;
-
 /// What can be searched for: a `char`, a `&str` or a `&String`, as a text.
 ///
 /// It is like std's `Pattern`, without closures and sets of characters. A search encodes its
@@ -126,24 +124,13 @@ impl Pattern for char {
 }
 
 /// The bytes of a `char`.
+#[derive(Clone, Copy)]
 pub struct EncodedChar {
     buffer: [u8; 4],
     length: usize,
     ghost fits: { length ≤ 4 },
     ghost is_text: { ∥ IsUtf8 (take length buffer) ∥₁ },
 }
-
-impl Clone for EncodedChar {
-    ghost is_clone = { λ x y. y ≡ x };
-
-    ghost is_infallible = { λ _. Unit {0} };
-
-    fn clone(&self) -> Result<EncodedChar, AllocError> {
-        Ok(*self)
-    }
-}
-
-impl Copy for EncodedChar {}
 
 impl Encoded for EncodedChar {
     ghost text = { λ e. take e.length e.buffer };
