@@ -7,6 +7,9 @@ ghost use Rattle.os_str_ext.specs.{Characters.IsCharacterBefore, Range.FitsIn, R
 use platform_str::{OsStr, Platform};
 use wtf8_core::{char_at, laws};
 
+/// Two parts of a string.
+pub(crate) type Parts<'a, E> = (OsStr<'a, E>, OsStr<'a, E>);
+
 /// Whether bytes may be cut at index `at`. A whole character has at most four bytes, so at most
 /// seven bytes are read.
 pub(crate) fn is_boundary(bytes: &[u8], at: usize) -> bool
@@ -62,10 +65,7 @@ fn ends_character(bytes: &[u8], at: usize, size: usize) -> bool
 
 /// The two parts of a string, cut at a boundary.
 #[inline(always)]
-pub(crate) fn split_at<'a, E: Platform>(
-    string: OsStr<'a, E>,
-    at: usize,
-) -> (OsStr<'a, E>, OsStr<'a, E>)
+pub(crate) fn split_at<E: Platform>(string: OsStr<'_, E>, at: usize) -> Parts<'_, E>
     requires { IsBoundary (bytes string) at }
     ensures front { bytes result.0 ≡ take at (bytes string.entry) }
     ensures back { bytes result.1 ≡ drop at (bytes string.entry) }
@@ -80,7 +80,7 @@ pub(crate) fn split_at<'a, E: Platform>(
 }
 
 /// The part of a string from one boundary to another.
-pub(crate) fn part<'a, E: Platform>(string: OsStr<'a, E>, start: usize, end: usize) -> OsStr<'a, E>
+pub(crate) fn part<E: Platform>(string: OsStr<'_, E>, start: usize, end: usize) -> OsStr<'_, E>
     requires { FitsIn (bytes string) start end }
     ensures bytes { bytes result ≡ drop start (take end (bytes string.entry)) }
     ensures units { IsPartInUnits E.units (bytes string.entry) start end (bytes result) }

@@ -10,9 +10,7 @@ use wtf8_core::first_character::first_char;
 
 /// The character with which a string begins, and the rest of the string.
 #[inline(always)]
-pub(crate) fn split_first_char<'a, E: Platform>(
-    string: OsStr<'a, E>,
-) -> Option<(char, OsStr<'a, E>)>
+pub(crate) fn split_first_char<E: Platform>(string: OsStr<'_, E>) -> Option<(char, OsStr<'_, E>)>
     ensures bytes { SplitsFirstChar bytes (bytes string.entry) result }
     ensures units { IfSome result (λ parts. E.units (bytes string.entry)
         ≡ E.units (encode_utf8 parts.0) ++ E.units (bytes parts.1)) }
@@ -31,7 +29,7 @@ pub(crate) fn split_first_char<'a, E: Platform>(
 
 /// The character with which a string ends, and the rest of the string.
 #[inline(always)]
-pub(crate) fn split_last_char<'a, E: Platform>(string: OsStr<'a, E>) -> Option<(char, OsStr<'a, E>)>
+pub(crate) fn split_last_char<E: Platform>(string: OsStr<'_, E>) -> Option<(char, OsStr<'_, E>)>
     ensures bytes { SplitsLastChar bytes (bytes string.entry) result }
     ensures units { IfSome result (λ parts. E.units (bytes string.entry)
         ≡ E.units (bytes parts.1) ++ E.units (encode_utf8 parts.0)) }

@@ -316,10 +316,8 @@ pub trait OsStrBytesExt<'a>: OsStrBytes<'a> {
         requires { P.not_empty pattern }
         ensures { Splits Self.Platform.units IsSplit (P.text pattern) (Self.bytes_of self) result }
     {
-        iter::split(
-            OsStr::from_encoded_bytes_unchecked(self.encoded_bytes()),
-            pattern,
-        )
+        let string = OsStr::from_encoded_bytes_unchecked(self.encoded_bytes());
+        iter::split(string, pattern)
     }
 
     /// The pieces between occurrences of the pattern, from the end, each cut at the last one in
@@ -337,10 +335,8 @@ pub trait OsStrBytesExt<'a>: OsStrBytes<'a> {
         requires { P.not_empty pattern }
         ensures { Splits Self.Platform.units IsRSplit (P.text pattern) (Self.bytes_of self) result }
     {
-        iter::rsplit(
-            OsStr::from_encoded_bytes_unchecked(self.encoded_bytes()),
-            pattern,
-        )
+        let string = OsStr::from_encoded_bytes_unchecked(self.encoded_bytes());
+        iter::rsplit(string, pattern)
     }
 
     // Characters.
@@ -466,11 +462,8 @@ pub trait OsStrBytesExt<'a>: OsStrBytes<'a> {
         ensures empty { count * length (Self.bytes_of self) ≡ 0 → IsOk result }
         ensures overflow { usize.MAX < count * length (Self.bytes_of self) → IsErr result }
     {
-        repeat::repeat(
-            alloc,
-            OsStr::from_encoded_bytes_unchecked(self.encoded_bytes()),
-            count,
-        )
+        let string = OsStr::from_encoded_bytes_unchecked(self.encoded_bytes());
+        repeat::repeat(alloc, string, count)
     }
 
     // the units of a string are the platform's units of its bytes

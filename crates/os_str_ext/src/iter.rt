@@ -7,6 +7,7 @@ ghost use Rattle.platform_str.specs.Strings.{bytes};
 ghost use Rattle.os_str_ext.specs.Cuts.{FirstCut, LastCut, ArePieces, AreOfRest, PiecesOf, CutLaws, pieces_left};
 ghost use Rattle.os_str_ext.specs.SomePieces.{pieces_from_start, pieces_from_end, cuts_from_start, cuts_from_end};
 
+use crate::boundary::Parts;
 use crate::parts::{rsplit_once, split_once};
 use crate::pattern::{Encoded, Pattern};
 use platform_str::{OsStr, Platform};
@@ -31,10 +32,7 @@ pub trait Direction {
     /// let (piece, rest) = (OsStr::new("bar"), OsStr::new("fo"));
     /// assert!(rt; FromEnd::cut(OsStr::<Unix>::new("foobar"), "o") == Some((piece, rest)));
     /// ```
-    fn cut<'a, E: Platform>(
-        string: OsStr<'a, E>,
-        text: &str,
-    ) -> Option<(OsStr<'a, E>, OsStr<'a, E>)>
+    fn cut<'a, E: Platform>(string: OsStr<'a, E>, text: &str) -> Option<Parts<'a, E>>
         ensures { MatchOption result (OccursNowhere text.now (bytes string.entry))
             (λ cut. cuts text.now (bytes string.entry) (bytes cut.0) (bytes cut.1)) };
 
@@ -55,10 +53,7 @@ impl Direction for FromStart {
     ghost laws = { cuts_from_start };
 
     #[inline(always)]
-    fn cut<'a, E: Platform>(
-        string: OsStr<'a, E>,
-        text: &str,
-    ) -> Option<(OsStr<'a, E>, OsStr<'a, E>)> {
+    fn cut<'a, E: Platform>(string: OsStr<'a, E>, text: &str) -> Option<Parts<'a, E>> {
         split_once(string, text)
     }
 }
@@ -71,10 +66,7 @@ impl Direction for FromEnd {
     ghost laws = { cuts_from_end };
 
     #[inline(always)]
-    fn cut<'a, E: Platform>(
-        string: OsStr<'a, E>,
-        text: &str,
-    ) -> Option<(OsStr<'a, E>, OsStr<'a, E>)> {
+    fn cut<'a, E: Platform>(string: OsStr<'a, E>, text: &str) -> Option<Parts<'a, E>> {
         match rsplit_once(string, text) {
             Some((rest, piece)) => Some((piece, rest)),
             None => None,
@@ -142,10 +134,7 @@ impl<'a, E: Platform, P: Pattern, D: Direction> Pieces<'a, E, P, D> {
 }
 
 /// The pieces of a string from its start.
-pub(crate) fn split<'a, E: Platform, P: Pattern>(
-    string: OsStr<'a, E>,
-    pattern: P,
-) -> Split<'a, E, P>
+pub(crate) fn split<E: Platform, P: Pattern>(string: OsStr<'_, E>, pattern: P) -> Split<'_, E, P>
     requires { 0 < length (P.text pattern) }
     ensures { Splits E.units IsSplit (P.text pattern) (bytes string.entry) result }
 {
@@ -153,10 +142,7 @@ pub(crate) fn split<'a, E: Platform, P: Pattern>(
 }
 
 /// The pieces of a string from its end.
-pub(crate) fn rsplit<'a, E: Platform, P: Pattern>(
-    string: OsStr<'a, E>,
-    pattern: P,
-) -> RSplit<'a, E, P>
+pub(crate) fn rsplit<E: Platform, P: Pattern>(string: OsStr<'_, E>, pattern: P) -> RSplit<'_, E, P>
     requires { 0 < length (P.text pattern) }
     ensures { Splits E.units IsRSplit (P.text pattern) (bytes string.entry) result }
 {

@@ -4,7 +4,7 @@ ghost use Rattle.wtf8_core.specs.{Occurrence.IsFirstIndex, Occurrence.IsLastInde
 ghost use Rattle.os_str_ext.specs.Pieces.{StripsPrefix, StripsSuffix, SplitsOnce, IsStartTrim, IsEndTrim};
 ghost use Rattle.platform_str.specs.Strings.{bytes};
 
-use crate::boundary::split_at;
+use crate::boundary::{Parts, split_at};
 use crate::runs::{end_run, start_run};
 use crate::search::{ends_with, find, rfind, starts_with};
 use platform_str::{OsStr, Platform};
@@ -82,10 +82,7 @@ pub(crate) fn trim_end<'a, E: Platform>(string: OsStr<'a, E>, text: &str) -> OsS
 
 /// The parts before and after the first occurrence of the text, or `None` if it doesn't occur.
 #[inline(always)]
-pub(crate) fn split_once<'a, E: Platform>(
-    string: OsStr<'a, E>,
-    text: &str,
-) -> Option<(OsStr<'a, E>, OsStr<'a, E>)>
+pub(crate) fn split_once<'a, E: Platform>(string: OsStr<'a, E>, text: &str) -> Option<Parts<'a, E>>
     ensures { SplitsOnce IsFirstIndex bytes text.now (bytes string.entry) result }
 {
     let Some(at) = find(string.as_encoded_bytes(), text) else {
@@ -96,10 +93,7 @@ pub(crate) fn split_once<'a, E: Platform>(
 
 /// The parts before and after the last occurrence of the text, or `None` if it doesn't occur.
 #[inline(always)]
-pub(crate) fn rsplit_once<'a, E: Platform>(
-    string: OsStr<'a, E>,
-    text: &str,
-) -> Option<(OsStr<'a, E>, OsStr<'a, E>)>
+pub(crate) fn rsplit_once<'a, E: Platform>(string: OsStr<'a, E>, text: &str) -> Option<Parts<'a, E>>
     ensures { SplitsOnce IsLastIndex bytes text.now (bytes string.entry) result }
 {
     let Some(at) = rfind(string.as_encoded_bytes(), text) else {
@@ -110,11 +104,7 @@ pub(crate) fn rsplit_once<'a, E: Platform>(
 
 /// The part before one boundary and the part after another.
 #[inline(always)]
-fn around<'a, E: Platform>(
-    string: OsStr<'a, E>,
-    start: usize,
-    end: usize,
-) -> (OsStr<'a, E>, OsStr<'a, E>)
+fn around<E: Platform>(string: OsStr<'_, E>, start: usize, end: usize) -> Parts<'_, E>
     requires before { IsBoundary (bytes string) start }
     requires after { IsBoundary (bytes string) end }
     ensures prefix { bytes result.0 ≡ take start (bytes string.entry) }
