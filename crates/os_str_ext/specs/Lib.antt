@@ -2,6 +2,7 @@ pub mod Range
 pub mod Patterns
 pub mod Pieces
 pub mod Cuts
+pub mod Occurrences
 pub mod SomePieces
 pub mod Chunks
 pub mod Parts
