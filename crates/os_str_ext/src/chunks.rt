@@ -1,7 +1,7 @@
 //! The chunks of a string: its parts that contain no whole character, each with the text after it.
-ghost use Rattle.std.specs.Prelude.{◌≡◌, ◌+◌, ◌∷◌, ◌<◌, ◌≤◌, ◌↔◌, length, drop, IsTrue};
+ghost use Rattle.std.specs.Prelude.{◌≡◌, ◌+◌, ◌∷◌, ◌<◌, ◌≤◌, ◌↔◌, List, length, drop, IsTrue};
 ghost use Rattle.std.specs.Iterator.{YieldsFirstBy, item_count};
-ghost use Rattle.wtf8_core.specs.{Chunks.AreChunks, Utf8.IsUtf8Fault, Utf8.part_end};
+ghost use Rattle.wtf8_core.specs.{Chunks.AreChunks, Chunks.Chunk, Utf8.IsUtf8Fault, Utf8.part_end};
 ghost use Rattle.platform_str.specs.Strings.{bytes};
 ghost use Rattle.os_str_ext.specs.Chunks.{chunks_of, BeginsNoCharacter, IsUncoveredUpTo, IsFirstChunk};
 ghost use Rattle.os_str_ext.specs.Parts.{part_bytes};
@@ -25,11 +25,6 @@ pub struct Utf8Chunks<'a, E: Platform + 'a> {
 }
 
 impl<'a, E: Platform> Model for Utf8Chunks<'a, E> {
-    ghost use Rattle.std.specs.Prelude.{List};
-    ghost use Rattle.wtf8_core.specs.Chunks.{Chunk};
-    ghost use Rattle.platform_str.specs.Strings.{bytes};
-    ghost use Rattle.os_str_ext.specs.Chunks.{chunks_of, IsUncoveredUpTo};
-
     ghost Value = { List Chunk };
 
     ghost view = { λ it. chunks_of (bytes it.rest) };

@@ -1,10 +1,10 @@
 //! The calls that every string of a platform has in addition to its conversions.
-ghost use Rattle.std.specs.Prelude.{ℕ, List, ◌≡◌, ◌<◌, ◌↔◌, ◌++◌, ◌+◌, ◌*◌, ◌^◌, IsTrue, IsOk, IsErr, IfOk, IfSome, length, take, drop};
+ghost use Rattle.std.specs.Prelude.{ℕ, List, ◌≡◌, ◌<◌, ◌↔◌, ◌++◌, ◌+◌, ◌*◌, ◌^◌, IsTrue, IsOk, IsErr, IfOk, IfSome, length, take, drop, refl};
 ghost use Rattle.wtf8_core.specs.Occurrence.{Finds, IsFirstIndex, IsLastIndex, IsPrefix, IsSuffix};
 ghost use Rattle.wtf8_core.specs.{UnitIndex.FindsInUnits, Boundary.IsBoundary, Chunks.AreChunks};
 ghost use Rattle.os_str_ext.specs.Pieces.{OccursSomewhere, MayBeCutAround, StripsPrefix, StripsSuffix, IsStartTrim, IsEndTrim, IsTrim, IsSplit, IsRSplit, SplitsOnce, Splits, Trims};
 ghost use Rattle.std.specs.{Char.encode_utf8, List.repeat};
-ghost use Rattle.platform_str.specs.Strings.{string_vec_of};
+ghost use Rattle.platform_str.specs.Strings.{bytes, string_vec_of};
 ghost use Rattle.os_str_ext.specs.{Characters.SplitsFirstChar, Characters.SplitsLastChar, Chunks.chunks_of};
 ghost use Rattle.os_str_ext.specs.{Range.FitsIn, Range.IsPartInUnits, Symbols.AreSymbols, Symbols.symbols_of};
 
@@ -472,9 +472,6 @@ pub trait OsStrBytesExt<'a>: OsStrBytes<'a> {
 }
 
 impl<'a, E: Platform + 'a> OsStrBytesExt<'a> for OsStr<'a, E> {
-    ghost use Rattle.std.specs.Prelude.{refl};
-    ghost use Rattle.platform_str.specs.Strings.{bytes};
-
     ghost units_of = { λ string. E.units (bytes string) };
 
     ghost units_are = { λ _. refl };

@@ -1,6 +1,7 @@
 //! Parts, which are strings that contain no whole character, and their units.
-ghost use Rattle.std.specs.Prelude.{◌≡◌, ◌∷◌, ◌<◌, ◌^◌, length};
-ghost use Rattle.wtf8_core.specs.Covered.{HasNoCharacter};
+ghost use Rattle.std.specs.Prelude.{◌≡◌, ◌∷◌, ◌<◌, ◌^◌, [], length};
+ghost use Rattle.std.specs.List.{flat_map};
+ghost use Rattle.wtf8_core.specs.{Covered.HasNoCharacter, PartUnits.unit_bytes};
 ghost use Rattle.platform_str.specs.Strings.{bytes};
 
 use platform_str::{OsStr, Platform};
@@ -30,8 +31,6 @@ impl<'a, E: Platform> Clone for NonUnicodeOsStr<'a, E> {
 impl<'a, E: Platform> Copy for NonUnicodeOsStr<'a, E> {}
 
 impl<'a, E: Platform> NonUnicodeOsStr<'a, E> {
-    ghost use Rattle.std.specs.List.{flat_map};
-    ghost use Rattle.wtf8_core.specs.PartUnits.{unit_bytes};
     ghost use Rattle.os_str_ext.specs.Parts.{part_bytes, unit_number};
 
     pub(crate) fn new(string: OsStr<'a, E>) -> Self
@@ -160,7 +159,6 @@ impl<'a, E: Platform> Model for OsUnits<'a, E> {
 }
 
 impl<'a, E: Platform> OsUnits<'a, E> {
-    ghost use Rattle.std.specs.Prelude.{[]};
     ghost use Rattle.os_str_ext.specs.Parts.{part_bytes};
 
     /// No units: the units of an empty part.
