@@ -1,10 +1,14 @@
 //! All iterators: those of raw strings, and those of the crates below this one.
+ghost use Rattle.std.specs.Prelude.{◌≡◌, ℕ, List};
+ghost use Rattle.std.specs.Iterator.{YieldsFirstBy, item_count};
+ghost use Rattle.os_str_ext.specs.Cuts.{AreOfRest};
+ghost use Rattle.os_str_bytes.specs.Raw.{raw_bytes};
+
 use crate::raw_str::RawOsStr;
 pub use os_str_ext::{
     Direction, FromEnd, FromStart, OsUnits, Pieces, RSplit, Split, Symbols, Utf8Chunks, WideUnits,
 };
 use os_str_ext::{Pattern, Platform};
-use std::alloc::AllocError;
 use std::marker::Model;
 pub use wtf8_core::{CodePoints, DecodeWide, EncodeWide};
 
@@ -13,6 +17,7 @@ pub use wtf8_core::{CodePoints, DecodeWide, EncodeWide};
 ///
 /// Cloning doesn't allocate and its answer is always `Ok`; the clone has the same pieces left.
 /// After `None` it gives only `None`.
+#[derive_where(Clone)]
 #[derive(Drop)]
 pub struct RawPieces<'a, E: Platform + 'a, P: Pattern, D: Direction> {
     pieces: Pieces<'a, E, P, D>,
@@ -25,18 +30,12 @@ pub type RawSplit<'a, E, P> = RawPieces<'a, E, P, FromStart>;
 pub type RawRSplit<'a, E, P> = RawPieces<'a, E, P, FromEnd>;
 
 impl<'a, E: Platform, P: Pattern, D: Direction> Model for RawPieces<'a, E, P, D> {
-    ghost use Rattle.std.specs.Prelude.{List, ℕ};
-
     ghost Value = { List (List ℕ) };
 
     ghost view = { λ it. it.pieces };
 }
 
 impl<'a, E: Platform, P: Pattern, D: Direction> RawPieces<'a, E, P, D> {
-    ghost use Rattle.std.specs.Prelude.{◌≡◌};
-    ghost use Rattle.os_str_ext.specs.Cuts.{AreOfRest};
-    ghost use Rattle.os_str_bytes.specs.Raw.{raw_bytes};
-
     pub(crate) fn new(pieces: Pieces<'a, E, P, D>) -> Self
         ensures { result ≡ pieces.entry }
     {
@@ -60,24 +59,7 @@ impl<'a, E: Platform, P: Pattern, D: Direction> RawPieces<'a, E, P, D> {
     }
 }
 
-impl<'a, E: Platform, P: Pattern, D: Direction> Clone for RawPieces<'a, E, P, D> {
-    ghost use Rattle.std.specs.Prelude.{◌≡◌};
-
-    ghost is_clone = { λ x y. y ≡ x };
-
-    ghost is_infallible = { λ _. Unit {0} };
-
-    fn clone(&self) -> Result<Self, AllocError> {
-        Ok(RawPieces {
-            pieces: self.pieces.clone()?,
-        })
-    }
-}
-
 impl<'a, E: Platform, P: Pattern, D: Direction> Iterator for RawPieces<'a, E, P, D> {
-    ghost use Rattle.os_str_bytes.specs.Raw.{raw_bytes};
-    ghost use Rattle.std.specs.Iterator.{YieldsFirstBy, item_count};
-
     type Item = RawOsStr<'a, E>;
 
     ghost next_gives = { YieldsFirstBy raw_bytes (λ left. left) };
