@@ -271,19 +271,10 @@ impl<E: Platform, A: Allocator> RawOsString<E, A> {
             ((raw_vec_of self.new).items ≡ (raw_vec_of self.old).items) }
     {
         let alloc = self.vec.allocator().clone()?;
-        let suffix = self.copy_from(alloc, at)?;
+        let (_, suffix) = self.as_raw().split_at(at);
+        let suffix = suffix.to_owned(alloc)?;
         self.truncate(at);
         Ok(suffix)
-    }
-
-    /// A copy of the bytes from a boundary on.
-    fn copy_from(&self, alloc: A, at: usize) -> Result<Self, AllocError>
-        requires { IsBoundary (raw_vec_of self.now).items at }
-        ensures { IfOk result (λ back. (raw_vec_of back).items ≡ drop at
-            (raw_vec_of self.now).items) }
-    {
-        let (_, back) = self.as_raw().split_at(at);
-        back.to_owned(alloc)
     }
 
     /// A copy in its own memory.
