@@ -1,5 +1,5 @@
 -- What the searches of `memchr` find, in the words of `Occurrence`.
-use Rattle.std.proofs.Common.{◌≡◌, ℕ, ◌+◌, ◌<◌, ◌≤◌, List, ◌++◌, length, take, drop, Option, Some, None, sym, ap, subst, ◌∙◌, arith, length-append, take-append-drop}
+use Rattle.std.proofs.Common.{◌≡◌, ℕ, ◌+◌, List, ◌++◌, length, take, drop, Option, Some, None, sym, ap, subst, ◌∙◌, arith, length-append, take-append-drop}
 use Rattle.std.proofs.lemmas.{List.length-take-le, List.drop_at, List.Prefix.at_from_reads, List.Prefix.at_reads}
 use Rattle.memchr.specs.Find.{OccursAt as NeedleOccursAt, FindsNeedle, FindsLastNeedle}
 use Rattle.wtf8_core.specs.Occurrence.{OccursAt, IsFirstIndex, IsLastIndex, Finds}

@@ -1,5 +1,5 @@
 -- Each string has pieces from its start and from its end, and one cut at most from either.
-use Rattle.std.proofs.Common.{◌≡◌, ℕ, zero, suc, ◌+◌, ◌<◌, ◌≤◌, List, [], ◌∷◌, ◌++◌, length, take, drop, Option, None, Some, MatchOption, refl, sym, ap, ◌∙◌, arith, inl, inr, ◌⊎◌, ⊎_elim, length-append}
+use Rattle.std.proofs.Common.{◌≡◌, ℕ, zero, suc, ◌+◌, ◌<◌, List, [], ◌∷◌, ◌++◌, length, take, drop, Option, None, Some, MatchOption, refl, sym, ap, ◌∙◌, arith, inl, inr, ◌⊎◌, ⊎_elim, length-append}
 use Rattle.std.proofs.lemmas.{Bool.cases_eq, Bool.cases_lt, Bool.cases_Bool, Bool.false≢true, List.append_cancel_left, List.take_at, List.drop_at}
 use Rattle.memchr.specs.Find.{IsFirst, IsLast, FindsNeedle, FindsLastNeedle, OccursAt as NeedleOccursAt, occurs_at}
 use Rattle.memchr.proofs.lemmas.{MatchLemmas.OccursAt-true, MatchLemmas.occurs_at-true, FindLemmas.NoneBefore-wider, FindLemmas.Nowhere-more}

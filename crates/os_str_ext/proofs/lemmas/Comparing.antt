@@ -1,5 +1,5 @@
 -- Bytes are equal if their first bytes are and their last bytes are.
-use Rattle.std.proofs.Common.{◌/◌, ◌%◌, ◌↔◌, Bool, cond, not, eqb, map, w8, take_all}
+use Rattle.std.proofs.Common.{◌%◌, ◌↔◌, Bool, cond, not, eqb, map, w8, take_all}
 use Rattle.std.proofs.lemmas.{Bool.Decides.nat_tests, Grind.common_steps, Simd.tops_compared, Simd.mask_l-mod, Simd.length-zip2}
 use Rattle.os_str_ext.proofs.Common.{◌≡◌, ℕ, ◌+◌, ◌-◌, ◌≤◌, ◌^◌, List, [], ◌∷◌, ◌++◌, true, length, take, drop, refl, sym, ap, ◌∙◌, arith, eqb-true, eq-eqb, take-append-drop, take-take, length-append, length-drop, take_at, IsPrefix, IsSuffix}
 use lib.Lanes.{zip2, mask_l, top}

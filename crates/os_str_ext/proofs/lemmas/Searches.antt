@@ -1,5 +1,5 @@
 -- What the searches of `memchr` find, and that a string may be cut before and after a text.
-use Rattle.os_str_ext.proofs.Common.{◌≡◌, ℕ, ◌+◌, ◌-◌, ◌<◌, ◌≤◌, true, List, [], ◌++◌, length, take, drop, Option, Some, None, refl, sym, ap, subst, ◌∙◌, arith, inl, inr, ⊎_elim, length-append, take-append-drop, append-nil, length-take-le, drop_at, nil_from_length, cases_eq, false≢true, is_some, IsUtf8, NeedleOccursAt, FindsNeedle, FindsLastNeedle, OccursAt, IsFirstIndex, IsLastIndex, IsPrefix, IsSuffix, IsBoundary, SplitsAt}
+use Rattle.os_str_ext.proofs.Common.{◌≡◌, ℕ, ◌+◌, ◌-◌, ◌<◌, ◌≤◌, true, List, [], ◌++◌, length, take, drop, Option, Some, None, refl, sym, ap, subst, ◌∙◌, arith, inl, inr, ⊎_elim, length-append, take-append-drop, append-nil, length-take-le, nil_from_length, cases_eq, false≢true, is_some, IsUtf8, OccursAt, IsFirstIndex, IsLastIndex, IsPrefix, IsSuffix, IsBoundary}
 use Rattle.std.specs.Option.{IfSome}
 use Rattle.wtf8_core.specs.Occurrence.{Finds}
 pub use Rattle.os_str_ext.specs.Occurrences.{needle_from_occurs, first_index_of_needle, last_index_of_needle, parts_around}
