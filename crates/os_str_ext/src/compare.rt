@@ -3,8 +3,8 @@ ghost use Rattle.std.specs.Prelude.{◌≡◌, ◌+◌, ◌≤◌, ◌↔◌, Is
 
 use std::simd::prelude::*;
 
-/// Whether two lists of bytes of the same length are equal. Of two to 32 bytes, the
-/// first ones and the last ones are compared, 2, 4, 8 or 16 at once and without a jump between.
+/// Whether two lists of bytes of the same length are equal. Of two to 32 bytes, the first ones and
+/// the last ones are compared, 2, 4, 8 or 16 at once and without a jump between.
 #[inline(always)]
 pub(crate) fn are_same(a: &[u8], b: &[u8]) -> bool
     requires { length a.now ≡ length b.now }
