@@ -1,7 +1,7 @@
 -- Plain bytes: texts that both forms show unchanged.
-use Rattle.os_quote.proofs.Common.{◌≡◌, ◌⊎◌, ⊎_elim, ℕ, zero, suc, ◌+◌, ◌-◌, ◌<◌, ◌≤◌, true, List, [], ◌∷◌, length, take, get_or, refl, sym, subst, arith, AllByRecursion, IsUtf8, cases_lt, chars-IsAscii, IsUtf8-from_ascii, shown_by, IsPlain, IsPlainUpTo, AreUnchanged, IsUnchanged}
+use Rattle.os_quote.proofs.Common.{text_escape, ◌≡◌, ⊎_elim, ℕ, zero, suc, ◌+◌, ◌-◌, ◌<◌, ◌≤◌, true, List, [], ◌∷◌, length, take, get_or, refl, sym, subst, arith, AllByRecursion, IsUtf8, cases_lt, chars-IsAscii, IsUtf8-from_ascii, shown_by, IsPlain, IsPlainUpTo, AreUnchanged, IsUnchanged}
 use Rattle.os_quote.specs.declared.form.Form.{Form, TheVariants.Text, TheVariants.Line}
-use Rattle.os_quote.proofs.lemmas.{Readings.ascii_all, Shown.ascii_stays, Texts.text_escape, Texts.unchanged_text}
+use Rattle.os_quote.proofs.lemmas.{Readings.ascii_all, Shown.ascii_stays, Texts.unchanged_text}
 
 plain_ascii : (bs : List ℕ) → AllByRecursion IsPlain bs → AllByRecursion (λ b. b < 128) bs
 plain_ascii [] a = tt
@@ -46,14 +46,7 @@ pub one_plain : (bs : List ℕ) (at : ℕ) → IsPlainUpTo bs at → at < length
 one_plain bs at before room one =
     more_plain bs at 1 before (omega (arith, room)) (λ i lt. let e : at ≡ at + i = omega (arith, lt) in subst (λ k. IsPlain (get_or bs k 0)) e one)
 
--- up to the later of two indices, where n bytes from an earlier index on are plain
-pub up_to_later : (bs : List ℕ) (at last n m : ℕ) → IsPlainUpTo bs at → last ≤ at → last + n ≤ length bs → ((i : ℕ) → i < n → IsPlain (get_or bs (last + i) 0)) → (m ≡ at) ⊎ (m ≡ last + n) → IsPlainUpTo bs m
-up_to_later bs at last n m before low room more which = record {
-  within = ⊎_elim (λ e. omega (arith, e, before.within)) (λ e. omega (arith, e, room)) which;
-  plain = λ i lt.
-      ⊎_elim (λ l. before.plain i l)
-      (λ ge. let e : last + (i - last) ≡ i = omega (arith, ge, low) in subst (λ k. IsPlain (get_or bs k 0)) e (more (i - last) (⊎_elim (λ k. omega (arith, k, lt, ge)) (λ k. omega (arith, k, lt, ge, low)) which)))
-      (cases_lt i at);
-}
+pub fewer_plain : (bs : List ℕ) (at n : ℕ) → IsPlainUpTo bs at → n ≤ at → IsPlainUpTo bs n
+fewer_plain bs at n all low = record { within = omega (arith, all.within, low); plain = λ i lt. all.plain i (omega (arith, lt, low)) }
 
 pub ruleset plain_bytes = (none_plain, more_plain, one_plain)

@@ -1,5 +1,5 @@
 use Rattle.os_quote.proofs.Common.{length, ◌-◌, IsPlainUpTo}
-use Rattle.os_quote.proofs.find_plain.end_by_bytes.Given as goal
+use Rattle.os_quote.proofs.find_plain.few_plain.Given as goal
 
 abbrev pub invariant-loop-at : goal.invariant-loop-at
 invariant-loop-at l = IsPlainUpTo l.bytes l.at

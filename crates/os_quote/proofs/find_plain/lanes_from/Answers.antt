@@ -1,5 +1,0 @@
-use Rattle.os_quote.proofs.Common.{ltb, ltb-false, refl, arith, none_passes_before}
-use Rattle.os_quote.proofs.find_plain.lanes_from.Goals as goal
-
-pub returns : goal.returns
-returns c i h l = ltb-false _ _ (none_passes_before ltb c.args.lanes 16 c.args.value _ (omega arith) c.fits-lanes.0 refl i h l)
