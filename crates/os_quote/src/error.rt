@@ -1,5 +1,5 @@
 //! Why a text isn't an escape.
-ghost use Rattle.std.specs.{Prelude.Some, Prelude.decimal, Fmt.WritesStyledOnOk};
+ghost use Rattle.std.specs.{Prelude.◌≡◌, Prelude.Some, Prelude.decimal, Fmt.WritesStyledOnOk};
 
 use std::alloc::AllocError;
 use std::error::Error;
@@ -36,6 +36,9 @@ pub enum QuoteError {
     Memory,
 }
 
+/// How long the string is that an escape means, or why no string has this escape.
+pub(crate) type Unescaped = Result<usize, QuoteError>;
+
 impl fmt::Display for QuoteError {
     ghost use Rattle.os_quote.specs.ErrorText.{error_text};
 
@@ -67,7 +70,6 @@ fn write_number<W: fmt::Write>(number: usize, f: &mut fmt::Formatter<W>) -> fmt:
 }
 
 impl From<AllocError> for QuoteError {
-    ghost use Rattle.std.specs.Prelude.{◌≡◌};
     ghost use Rattle.os_quote.specs.declared.error.QuoteError.TheVariants.{Memory};
 
     ghost from_gives = { λ _ error. error ≡ Memory };

@@ -1,12 +1,12 @@
 //! Strings written into a buffer, from escapes, which may not be UTF-8.
 ghost use Rattle.std.specs.Prelude.{◌≡◌, ◌≢◌, ◌≤◌, length, IfOk, IfErr, IfSome, MatchOption, MatchResult};
 ghost use Rattle.std.specs.Str.{IsUtf8};
-ghost use Rattle.os_quote.specs.{Shown.shown_by, declared.error.QuoteError.TheVariants.Memory, Reading.HasNoBackslash, Escape.IsQuoteFault, Escape.IsLineFault, Escape.IsQuoteFaultBy, Unescaped.IsUnescaped, Unescaped.IsLineUnescaped, Unescaped.IsUnescapedBy, Unescaped.AreReadBy};
+ghost use Rattle.os_quote.specs.{Shown.shown_by, declared.error.QuoteError.TheVariants.Memory, Escape.IsQuoteFault, Escape.IsLineFault, Escape.IsQuoteFaultBy, Unescaped.IsUnescaped, Unescaped.IsLineUnescaped, Unescaped.IsUnescapedBy, Unescaped.AreReadBy};
 
-use crate::error::QuoteError;
+use crate::error::{QuoteError, Unescaped};
 use crate::find_plain::are_plain;
 use crate::form::Form;
-use crate::read_string::{is_unescaped, read};
+use crate::read_string::write_by;
 use crate::read_token::cut_backslash;
 use crate::write_walk::split_at_token;
 use os_str_bytes::Platform;
@@ -71,11 +71,7 @@ pub fn write_unescaped_line<E: Platform>(text: &str, buffer: &mut [u8]) -> Resul
 
 /// The same in a form. A text without tokens is its own escape.
 #[inline(always)]
-fn write_text_by<E: Platform>(
-    form: Form,
-    text: &str,
-    buffer: &mut [u8],
-) -> Result<usize, QuoteError>
+fn write_text_by<E: Platform>(form: Form, text: &str, buffer: &mut [u8]) -> Unescaped
     ensures string { IfOk result (λ count. IsUnescapedBy (shown_by form) E.well_formed E.units
         text.now buffer.old buffer.new count) }
     ensures fault { IfErr result
@@ -85,35 +81,6 @@ fn write_text_by<E: Platform>(
     match split_at_token(form, text) {
         None => Ok(push_truncated(buffer, 0, text.as_bytes())),
         Some(_) => write_by::<E>(form, text.as_bytes(), buffer),
-    }
-}
-
-/// The same, token by token, of bytes that may not be UTF-8. If they are the escape of a
-/// string for which there is room, that alone says that they are UTF-8; any other answer is right only
-/// if they are.
-pub(crate) fn write_by<E: Platform>(
-    form: Form,
-    escape: &[u8],
-    buffer: &mut [u8],
-) -> Result<usize, QuoteError>
-    ensures string { IsUtf8 escape.now → IfOk result (λ count. IsUnescapedBy (shown_by form)
-        E.well_formed E.units escape.now buffer.old buffer.new count) }
-    ensures room { IfOk result (λ count. count ≤ length buffer.old → IsUtf8 escape.now) }
-    ensures fault { IsUtf8 escape.now → IfErr result
-        (λ fault. IsQuoteFaultBy (shown_by form) E.well_formed E.units escape.now fault) }
-    ensures never_memory { IfErr result (λ fault. fault ≢ Memory) }
-{
-    let count = match read(form, escape, buffer) {
-        Ok(count) => count,
-        Err(index) => return Err(QuoteError::BadEscape(index)),
-    };
-    if count > buffer.len() {
-        return Ok(count);
-    }
-    if is_unescaped::<E>(form, &buffer[..count], escape) {
-        Ok(count)
-    } else {
-        Err(QuoteError::NotCanonical)
     }
 }
 
@@ -178,12 +145,9 @@ pub fn write_unescaped_line_bytes<E: Platform>(
     write_bytes_by::<E>(Form::Line, escape, buffer)
 }
 
-/// The same in a form. Plain bytes are their own escape.
-fn write_bytes_by<E: Platform>(
-    form: Form,
-    escape: &[u8],
-    buffer: &mut [u8],
-) -> Option<Result<usize, QuoteError>>
+/// The same in a form. Plain bytes are their own escape, and where all is shown so is each text without
+/// a backslash.
+fn write_bytes_by<E: Platform>(form: Form, escape: &[u8], buffer: &mut [u8]) -> Option<Unescaped>
     ensures utf8 { IfSome result (λ _. IsUtf8 escape.now) }
     ensures read { AreReadBy (shown_by form) E.well_formed E.units escape.now buffer.old
         buffer.new result }
@@ -191,40 +155,24 @@ fn write_bytes_by<E: Platform>(
     if are_plain(escape) {
         return Some(Ok(push_truncated(buffer, 0, escape)));
     }
-    match cut_backslash(escape) {
-        None => write_shown::<E>(form, escape, buffer),
-        Some(_) => write_tokens::<E>(form, escape, buffer),
+    if let Some(_) = cut_backslash(escape) {
+        return write_tokens::<E>(form, escape, buffer);
     }
-}
-
-/// The same of an escape without a backslash.
-fn write_shown<E: Platform>(
-    form: Form,
-    escape: &[u8],
-    buffer: &mut [u8],
-) -> Option<Result<usize, QuoteError>>
-    requires { HasNoBackslash escape.now }
-    ensures utf8 { IfSome result (λ _. IsUtf8 escape.now) }
-    ensures read { AreReadBy (shown_by form) E.well_formed E.units escape.now buffer.old
-        buffer.new result }
-{
     if !is_utf8(escape) {
         return None;
     }
-    let text = unsafe { str::from_utf8_unchecked(escape) };
     match form {
         Form::Text => Some(Ok(push_truncated(buffer, 0, escape))),
-        Form::Line => Some(write_unescaped_line::<E>(text, buffer)),
+        Form::Line => {
+            let text = unsafe { str::from_utf8_unchecked(escape) };
+            Some(write_unescaped_line::<E>(text, buffer))
+        }
     }
 }
 
 /// The same of an escape with a backslash. It is read first, and whether it is UTF-8 is asked only if it
 /// isn't the escape of a string for which there is room.
-fn write_tokens<E: Platform>(
-    form: Form,
-    escape: &[u8],
-    buffer: &mut [u8],
-) -> Option<Result<usize, QuoteError>>
+fn write_tokens<E: Platform>(form: Form, escape: &[u8], buffer: &mut [u8]) -> Option<Unescaped>
     ensures utf8 { IfSome result (λ _. IsUtf8 escape.now) }
     ensures read { AreReadBy (shown_by form) E.well_formed E.units escape.now buffer.old
         buffer.new result }

@@ -1,13 +1,13 @@
 //! From escapes to strings: what their tokens mean, and whether a text is the escape of that string.
-ghost use Rattle.std.specs.Prelude.{◌≡◌, ◌↔◌, length, IsOk, IfOk, IfErr, IsTrue, ◌+◌, ◌<◌, ◌^◌, ◌++◌, [], ℕ, List, MatchResult, MatchOption};
+ghost use Rattle.std.specs.Prelude.{◌≡◌, ◌≢◌, ◌↔◌, length, IsOk, IfOk, IfErr, IsTrue, ◌+◌, ◌≤◌, ◌<◌, ◌^◌, ◌++◌, [], ℕ, List, MatchResult, MatchOption};
 ghost use Rattle.platform_str.specs.Strings.{string_vec_of, bytes};
-ghost use Rattle.os_quote.specs.{Shown.shown_by, Buffers.Pushes, Stripping.StartsNot, Escape.IsEscape, Escape.IsLineEscape, Escape.IsEscapeBy, Escape.IsQuoteFault, Escape.IsLineFault, Escape.IsQuoteFaultBy, Escape.IsBadEscapeBy, Reading.AreBytesRead, Reading.item_bytes, Reading.token_item};
+ghost use Rattle.os_quote.specs.{Shown.shown_by, Buffers.Pushes, Stripping.StartsNot, Escape.IsEscape, Escape.IsLineEscape, Escape.IsEscapeBy, Escape.IsQuoteFault, Escape.IsLineFault, Escape.IsQuoteFaultBy, Escape.IsBadEscapeBy, Reading.AreBytesRead, Reading.item_bytes, Reading.token_item, Unescaped.IsUnescapedBy, declared.error.QuoteError.TheVariants.Memory};
 ghost use Rattle.std.specs.Str.{IsUtf8};
 ghost use Rattle.wtf8_core.specs.{CodePoint.IsCodePoint, CodePoint.encode, Truncated.IsTruncated};
 
-use crate::error::QuoteError;
+use crate::error::{QuoteError, Unescaped};
 use crate::form::Form;
-use crate::read_token::{Token, cut_backslash, first_token};
+use crate::read_token::{Token, cut_backslash, first_token, strip};
 use crate::write_token::TokenText;
 use crate::write_walk::{Sink, split_at_token, write_escape_to};
 use os_str_bytes::{OsStr, OsStrBytesExt, OsString, Platform, Unix, laws};
@@ -96,22 +96,40 @@ fn unescape_by<E: Platform, A: Allocator>(
         return Ok(OsStr::new(text).to_owned(alloc)?);
     };
     let mut encoded = vec![in alloc; 0; text.len()]?;
-    let count = match read(form, text.as_bytes(), encoded.as_mut_slice()) {
+    let count = write_by::<E>(form, text.as_bytes(), encoded.as_mut_slice())?;
+    encoded.truncate(count);
+    Ok(OsString::from_encoded_bytes_unchecked(encoded))
+}
+
+/// Writes the string that has this escape into a buffer, truncated, token by token, from bytes that may
+/// not be UTF-8. If they are the escape of a string for which there is room, that alone says that they
+/// are UTF-8; any other answer is right only if they are.
+pub(crate) fn write_by<E: Platform>(form: Form, escape: &[u8], buffer: &mut [u8]) -> Unescaped
+    ensures string { IsUtf8 escape.now → IfOk result (λ count. IsUnescapedBy (shown_by form)
+        E.well_formed E.units escape.now buffer.old buffer.new count) }
+    ensures room { IfOk result (λ count. count ≤ length buffer.old → IsUtf8 escape.now) }
+    ensures fault { IsUtf8 escape.now → IfErr result
+        (λ fault. IsQuoteFaultBy (shown_by form) E.well_formed E.units escape.now fault) }
+    ensures never_memory { IfErr result (λ fault. fault ≢ Memory) }
+{
+    let count = match read(form, escape, buffer) {
         Ok(count) => count,
         Err(index) => return Err(QuoteError::BadEscape(index)),
     };
-    encoded.truncate(count);
-    if is_unescaped::<E>(form, &encoded, text.as_bytes()) {
-        Ok(OsString::from_encoded_bytes_unchecked(encoded))
+    if count > buffer.len() {
+        return Ok(count);
+    }
+    if is_unescaped::<E>(form, &buffer[..count], escape) {
+        Ok(count)
     } else {
         Err(QuoteError::NotCanonical)
     }
 }
 
 /// Whether the bytes are a string of the platform, and the others are its escape. It isn't inlined, so
-/// that the loop of each caller is the same, whoever else calls it.
+/// that the loop is the same, whatever its caller is.
 #[inline(never)]
-pub(crate) fn is_unescaped<E: Platform>(form: Form, encoded: &[u8], escape: &[u8]) -> bool
+fn is_unescaped<E: Platform>(form: Form, encoded: &[u8], escape: &[u8]) -> bool
     ensures { IsTrue result ↔ (E.well_formed encoded.now
         × IsEscapeBy (shown_by form) E.units encoded.now escape.now) }
 {
@@ -125,7 +143,7 @@ pub(crate) fn is_unescaped<E: Platform>(form: Form, encoded: &[u8], escape: &[u8
 /// Writes the bytes that an escape means, truncated if the buffer is too short for them, and returns
 /// how many they are; or else the index of the first backslash that begins no token. It doesn't check
 /// whether the escape is UTF-8.
-pub(crate) fn read(form: Form, escape: &[u8], buffer: &mut [u8]) -> Result<usize, usize>
+fn read(form: Form, escape: &[u8], buffer: &mut [u8]) -> Result<usize, usize>
     ensures { MatchResult result
         (λ count. (decoded : List ℕ) × AreBytesRead (shown_by form) escape.now decoded []
         × IsTruncated decoded buffer.old buffer.new count)
@@ -181,26 +199,20 @@ impl<'a> Sink for Comparison<'a> {
 
     #[inline(always)]
     fn take(&mut self, piece: &str) -> fmt::Result {
-        let Some(following) = strip_text(self.rest, piece) else {
-            return Err(fmt::Error);
-        };
-        self.rest = following;
+        self.rest = strip_text(self.rest, piece).ok_or(fmt::Error)?;
         Ok(())
     }
 
     /// Its length is known where it is made, so that it is compared without a call.
     #[inline(always)]
     fn take_token(&mut self, token: TokenText) -> fmt::Result {
-        let Some(following) = strip(self.rest, token.as_str().as_bytes()) else {
-            return Err(fmt::Error);
-        };
-        self.rest = following;
+        self.rest = strip(self.rest, token.as_str().as_bytes()).ok_or(fmt::Error)?;
         Ok(())
     }
 }
 
 /// Whether the bytes are the escape of the string in a form.
-pub(crate) fn has_escape<E: Platform>(form: Form, string: OsStr<'_, E>, text: &[u8]) -> bool
+fn has_escape<E: Platform>(form: Form, string: OsStr<'_, E>, text: &[u8]) -> bool
     ensures { IsTrue result ↔ IsEscapeBy (shown_by form) E.units (bytes string.entry) text.now }
 {
     let mut comparison = Comparison { rest: text };
@@ -217,17 +229,5 @@ fn strip_text<'a>(bytes: &'a [u8], text: &str) -> Option<&'a [u8]>
         (λ rest. bytes.now ≡ text.now ++ rest.now) }
 {
     let string = OsStr::<Unix>::from_encoded_bytes_unchecked(bytes);
-    let Some(rest) = string.strip_prefix(text) else {
-        return None;
-    };
-    Some(rest.as_encoded_bytes())
-}
-
-/// What comes after a token.
-#[inline(always)]
-fn strip<'a>(text: &'a [u8], token: &[u8]) -> Option<&'a [u8]>
-    ensures { MatchOption result (StartsNot token.now text.now)
-        (λ rest. text.now ≡ token.now ++ rest.now) }
-{
-    text.strip_prefix(token)
+    Some(string.strip_prefix(text)?.as_encoded_bytes())
 }

@@ -1,7 +1,7 @@
 //! Tokens, and the backslashes that begin them.
 ghost use Rattle.std.specs.Prelude.{◌≡◌, ◌≢◌, ◌<◌, ◌∷◌, ◌++◌, ℕ, List, MatchOption, ◌+◌, ◌*◌, ◌≤◌};
 ghost use Rattle.wtf8_core.specs.FaultText.{upper_hex_digit};
-ghost use Rattle.os_quote.specs.{Item.backslash, Item.byte_digits, Item.wide_digits, Item.item_text, Item.IsItem, Item.long_digits, Item.IsLong, Shown.shown_by, Shown.is_any, Escape.BeginsNoToken, Hidden.AreUnchanged, Hidden.IsCutAtToken, Reading.HasNoBackslash, Reading.IsCutAtFirst, Reading.HasNoNumber, Reading.token_item, Reading.HasNoLong, Reading.HasNoFive, Reading.HasNoSix, Reading.HasNoFour, Reading.IsFour, Reading.IsFive, Reading.IsSix};
+ghost use Rattle.os_quote.specs.{Item.backslash, Item.byte_digits, Item.wide_digits, Item.item_text, Item.IsItem, Item.long_digits, Item.IsLong, Shown.shown_by, Shown.is_any, Escape.BeginsNoToken, Hidden.AreUnchanged, Hidden.IsCutAtToken, Reading.HasNoBackslash, Reading.IsCutAtFirst, Reading.HasNoNumber, Reading.token_item, Reading.HasNoLong, Reading.HasNoFive, Reading.HasNoSix, Reading.HasNoFour, Reading.IsFour, Reading.IsFive, Reading.IsSix, Stripping.StartsNot};
 
 use crate::form::Form;
 use memchr::memchr;
@@ -56,18 +56,18 @@ pub(crate) fn first_token(form: Form, following: &[u8]) -> Option<(Token, &[u8])
         × (backslash ∷ following.now ≡ item_text (token_item read.0) ++ read.1.now)) }
 {
     let (kind, digits) = following.split_first()?;
-    if *kind == b'\\' {
-        return Some((Token::Backslash, digits));
+    match *kind {
+        b'\\' => Some((Token::Backslash, digits)),
+        b'x' => {
+            let (unit, rest) = two_digits(digits)?;
+            Some((Token::Byte(unit), rest))
+        }
+        b'u' => {
+            let (token, rest) = number_token(form, digits)?;
+            Some((token, rest))
+        }
+        _ => None,
     }
-    if *kind == b'x' {
-        let (unit, rest) = two_digits(digits)?;
-        return Some((Token::Byte(unit), rest));
-    }
-    if *kind == b'u' {
-        let (token, rest) = number_token(form, digits)?;
-        return Some((token, rest));
-    }
-    None
 }
 
 /// The token of a form that `\u` begins, and what comes after the token; `digits` is what comes
@@ -135,7 +135,7 @@ pub(crate) fn long_character(bytes: &[u8]) -> Option<(char, &[u8])>
     ensures { MatchOption result (HasNoLong bytes.now)
         (λ read. IsLong read.0 × (bytes.now ≡ 0x7B ∷ (long_digits read.0 ++ 0x7D ∷ read.1.now))) }
 {
-    let digits = after_byte(bytes, b'{')?;
+    let digits = strip(bytes, b"{")?;
     if let Some((character, rest)) = six_digits(digits) {
         return Some((character, rest));
     }
@@ -149,8 +149,7 @@ fn six_digits(digits: &[u8]) -> Option<(char, &[u8])>
     ensures { MatchOption result (HasNoSix digits.now)
         (λ read. IsSix digits.now read.0 read.1.now) }
 {
-    let lower = after_byte(digits, b'1')?;
-    let low = after_byte(lower, b'0')?;
+    let low = strip(digits, b"10")?;
     let (character, rest) = closed_character(0x10, low)?;
     Some((character, rest))
 }
@@ -179,20 +178,16 @@ fn closed_character(high: u8, low: &[u8]) -> Option<(char, &[u8])>
         (λ read. IsFour high low.now read.0 read.1.now) }
 {
     let (number, closed) = four_digits(low)?;
-    let rest = after_byte(closed, b'}')?;
+    let rest = strip(closed, b"}")?;
     let character = char::from_u32(u32::from(high) * 0x1_0000 + u32::from(number))?;
     Some((character, rest))
 }
 
-/// What comes after a byte at the start.
-fn after_byte(bytes: &[u8], byte: u8) -> Option<&[u8]>
-    ensures { MatchOption result ((after : List ℕ) → bytes.now ≢ byte ∷ after)
-        (λ following. bytes.now ≡ byte ∷ following.now) }
+/// What comes after a prefix.
+#[inline(always)]
+pub(crate) fn strip<'a>(bytes: &'a [u8], prefix: &[u8]) -> Option<&'a [u8]>
+    ensures { MatchOption result (StartsNot prefix.now bytes.now)
+        (λ rest. bytes.now ≡ prefix.now ++ rest.now) }
 {
-    let (first, following) = bytes.split_first()?;
-    if *first == byte {
-        Some(following)
-    } else {
-        None
-    }
+    bytes.strip_prefix(prefix)
 }

@@ -1,5 +1,5 @@
 -- How far a text has been read into a buffer.
-use Rattle.os_quote.proofs.Common.{◌≡◌, ℕ, ◌+◌, ◌-◌, ◌≤◌, Bool, List, [], ◌∷◌, ◌++◌, length, take, refl, sym, ap, ◌∙◌, subst, arith, append-nil, length-append, AllByRecursion, IsUtf8, IsUtf8-nil, AreUnchanged, Chunk, AreChunks, PartLaws, Item, backslash, item_text, item_texts, IsItem, BeginsNoToken, IsBadEscapeBy, IsEscapeBy, HasNoBackslash, IsCutAtFirst, AreBytesRead, IsRead, item_bytes, IsChunkOf}
+use Rattle.os_quote.proofs.Common.{◌≡◌, ℕ, ◌+◌, ◌-◌, ◌≤◌, Bool, List, [], ◌∷◌, ◌++◌, length, take, take_at, refl, sym, ap, ◌∙◌, subst, arith, append-nil, length-append, AllByRecursion, IsUtf8, IsUtf8-nil, AreUnchanged, Chunk, AreChunks, PartLaws, Item, backslash, item_text, item_texts, IsItem, BeginsNoToken, IsBadEscapeBy, IsEscapeBy, HasNoBackslash, IsCutAtFirst, AreBytesRead, IsRead, item_bytes, IsChunkOf}
 use Rattle.std.proofs.Common.{Result, Ok, Err, IfOk, IfErr, MatchResult}
 use Rattle.wtf8_core.specs.Truncated.{IsTruncated}
 use Rattle.wtf8_core.proofs.lemmas.buffers.Truncated.{whole, none_yet}
@@ -73,3 +73,12 @@ module _ (shows : ℕ → Bool) where
           only = λ s v e. one_string shows well_formed units part_units parts each s text text v w e own;
           tokens = λ n. never_bad shows well_formed units part_units parts each text text n w own;
         }
+
+-- a vector in which the text had room, cut after so many bytes, is the string
+pub unescaped_whole : {shows : ℕ → Bool} {well_formed : List ℕ → Type 0} {units : List ℕ → List ℕ} {bytes text old new written : List ℕ} {count len : ℕ} (more : List ℕ) → (IsUtf8 bytes → IsUnescapedBy shows well_formed units bytes old new count) → IsUtf8 text → bytes ≡ text → length text ≤ length old → length old ≡ len → written ≡ take count (take len (new ++ more))
+    → well_formed written × IsEscapeBy shows units written text
+unescaped_whole {shows} {well_formed} {units} {text = text} {old = old} {new = new} {count = count} {len = len} more read is_text same room size is =
+    let u = subst (λ x. IsUnescapedBy shows well_formed units x old new count) same (read (subst IsUtf8 (sym same) is_text)) in
+    let fits : count ≤ length new = omega (arith, u.short, room, u.written.same_length) in
+    let all : length new ≡ len = omega (arith, size, u.written.same_length) in
+    subst (λ x. well_formed x × IsEscapeBy shows units x text) (sym (is ∙ ap (take count) (take_at new more len all) ∙ whole u.string old new count u.written fits)) (u.escape (omega (arith, u.short, room)))

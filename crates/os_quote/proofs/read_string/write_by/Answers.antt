@@ -1,6 +1,6 @@
 use Rattle.os_quote.proofs.Common.{◌≡◌, true, false, sym, ◌∙◌, subst, arith, shown_by, IsEscapeBy, are_chunks_of}
 use Rattle.os_quote.proofs.lemmas.{Readings.escape_is_text, Readings.no_escape, Unescaping.read_fits, Unescaping.unescaped}
-use Rattle.os_quote.proofs.read_buffer.write_by.Goals as goal
+use Rattle.os_quote.proofs.read_string.write_by.Goals as goal
 
 pub returns-then-count-buffer-clause-string : goal.returns-then-count-buffer-clause-string
 returns-then-count-buffer-clause-string g c = λ is_text.

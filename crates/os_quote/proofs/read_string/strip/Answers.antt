@@ -1,5 +1,0 @@
-use Rattle.std.proofs.{Common.eqb, lemmas.Bool.Decides.Decides-eqb, lemmas.Slice.Eq.strip_prefix_is}
-use Rattle.os_quote.proofs.read_string.strip.Goals as goal
-
-pub returns : goal.returns
-returns c = strip_prefix_is {E = eqb} Decides-eqb c.args.text.now c.args.token.now c.strip_prefix.result c.strip_prefix.ensures.cases
