@@ -1,5 +1,6 @@
 //! The texts of tokens.
-ghost use Rattle.std.specs.Prelude.{◌≡◌, ◌/◌, ◌%◌, ◌<◌, ◌≤◌};
+ghost use Rattle.std.specs.Prelude.{◌≡◌, ◌/◌, ◌%◌, ◌<◌, ◌≤◌, List, ℕ, take};
+ghost use Rattle.std.specs.Str.{IsUtf8};
 ghost use Rattle.wtf8_core.specs.FaultText.{upper_hex_digit};
 ghost use Rattle.os_quote.specs.Item.{Backslash, ByteUnit, WideUnit, LongCharacter, item_text};
 
@@ -14,9 +15,6 @@ pub(crate) struct TokenText {
 }
 
 impl Model for TokenText {
-    ghost use Rattle.std.specs.Prelude.{◌≤◌, List, ℕ, take};
-    ghost use Rattle.std.specs.Str.{IsUtf8};
-
     ghost Value = { List ℕ };
 
     ghost view = { λ token. take token.len token.bytes };

@@ -1,5 +1,5 @@
 //! The escape of a string, piece by piece, for whatever takes it.
-ghost use Rattle.os_quote.specs.{Sinks.SinkRules, Sinks.Takes, Sinks.TakesBeginning, Start.byte_item, Buffers.text_escape, Buffers.token_of, Escaped.escape_of, Item.item_text, Item.unit_item, Shown.shown_by, Hidden.AreUnchanged, Hidden.IsCutAtToken};
+ghost use Rattle.os_quote.specs.{FormatterSink.formatter_rules, Sinks.SinkRules, Sinks.Takes, Sinks.TakesBeginning, Start.byte_item, Buffers.text_escape, Buffers.token_of, Escaped.escape_of, Item.item_text, Item.unit_item, Shown.shown_by, Hidden.AreUnchanged, Hidden.IsCutAtToken};
 ghost use Rattle.std.specs.Prelude.{◌≤◌, ◌++◌, IfOk, MatchOption, length};
 ghost use Rattle.platform_str.specs.Strings.{bytes};
 
@@ -33,8 +33,6 @@ pub(crate) trait Sink {
 }
 
 impl<W: fmt::Write> Sink for fmt::Formatter<W> {
-    ghost use Rattle.os_quote.specs.FormatterSink.{formatter_rules};
-
     ghost rules = { formatter_rules W.write_str_gives };
 
     #[inline(always)]

@@ -1,6 +1,6 @@
 -- The texts of tokens, byte by byte.
-use Rattle.os_quote.proofs.Common.{◌≡◌, ℕ, ◌/◌, ◌%◌, ◌<◌, ◌≤◌, List, [], ◌∷◌, ◌++◌, sym, ap, ◌∙◌, subst, arith, upper_hex_digit, IsUtf8, ByteUnit, WideUnit, LongCharacter, backslash, byte_digits, wide_digits, item_text, IsLong, is_any, stays_on_line}
-use Rattle.os_quote.proofs.lemmas.{Items.five_digits, Items.six_digits, Readings.item_is_text, Tokens.line_has_long}
+use Rattle.os_quote.proofs.Common.{◌≡◌, Bool, Item, IsItem, ℕ, ◌/◌, ◌%◌, ◌<◌, ◌≤◌, List, [], ◌∷◌, ◌++◌, sym, ap, ◌∙◌, subst, arith, upper_hex_digit, IsUtf8, ByteUnit, WideUnit, LongCharacter, backslash, byte_digits, wide_digits, item_text}
+use Rattle.os_quote.proofs.lemmas.{Items.five_digits, Items.six_digits, Readings.item_is_text}
 
 pub two_digits : (u a b : ℕ) → a ≡ upper_hex_digit (u / 16) → b ≡ upper_hex_digit (u % 16) → a ∷ b ∷ [] ≡ byte_digits u
 two_digits u a b p q = ap (λ x. x ∷ b ∷ []) p ∙ ap (λ x. upper_hex_digit (u / 16) ∷ x ∷ []) q
@@ -31,11 +31,5 @@ six_text n a b c d past below e =
     ∙ ap (λ x. backslash ∷ 0x75 ∷ 0x7B ∷ (x ++ 0x7D ∷ [])) (sym (six_digits n past))
 
 -- each is UTF-8
-pub byte_is_text : {t : List ℕ} (u : ℕ) → u < 0x100 → t ≡ item_text (ByteUnit u) → IsUtf8 t
-byte_is_text u h e = subst IsUtf8 (sym e) (item_is_text is_any (ByteUnit u) h)
-
-pub wide_is_text : {t : List ℕ} (u : ℕ) → u < 0x1_0000 → t ≡ item_text (WideUnit u) → IsUtf8 t
-wide_is_text u h e = subst IsUtf8 (sym e) (item_is_text is_any (WideUnit u) h)
-
-pub long_is_text : {t : List ℕ} (n : ℕ) → IsLong n → t ≡ item_text (LongCharacter n) → IsUtf8 t
-long_is_text n h e = subst IsUtf8 (sym e) (item_is_text stays_on_line (LongCharacter n) (line_has_long, h))
+pub token_is_text : {t : List ℕ} (shows : ℕ → Bool) (i : Item) → IsItem shows i → t ≡ item_text i → IsUtf8 t
+token_is_text shows i h e = subst IsUtf8 (sym e) (item_is_text shows i h)
