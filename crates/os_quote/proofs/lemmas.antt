@@ -7,7 +7,6 @@ pub mod InlineTexts
 pub mod Pushing
 pub mod Taking
 pub mod Stripping
-pub mod Chunks
 pub mod Escapes
 pub mod ItemLengths
 pub mod Readings

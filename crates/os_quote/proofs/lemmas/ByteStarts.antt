@@ -1,10 +1,10 @@
 -- Escapes of strings that begin with a byte that is written by itself.
-use Rattle.os_quote.proofs.Common.{◌≡◌, ℕ, ◌<◌, ◌≤◌, Bool, List, [], ◌∷◌, ◌++◌, length, take, drop, refl, sym, ap, ◌∙◌, subst, arith, append-nil, length-append, length-drop, lt-ltb, le-ltb, AllByRecursion, IsScalar, IsUtf8-encode, chars, chars-nil, chars_past_char, encode_utf8, length-encode, len_utf8_bounds, ByteUnit, WideUnit, IsUnchanged, is_any, item_text, unit_item, character_item, escape_of}
+use Rattle.os_quote.proofs.Common.{text_escape, ◌≡◌, ℕ, ◌<◌, ◌≤◌, Bool, List, [], ◌∷◌, ◌++◌, length, take, drop, refl, sym, ap, ◌∙◌, subst, arith, append-nil, length-append, length-drop, lt-ltb, le-ltb, AllByRecursion, IsScalar, IsUtf8-encode, chars, chars-nil, chars_past_char, encode_utf8, length-encode, len_utf8_bounds, ByteUnit, WideUnit, IsUnchanged, is_any, item_text, unit_item, character_item, escape_of}
 use Rattle.std.specs.Bool.{if◌then◌else◌}
 use Rattle.os_quote.specs.{Start.BeginsWith, Start.byte_item}
 use Rattle.wtf8_core.specs.{Covered.StartsWithNoCharacter, Boundary.IsBoundary, OccurrenceLaws.OccurrenceLaws}
 use Rattle.platform_str.specs.Laws.{IsFirstUnit}
-use Rattle.os_quote.proofs.lemmas.{Prefixes.ascii_text, Prefixes.ascii_first, Prefixes.rest_formed, Prefixes.text_first, FirstUnits.unit_first, Texts.text_escape, Texts.unchanged_text}
+use Rattle.os_quote.proofs.lemmas.{Prefixes.ascii_text, Prefixes.ascii_first, Prefixes.rest_formed, Prefixes.text_first, FirstUnits.unit_first, Texts.unchanged_text}
 
 module _ {well_formed : List ℕ → Type 0} {units : List ℕ → List ℕ} (occurrence : OccurrenceLaws well_formed units) (shows : ℕ → Bool) where
   pub from_ascii : {bytes rest : List ℕ} {b : ℕ} → well_formed bytes → b < 0x80 → bytes ≡ b ∷ rest → BeginsWith shows well_formed units bytes (item_text (byte_item shows b)) rest

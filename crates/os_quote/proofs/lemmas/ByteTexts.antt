@@ -1,8 +1,8 @@
 -- The words of bytes have their texts.
-use Rattle.os_quote.proofs.Common.{◌≡◌, ℕ, ◌*◌, ◌/◌, ◌<◌, ◌≤◌, Bool, true, false, true≢false, ◌&&◌, eqb, ltb, ◌+◌, List, [], ◌∷◌, ◌++◌, length, length-take-le, take, append_assoc, refl, sym, ap, ◌∙◌, subst, arith, and_parts, all_below, each_below, AllByRecursion, IsUtf8, IsUtf8-from_ascii, item_text, shown_by}
-use Rattle.std.proofs.{lemmas.Bool.eqb-true, lemmas.Bool.ltb-true, lemmas.Slice.take-put_mid, lemmas.List.take-take, Math.Seq.take-append-add}
+use Rattle.os_quote.proofs.Common.{◌≡◌, ℕ, ◌*◌, ◌/◌, ◌<◌, ◌≤◌, Bool, true, ◌&&◌, ltb, ◌+◌, List, [], ◌∷◌, ◌++◌, length, length-take-le, take, append_assoc, refl, sym, ap, ◌∙◌, subst, arith, and_parts, all_below, each_below, AllByRecursion, IsUtf8, IsUtf8-from_ascii, item_text, shown_by}
+use Rattle.std.proofs.{lemmas.Bool.ltb-true, lemmas.Slice.take-put_mid, lemmas.Slice.Eq.bytes_eq-Decides, lemmas.List.take-take, Math.Seq.take-append-add}
 use borrow.Rule.Slice.PartMut.{put_mid}
-use Rattle.std.specs.{Prelude.slice_index_or, Int.w64, Int.to_le_bytes}
+use Rattle.std.specs.{Str.bytes_eq, Prelude.slice_index_or, Int.w64, Int.to_le_bytes}
 use mir.Val.{bool_byte}
 use Rattle.os_quote.specs.{Start.byte_item, declared.write_bytes.TheConstants.WORDS, declared.form.Form.Form, declared.form.Form.TheVariants.Text, declared.form.Form.TheVariants.Line}
 use Rattle.os_quote.proofs.lemmas.Readings.{ascii_all}
@@ -18,20 +18,6 @@ word_at i = slice_index_or WORDS i 0
 abbrev pub text_of : Form → ℕ → List ℕ
 text_of form b = item_text (byte_item (shown_by form) b)
 
-abbrev same : List ℕ → List ℕ → Bool
-same [] [] = true
-same (x ∷ xs) (y ∷ ys) = eqb x y && same xs ys
-same [] (y ∷ ys) = false
-same (x ∷ xs) [] = false
-
-are_same : (xs ys : List ℕ) → same xs ys ≡ true → xs ≡ ys
-are_same [] [] e = refl
-are_same (x ∷ xs) (y ∷ ys) e =
-    let both = and_parts (eqb x y) (same xs ys) e in
-    ap (λ z. z ∷ xs) (eqb-true x y both.0) ∙ ap (λ zs. y ∷ zs) (are_same xs ys both.1)
-are_same [] (y ∷ ys) e = absurd (true≢false (sym e))
-are_same (x ∷ xs) [] e = absurd (true≢false (sym e))
-
 abbrev are_low : List ℕ → Bool
 are_low [] = true
 are_low (x ∷ xs) = ltb x 128 && are_low xs
@@ -45,7 +31,7 @@ abbrev has_text : Form → ℕ → Bool
 has_text form b =
     let word = word_at (b + past form b) in
     let len = word / 0x100_0000_0000_0000 in
-    same (take len (to_le_bytes w64 word)) (text_of form b) && (ltb len 9 && are_low (text_of form b))
+    bytes_eq (take len (to_le_bytes w64 word)) (text_of form b) && (ltb len 9 && are_low (text_of form b))
 
 each_has_text : (form : Form) → all_below (has_text form) 256 ≡ true
 unfolding lib.Utf8.encode
@@ -60,10 +46,10 @@ pub word_has_text : (form : Form) (b i : ℕ) → b < 256 → i ≡ b + past for
 word_has_text form b i byte index =
     let word = word_at (b + past form b) in
     let len = word / 0x100_0000_0000_0000 in
-    let parts = and_parts (same (take len (to_le_bytes w64 word)) (text_of form b)) (ltb len 9 && are_low (text_of form b)) (each_below (has_text form) 256 b (each_has_text form) byte) in
+    let parts = and_parts (bytes_eq (take len (to_le_bytes w64 word)) (text_of form b)) (ltb len 9 && are_low (text_of form b)) (each_below (has_text form) 256 b (each_has_text form) byte) in
     let rest = and_parts (ltb len 9) (are_low (text_of form b)) parts.1 in
     let few = ltb-true len 9 rest.0 in
-    subst (λ n. HasText (text_of form b) (word_at n)) (sym index) (omega (arith, few), are_same _ _ parts.0, IsUtf8-from_ascii _ (ascii_all _ (all_low _ rest.1)))
+    subst (λ n. HasText (text_of form b) (word_at n)) (sym index) (omega (arith, few), (bytes_eq-Decides _ _).0 parts.0, IsUtf8-from_ascii _ (ascii_all _ (all_low _ rest.1)))
 
 -- a word is stored at an index, and what its text doesn't have is written over next
 pub placed : (a ys : List ℕ) (i k n : ℕ) → i + k ≤ length a → length ys ≡ k → n ≤ k → take (i + n) (put_mid i k a ys) ≡ take i a ++ take n ys

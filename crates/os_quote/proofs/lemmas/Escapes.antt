@@ -1,8 +1,9 @@
 -- Escapes, and their strings.
-use Rattle.os_quote.proofs.Common.{◌≡◌, ⊎_elim, inl, inr, ℕ, ◌<◌, ◌^◌, Bool, List, [], ◌∷◌, ◌++◌, map, length, refl, sym, ap, ◌∙◌, arith, append_assoc, append-nil, length-append, AllByRecursion, flat_map, IsUtf8, lt-ltb, le-ltb, cases_lt, recursion_from_All, Chunk, joined, AreChunks, HasNoCharacter, some_chunks, chunks_once, form_bounds, PartLaws, chunks_of, Item, item_texts, IsItem, unit_item, chunk_items, items_of, IsEscapeBy, IsBadEscapeBy, item_bytes, IsChunkOf, flat_map-append, escape_of}
+use Rattle.os_quote.proofs.Common.{text_escape, ◌≡◌, subst, ⊎_elim, inl, inr, ℕ, ◌<◌, ◌^◌, Bool, List, [], ◌∷◌, ◌++◌, map, length, refl, sym, ap, ◌∙◌, arith, append_assoc, append-nil, length-append, AllByRecursion, flat_map, IsUtf8, lt-ltb, le-ltb, cases_lt, recursion_from_All, Chunk, joined, AreChunks, HasNoCharacter, some_chunks, chunks_once, form_bounds, PartLaws, chunks_of, Item, item_texts, IsItem, unit_item, chunk_items, items_of, IsEscapeBy, IsBadEscapeBy, item_bytes, IsChunkOf, flat_map-append, escape_of}
 use Rattle.wtf8_core.specs.PartUnits.{unit_bytes}
 use Rattle.wtf8_core.proofs.lemmas.characters.AtIndices.{character_fits}
-use Rattle.os_quote.proofs.lemmas.{Items.same_items, Texts.text_items, Texts.text_escape, Texts.text_is_items, Chunks.own_chunks, Chunks.text_chunks}
+use Rattle.os_quote.proofs.lemmas.{Items.same_items, Texts.text_items, Texts.text_is_items, FirstUnits.text_and_rest}
+use Rattle.os_str_ext.proofs.lemmas.FirstChunk.{no_chunks}
 
 pub all-append : {X : Type 0} (P : X → Type 0) (xs ys : List X) → AllByRecursion P xs → AllByRecursion P ys → AllByRecursion P (xs ++ ys)
 all-append P [] ys a b = b
@@ -75,17 +76,6 @@ no_units_of_none well_formed units part_units parts w = no_units (units []) (par
     uncovered : HasNoCharacter []
     uncovered i j q = let f = character_fits [] i j q in omega arith
 
-module _ (shows : ℕ → Bool) (well_formed : List ℕ → Type 0) (units : List ℕ → List ℕ) (part_units : List ℕ → Type 0) (parts : PartLaws well_formed units part_units) where
-  -- a text of which each character is unchanged is its own escape
-  pub own_escape : (t : List ℕ) → well_formed [] → IsUtf8 t → text_escape shows t ≡ t → IsEscapeBy shows units t t
-  own_escape t w u own = record { chunks = own_chunks t; are_chunks = text_chunks t u; text_is = by t own }
-    where
-      by : (t : List ℕ) → text_escape shows t ≡ t → t ≡ item_texts (items_of shows units (own_chunks t))
-      by [] own = refl
-      by (x ∷ t) own =
-          sym own
-          ∙ ap item_texts (sym (append-nil (text_items shows (x ∷ t))) ∙ ap (λ us. (map unit_item us ++ text_items shows (x ∷ t)) ++ []) (sym (no_units_of_none well_formed units part_units parts w)))
-
 -- a string has one escape
 pub one_escape : (shows : ℕ → Bool) (units : List ℕ → List ℕ) (s text other : List ℕ) → IsEscapeBy shows units s text → IsEscapeBy shows units s other → text ≡ other
 one_escape shows units s text other e f = e.text_is ∙ ap (λ x. item_texts (items_of shows units x)) (chunks_once s e.chunks f.chunks e.are_chunks f.are_chunks) ∙ sym f.text_is
@@ -93,6 +83,17 @@ one_escape shows units s text other e f = e.text_is ∙ ap (λ x. item_texts (it
 -- each string has one
 pub escape_of_is : (shows : ℕ → Bool) (units : List ℕ → List ℕ) (s : List ℕ) → IsEscapeBy shows units s (escape_of shows units s)
 escape_of_is shows units s = record { chunks = chunks_of s; are_chunks = (some_chunks s).1; text_is = refl }
+
+-- a text of which each character is unchanged is its own escape
+pub own_escape : (shows : ℕ → Bool) (well_formed : List ℕ → Type 0) (units : List ℕ → List ℕ) (part_units : List ℕ → Type 0) → PartLaws well_formed units part_units → (t : List ℕ) → well_formed [] → IsUtf8 t → text_escape shows t ≡ t → IsEscapeBy shows units t t
+own_escape shows well_formed units part_units parts t w u own = subst (IsEscapeBy shows units t) whole (escape_of_is shows units t)
+  where
+    whole : escape_of shows units t ≡ t
+    whole =
+        ap (escape_of shows units) (sym (append-nil t))
+        ∙ text_and_rest shows units (no_units_of_none well_formed units part_units parts w) t [] u
+        ∙ ap (λ cs. text_escape shows t ++ item_texts (items_of shows units cs)) (no_chunks [] refl)
+        ∙ append-nil (text_escape shows t) ∙ own
 
 pub some_escape : (shows : ℕ → Bool) (units : List ℕ → List ℕ) (s : List ℕ) → (text : List ℕ) × IsEscapeBy shows units s text
 some_escape shows units s = (escape_of shows units s, escape_of_is shows units s)

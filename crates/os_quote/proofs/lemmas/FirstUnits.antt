@@ -1,6 +1,6 @@
--- Escapes of strings that begin with a unit.
-use Rattle.os_quote.proofs.Common.{◌≡◌, ⊎_elim, ℕ, ◌<◌, ◌≤◌, Bool, true, false, not, ◌||◌, true≢false, List, [], ◌∷◌, ◌++◌, map, length, take, drop, get_or, refl, sym, ap, ◌∙◌, subst, arith, take-append-drop, cases_lt, map-append, chars, Chunk, chunks_of, encode, form_bounds, form_two, form_three, form_past, IsUtf8, Item, item_text, item_texts, unit_item, character_item, items_of, escape_of}
-use Rattle.std.proofs.lemmas.List.{get_or_append_left}
+-- Escapes of strings that begin with a text or with a unit, by their symbols.
+use Rattle.os_quote.proofs.Common.{text_escape, ◌≡◌, ⊎_elim, ℕ, ◌<◌, ◌≤◌, Bool, true, false, not, ◌||◌, true≢false, List, [], ◌∷◌, ◌++◌, map, length, take, drop, get_or, refl, sym, ap, ◌∙◌, subst, arith, take-append-drop, cases_lt, map-append, chars, scalar, all_scalars, encode_utf8, encode_utf8_all, scalars-chars, encodes-chars, and_parts, append_assoc, Chunk, chunks_of, encode, form_bounds, form_two, form_three, form_past, IsUtf8, Item, item_text, item_texts, unit_item, character_item, items_of, escape_of}
+use Rattle.std.proofs.lemmas.{List.get_or_append_left, Simd.map-map}
 use Rattle.std.specs.Str.{IsValidUpTo}
 use Rattle.os_quote.specs.Start.{IsCutAfterText}
 use Rattle.wtf8_core.specs.{Covered.StartsWithNoCharacter, OccurrenceLaws.OccurrenceLaws, Byte.IsContinuation, Boundary.IsBoundary}
@@ -8,7 +8,7 @@ use Rattle.wtf8_core.proofs.lemmas.{characters.AtIndices.begins_at, characters.F
 use Rattle.platform_str.specs.Laws.{IsFirstUnit}
 use Rattle.os_str_ext.specs.{Parts.unit_number, Symbols.unit_symbol, Symbols.symbols_of, Symbols.chunks_symbols, declared.symbols.Symbol.Symbol, declared.symbols.Symbol.TheVariants.Character}
 use Rattle.os_str_ext.specs.declared.symbols.Symbol.TheVariants as symbol
-use Rattle.os_str_ext.proofs.lemmas.{FirstChunk.no_character_after, UnitAtStart.symbols_from_unit}
+use Rattle.os_str_ext.proofs.lemmas.{FirstChunk.no_character_after, SymbolSteps.symbols_by_character, UnitAtStart.symbols_from_unit}
 
 two_or_more : (c : ℕ) → 0x80 ≤ c → 2 ≤ length (encode c)
 two_or_more c h =
@@ -42,27 +42,30 @@ module _ (shows : ℕ → Bool) (units : List ℕ → List ℕ) where
   symbol_item (Character c) = character_item shows c
   symbol_item (symbol.Unit u) = unit_item (unit_number u)
 
-  unit_items : (us : List ℕ) → map symbol_item (map unit_symbol us) ≡ map unit_item us
-  unit_items [] = refl
-  unit_items (u ∷ us) = ap (λ x. unit_item u ∷ x) (unit_items us)
-
-  character_items : (cs : List ℕ) → map symbol_item (map Character cs) ≡ map (character_item shows) cs
-  character_items [] = refl
-  character_items (c ∷ cs) = ap (λ x. character_item shows c ∷ x) (character_items cs)
-
   symbol_items : (cs : List Chunk) → map symbol_item (chunks_symbols units cs) ≡ items_of shows units cs
   symbol_items [] = refl
   symbol_items (c ∷ cs) =
       let us = map unit_symbol (units c.0) in
       let xs = map Character (chars c.1) in
-      map-append symbol_item (us ++ xs) (chunks_symbols units cs)
-      ∙ ap (λ x. x ++ map symbol_item (chunks_symbols units cs)) (map-append symbol_item us xs)
-      ∙ ap (λ x. (x ++ map symbol_item xs) ++ map symbol_item (chunks_symbols units cs)) (unit_items (units c.0))
-      ∙ ap (λ x. (map unit_item (units c.0) ++ x) ++ map symbol_item (chunks_symbols units cs)) (character_items (chars c.1))
-      ∙ ap (λ x. (map unit_item (units c.0) ++ map (character_item shows) (chars c.1)) ++ x) (symbol_items cs)
+      rw (map-append symbol_item (us ++ xs) (chunks_symbols units cs), map-append symbol_item us xs, map-map symbol_item unit_symbol (units c.0), map-map symbol_item Character (chars c.1), symbol_items cs) refl
 
   escape_by_symbols : (s : List ℕ) → escape_of shows units s ≡ item_texts (map symbol_item (symbols_of units s))
   escape_by_symbols s = ap item_texts (sym (symbol_items (chunks_of s)))
+
+  -- the escape of characters, and of what follows them
+  characters_first : units [] ≡ [] → (cs rest : List ℕ) → all_scalars cs ≡ true → escape_of shows units (encode_utf8_all cs ++ rest) ≡ item_texts (map (character_item shows) cs) ++ escape_of shows units rest
+  characters_first none [] rest s = refl
+  characters_first none (c ∷ cs) rest s =
+      let both = and_parts (scalar c) _ s in
+      let whole = encode_utf8_all (c ∷ cs) ++ rest in
+      let after = encode_utf8_all cs ++ rest in
+      escape_by_symbols whole
+      ∙ ap (λ xs. item_texts (map symbol_item xs)) (symbols_by_character whole after c both.0 (append_assoc (encode_utf8 c) (encode_utf8_all cs) rest) units none)
+      ∙ ap (λ x. item_text (character_item shows c) ++ x) (sym (escape_by_symbols after) ∙ characters_first none cs rest both.1)
+      ∙ sym (append_assoc (item_text (character_item shows c)) (item_texts (map (character_item shows) cs)) (escape_of shows units rest))
+
+  pub text_and_rest : units [] ≡ [] → (text rest : List ℕ) → IsUtf8 text → escape_of shows units (text ++ rest) ≡ text_escape shows text ++ escape_of shows units rest
+  text_and_rest none text rest u = ap (λ t. escape_of shows units (t ++ rest)) (sym (encodes-chars text u)) ∙ characters_first none (chars text) rest (scalars-chars text u)
 
 -- the first unit's token, and the escape of what follows it
 pub unit_first : {well_formed : List ℕ → Type 0} {units : List ℕ → List ℕ} → OccurrenceLaws well_formed units → (shows : ℕ → Bool) → ((b : List ℕ) (i : ℕ) → well_formed b → IsBoundary b i → well_formed (take i b)) → {bytes : List ℕ} {unit size : ℕ} → well_formed bytes → StartsWithNoCharacter bytes → IsFirstUnit well_formed units bytes unit size

@@ -1,6 +1,6 @@
 -- That an escape on one line stays there.
-use Rattle.os_quote.proofs.Common.{◌≡◌, ◌≢◌, ⊎_elim, Bool, ℕ, ◌/◌, ◌%◌, ◌<◌, true, List, [], ◌∷◌, ◌++◌, map, length, IsTrue, refl, sym, ap, ◌∙◌, subst, arith, append-nil, length-append, encode_utf8, All, AllByRecursion, IsUtf8, chars, cases_lt, cases_eq, cases_Bool, ne_eqb, lt-ltb, le-ltb, All-from_recursion, chars-append, chars-nil, chars_past_char, chars-IsAscii, IsUtf8-encode, length-encode, len_utf8_bounds, Chunk, AreChunks, upper_hex_digit, PartLaws, Item, Character, Backslash, ByteUnit, WideUnit, LongCharacter, backslash, wide_digits, long_digits, item_text, item_texts, IsLong, IsItem, unit_item, hidden_item, character_item, stays_on_line, IsUnchanged, AreUnchanged, IsCutAtToken, chunk_items, items_of, IsLineEscape, IsChunkOf}
-use Rattle.os_quote.proofs.lemmas.{Items.digit_low, Items.digit_high, Items.five_digits, Items.six_digits, Shown.ascii_stays, Texts.text_after, Escapes.all-append, Escapes.escape_is_items, Readings.ascii_all, Readings.ascii_byte_unit, Readings.ascii_wide_unit, Readings.ascii_long_character, Readings.item_is_text}
+use Rattle.os_quote.proofs.Common.{◌≡◌, ◌≢◌, ⊎_elim, Bool, ℕ, ◌<◌, true, List, [], ◌∷◌, ◌++◌, map, length, IsTrue, refl, sym, ap, ◌∙◌, subst, arith, append-nil, length-append, encode_utf8, All, AllByRecursion, IsUtf8, chars, cases_lt, cases_eq, cases_Bool, ne_eqb, lt-ltb, le-ltb, All-from_recursion, chars-append, chars-nil, chars_past_char, chars-IsAscii, IsUtf8-encode, length-encode, len_utf8_bounds, Chunk, AreChunks, upper_hex_digit, PartLaws, Item, Character, backslash, item_text, item_texts, IsItem, unit_item, hidden_item, character_item, stays_on_line, IsUnchanged, AreUnchanged, IsCutAtToken, chunk_items, items_of, IsLineEscape, IsChunkOf}
+use Rattle.os_quote.proofs.lemmas.{Items.digit_low, Items.digit_high, Shown.ascii_stays, Texts.text_after, Escapes.all-append, Escapes.escape_is_items, Readings.ascii_all, Readings.token_ascii, Readings.token_all, Readings.item_is_text}
 
 -- the characters stay on the line
 abbrev AllStay : List ℕ → Type 0
@@ -42,22 +42,10 @@ digit_stays d h = grind (arith, digit_low, ascii_stays, upper_hex_digit, digit_h
 ascii_item : (bs : List ℕ) → AllByRecursion (λ b. b < 128) bs → AllStay bs → AllStay (chars bs)
 ascii_item bs a s = subst AllStay (sym (chars-IsAscii bs (ascii_all bs a))) s
 
-wide_stay : (u : ℕ) (after : List ℕ) → u < 0x1_0000 → AllStay after → AllStay (wide_digits u ++ after)
-wide_stay u after h a = (digit_stays (u / 0x100 / 0x10) (omega arith), (digit_stays (u / 0x100 % 0x10) (omega arith), (digit_stays (u % 0x100 / 0x10) (omega arith), (digit_stays (u % 0x100 % 0x10) (omega arith), a))))
-
-long_stay : (c : ℕ) → IsLong c → AllStay (long_digits c ++ 0x7D ∷ [])
-long_stay c h = grind (arith, five_digits, digit_stays, wide_stay, six_digits)
-
 item_stays : (i : Item) → IsItem stays_on_line i → Stays i → AllStay (chars (item_text i))
 item_stays (Character c) h s =
     subst AllStay (sym (chars_past_char (encode_utf8 c) [] c (IsUtf8-encode c h.0) (sym (append-nil (encode_utf8 c))) ∙ ap (λ x. c ∷ x) chars-nil)) (s, tt)
-item_stays Backslash h s = ascii_item (item_text Backslash) (omega arith, (omega arith, tt)) (refl, (refl, tt))
-item_stays (ByteUnit u) h s =
-    ascii_item (item_text (ByteUnit u)) (ascii_byte_unit u h) (refl, (refl, (digit_stays (u / 0x10) (omega arith), (digit_stays (u % 0x10) (omega arith), tt))))
-item_stays (WideUnit u) h s =
-    ascii_item (item_text (WideUnit u)) (ascii_wide_unit u h) (refl, (refl, subst AllStay (append-nil (wide_digits u)) (wide_stay u [] h tt)))
-item_stays (LongCharacter c) h s =
-    ascii_item (item_text (LongCharacter c)) (ascii_long_character c h.1) (refl, (refl, (refl, long_stay c h.1)))
+item_stays i h s = ascii_item (item_text i) (token_ascii stays_on_line i h tt) (token_all (λ c. stays_on_line c ≡ true) digit_stays (refl, (refl, (refl, (refl, (refl, tt))))) stays_on_line i h tt)
 
 texts_stay : (items : List Item) → AllByRecursion (IsItem stays_on_line) items → AllByRecursion Stays items → AllStay (chars (item_texts items))
 texts_stay [] a s = subst AllStay (sym chars-nil) tt

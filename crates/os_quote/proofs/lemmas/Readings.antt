@@ -1,7 +1,7 @@
 -- How far a text has been read.
 use Rattle.os_quote.proofs.Common.{get_or, take_at, encode_ascii, IsUtf8-take, IsCharBoundary-before_ascii, IsCutAtFirst, ◌≡◌, ⊎_elim, inl, inr, ℕ, zero, suc, Bool, ◌-◌, ◌<◌, ◌/◌, ◌%◌, List, [], ◌∷◌, ◌++◌, length, refl, sym, ap, ◌∙◌, subst, arith, append_assoc, append-nil, length-append, AllByRecursion, flat_map, IsUtf8, IsAscii, cases_lt, IsUtf8-nil, IsUtf8-append, IsUtf8-encode, IsUtf8-from_ascii, Chunk, AreChunks, PartLaws, upper_hex_digit, Item, Character, Backslash, ByteUnit, WideUnit, LongCharacter, backslash, wide_digits, long_digits, item_text, item_texts, IsLong, IsItem, is_any, BeginsNoToken, IsBadEscapeBy, IsEscapeBy, items_of, HasNoBackslash, IsCutAtToken, IsRead, item_bytes, IsChunkOf, flat_map-append}
 use Rattle.std.proofs.Math.Seq.{get_or-append_seam}
-use Rattle.os_quote.proofs.lemmas.{Items.digit_low, Items.digit_high, Items.five_digits, Items.six_digits, Items.same_items, Texts.text_items, Texts.text_is_items, Texts.shown_unchanged, Texts.unchanged_text, Texts.text_after, Escapes.all-append, Escapes.one_reading, Escapes.escape_is_items}
+use Rattle.os_quote.proofs.lemmas.{Items.no_brace, Items.five_digits, Items.six_digits, Items.same_items, Texts.text_items, Texts.text_is_items, Texts.shown_unchanged, Texts.unchanged_text, Texts.text_after, Escapes.all-append, Escapes.one_reading, Escapes.escape_is_items}
 
 -- the first backslash of a text is between two texts, and its first token where each character is shown
 pub cut_of_text : {t bytes prefix following : List ℕ} → IsUtf8 t → bytes ≡ t → IsCutAtFirst bytes prefix following → IsCutAtToken is_any t prefix backslash following
@@ -21,41 +21,42 @@ cut_of_text {prefix = prefix} {following = following} u same k =
       after_text = text_after (backslash ∷ []) following (subst IsUtf8 slash (IsUtf8-encode backslash refl)) (text_after prefix (backslash ∷ following) f v);
     }
 
--- tokens are ASCII
+-- an item other than a character
+abbrev pub IsToken : Item → Type 0
+IsToken (Character c) = ⊥
+IsToken i = Unit {0}
+
 pub ascii_all : (bs : List ℕ) → AllByRecursion (λ b. b < 128) bs → IsAscii bs
 ascii_all [] h i = omega arith
 ascii_all (b ∷ bs) h zero = h.0
 ascii_all (b ∷ bs) h (suc i) = ascii_all bs h.1 i
 
-pub ascii_digit : (d : ℕ) → d < 16 → upper_hex_digit d < 128
-ascii_digit d h = ⊎_elim (λ l. omega (arith, digit_low d l)) (λ l. omega (arith, digit_high d l)) (cases_lt d 10)
+-- what holds for each digit and each other byte of tokens holds for all bytes of a token
+module _ (P : ℕ → Type 0) (digit : (d : ℕ) → d < 16 → P (upper_hex_digit d)) (others : AllByRecursion P (backslash ∷ 0x78 ∷ 0x75 ∷ 0x7B ∷ 0x7D ∷ [])) where
+  wide_all : (u : ℕ) (after : List ℕ) → u < 0x1_0000 → AllByRecursion P after → AllByRecursion P (wide_digits u ++ after)
+  wide_all u after h a = (digit (u / 0x100 / 0x10) (omega arith), (digit (u / 0x100 % 0x10) (omega arith), (digit (u % 0x100 / 0x10) (omega arith), (digit (u % 0x100 % 0x10) (omega arith), a))))
 
-ascii_wide : (u : ℕ) (after : List ℕ) → u < 0x1_0000 → AllByRecursion (λ b. b < 128) after → AllByRecursion (λ b. b < 128) (wide_digits u ++ after)
-ascii_wide u after h a = (ascii_digit (u / 0x100 / 0x10) (omega arith), (ascii_digit (u / 0x100 % 0x10) (omega arith), (ascii_digit (u % 0x100 / 0x10) (omega arith), (ascii_digit (u % 0x100 % 0x10) (omega arith), a))))
+  long_all : (c : ℕ) → IsLong c → AllByRecursion P (long_digits c ++ 0x7D ∷ [])
+  long_all c h = ⊎_elim
+      (λ l. rw (five_digits c l) (digit (c / 0x1_0000) (omega (arith, l)), wide_all (c % 0x1_0000) (0x7D ∷ []) (omega arith) others.1.1.1.1))
+      (λ l. rw (six_digits c l) (digit (c / 0x1_0000 / 0x10) (omega arith), (digit (c / 0x1_0000 % 0x10) (omega arith), wide_all (c % 0x1_0000) (0x7D ∷ []) (omega arith) others.1.1.1.1)))
+      (cases_lt c 0x10_0000)
 
-ascii_long : (c : ℕ) → IsLong c → AllByRecursion (λ b. b < 128) (long_digits c ++ 0x7D ∷ [])
-ascii_long c h = grind (arith, five_digits, ascii_digit, ascii_wide, six_digits)
-
--- a token's bytes are ASCII
-abbrev pub IsAsciiItem : Item → Type 0
-IsAsciiItem i = AllByRecursion (λ b. b < 128) (item_text i)
-
-pub ascii_byte_unit : (u : ℕ) → u < 0x100 → IsAsciiItem (ByteUnit u)
-ascii_byte_unit u h = (omega arith, (omega arith, (ascii_digit (u / 0x10) (omega arith), (ascii_digit (u % 0x10) (omega arith), tt))))
-
-pub ascii_wide_unit : (u : ℕ) → u < 0x1_0000 → IsAsciiItem (WideUnit u)
-ascii_wide_unit u h = (omega arith, (omega arith, subst (AllByRecursion (λ b. b < 128)) (append-nil (wide_digits u)) (ascii_wide u [] h tt)))
-
-pub ascii_long_character : (c : ℕ) → IsLong c → IsAsciiItem (LongCharacter c)
-ascii_long_character c h = (omega arith, (omega arith, (omega arith, ascii_long c h)))
+  pub token_all : (shows : ℕ → Bool) (i : Item) → IsItem shows i → IsToken i → AllByRecursion P (item_text i)
+  token_all shows (Character c) h never = absurd never
+  token_all shows Backslash h is = (others.0, (others.0, tt))
+  token_all shows (ByteUnit u) h is = (others.0, (others.1.0, (digit (u / 0x10) (omega arith), (digit (u % 0x10) (omega arith), tt))))
+  token_all shows (WideUnit u) h is = (others.0, (others.1.1.0, subst (AllByRecursion P) (append-nil (wide_digits u)) (wide_all u [] h tt)))
+  token_all shows (LongCharacter c) h is = (others.0, (others.1.1.0, (others.1.1.1.0, long_all c h.1)))
 
 module _ (shows : ℕ → Bool) where
+  -- tokens are ASCII
+  pub token_ascii : (i : Item) → IsItem shows i → IsToken i → AllByRecursion (λ b. b < 128) (item_text i)
+  token_ascii = token_all (λ b. b < 128) (λ d h. omega (arith, no_brace d h)) (omega arith, (omega arith, (omega arith, (omega arith, (omega arith, tt))))) shows
+
   pub item_is_text : (i : Item) → IsItem shows i → IsUtf8 (item_text i)
   item_is_text (Character c) h = IsUtf8-encode c h.0
-  item_is_text Backslash h = IsUtf8-from_ascii (item_text Backslash) (ascii_all (item_text Backslash) (omega arith, (omega arith, tt)))
-  item_is_text (ByteUnit u) h = IsUtf8-from_ascii (item_text (ByteUnit u)) (ascii_all (item_text (ByteUnit u)) (ascii_byte_unit u h))
-  item_is_text (WideUnit u) h = IsUtf8-from_ascii (item_text (WideUnit u)) (ascii_all (item_text (WideUnit u)) (ascii_wide_unit u h))
-  item_is_text (LongCharacter c) h = IsUtf8-from_ascii (item_text (LongCharacter c)) (ascii_all (item_text (LongCharacter c)) (ascii_long_character c h.1))
+  item_is_text i h = IsUtf8-from_ascii (item_text i) (ascii_all (item_text i) (token_ascii i h tt))
 
   items_are_text : (items : List Item) → AllByRecursion (IsItem shows) items → IsUtf8 (item_texts items)
   items_are_text [] h = IsUtf8-nil

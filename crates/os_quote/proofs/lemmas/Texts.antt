@@ -1,5 +1,5 @@
 -- Texts: the backslashes in them, and the items of their characters.
-use Rattle.os_quote.proofs.Common.{◌≡◌, ◌≢◌, ⊎_elim, ℕ, zero, suc, ◌+◌, ◌<◌, Bool, true, false, List, [], ◌∷◌, ◌++◌, map, length, take, drop, get_or, refl, sym, ap, ◌∙◌, subst, arith, take-append-drop, length-append, IsScalar, encode_utf8, AllByRecursion, flat_map, IsUtf8, chars, all_scalars, encode_utf8_all, drop_more, take_at, drop_at, IsCharBoundary-from_take, IsUtf8-drop, encode_ascii, chars-append, chars_past_char, encodes-chars, scalars-chars, scalar, scalar_cases, NoneBefore, Passes, is_byte, form_encode, Item, backslash, item_text, item_texts, IsItem, hidden_item, character_item, is_any, HasNoBackslash, IsCutAtFirst, IsUnchanged, AreUnchanged, IsCutAtToken, token_of, item_bytes, flat_map-append, map-append}
+use Rattle.os_quote.proofs.Common.{text_escape, ◌≡◌, ◌≢◌, ⊎_elim, ℕ, zero, suc, ◌+◌, ◌<◌, Bool, true, false, List, [], ◌∷◌, ◌++◌, map, length, take, drop, get_or, refl, sym, ap, ◌∙◌, subst, arith, take-append-drop, length-append, IsScalar, encode_utf8, AllByRecursion, flat_map, IsUtf8, chars, all_scalars, encode_utf8_all, drop_more, take_at, drop_at, IsCharBoundary-from_take, IsUtf8-drop, encode_ascii, chars-append, chars_past_char, encodes-chars, scalars-chars, scalar, scalar_cases, NoneBefore, Passes, is_byte, form_encode, Item, backslash, item_text, item_texts, IsItem, hidden_item, character_item, is_any, HasNoBackslash, IsCutAtFirst, IsUnchanged, AreUnchanged, IsCutAtToken, token_of, item_bytes, flat_map-append, map-append}
 use Rattle.std.proofs.lemmas.Bool.{and_parts, cases_eq, cases_Bool, lt-ltb, le-ltb, ne_eqb, eq-eqb, eqb-true}
 
 -- the test of the search for a backslash
@@ -23,12 +23,9 @@ pub text_after : (x y : List ℕ) → IsUtf8 x → IsUtf8 (x ++ y) → IsUtf8 y
 text_after x y u v =
     subst IsUtf8 (drop_at x y (length x) refl) (IsUtf8-drop (x ++ y) (length x) v (IsCharBoundary-from_take (x ++ y) (length x) v (omega (arith, length-append x y)) (subst IsUtf8 (sym (take_at x y (length x) refl)) u)))
 
--- the items of a text's characters, and their texts
+-- the items of a text's characters
 abbrev pub text_items : (ℕ → Bool) → List ℕ → List Item
 text_items shows t = map (character_item shows) (chars t)
-
-abbrev pub text_escape : (ℕ → Bool) → List ℕ → List ℕ
-text_escape shows t = item_texts (text_items shows t)
 
 -- a character is at most 10_FFFF
 pub scalar_below : (c : ℕ) → IsScalar c → c < 0x11_0000
