@@ -3,7 +3,7 @@ pub use Rattle.memchr.specs.Find.{NoneBefore, Passes, is_byte}
 pub use Rattle.os_quote.specs.{Buffers.Pushes, Buffers.text_escape, Buffers.token_of, Escape.BeginsNoToken, Escape.IsBadEscapeBy, Escape.IsEscape, Escape.IsEscapeBy, Escape.IsLineEscape, Escape.chunk_items, Escape.items_of}
 pub use Rattle.os_quote.specs.Escaped.{escape_of, escaped_text}
 pub use Rattle.os_quote.specs.Item.{Backslash, ByteUnit, Character, HasLongTokens, IsItem, IsLong, Item, LongCharacter, WideUnit, backslash, byte_digits, character_item, hidden_item, high_digits, item_text, item_texts, long_digits, unit_item, wide_digits}
-pub use Rattle.os_quote.specs.Plain.{IsAfterPlain, IsPlain, IsPlainUpTo}
+pub use Rattle.os_quote.specs.Plain.{IsCutAfterPlain, IsPlain, IsPlainUpTo}
 pub use Rattle.os_quote.specs.Reading.{HasNoBackslash, HasNoFour, HasNoFive, HasNoLong, HasNoNumber, HasNoSix, HasNoWide, AreBytesRead, IsFour, IsCutAtFirst, IsFive, IsRead, IsSix, item_bytes, token_item}
 pub use Rattle.os_quote.specs.{Shown.is_any, Shown.shown_by, Shown.stays_on_line, HiddenCharacters.hidden_ranges, HiddenCharacters.is_in_ranges}
 pub use Rattle.os_quote.specs.Hidden.{AllClear, AreUnchanged, IsCutAtToken, IsNextSuspect, IsUnchanged, byte_bits, is_suspect, kind_bits, kind_bits_of_two, second_bits, suspect_bits, third_bits}

@@ -22,6 +22,5 @@ pub use Rattle.os_str_ext.proofs.lemmas.EachChunk
 pub mod Prefixes
 pub mod FirstUnits
 pub mod ByteTexts
-pub mod ByteStarts
 pub mod PlainBytes
 pub mod PlainLanes

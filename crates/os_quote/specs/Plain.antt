@@ -12,12 +12,8 @@ pub record IsPlainUpTo (bytes : List ℕ) (n : ℕ) : Type 0 where
   pub within : n ≤ length bytes
   pub plain : (i : ℕ) → i < n → IsPlain (slice_index bytes i)
 
--- the bytes are plain ones, and then the rest
-pub record IsAfterPlain (bytes prefix rest : List ℕ) : Type 0 where
+-- the bytes are plain ones, some at least, and then the rest
+pub record IsCutAfterPlain (bytes prefix rest : List ℕ) : Type 0 where
   pub plain : AllByRecursion IsPlain prefix
   pub joined : bytes ≡ prefix ++ rest
-
--- the same, where some are plain
-pub record IsCutAfterPlain (bytes prefix rest : List ℕ) : Type 0 where
-  pub after : IsAfterPlain bytes prefix rest
   pub some : 0 < length prefix

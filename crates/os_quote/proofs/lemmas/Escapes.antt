@@ -95,9 +95,6 @@ own_escape shows well_formed units part_units parts t w u own = subst (IsEscapeB
         ∙ ap (λ cs. text_escape shows t ++ item_texts (items_of shows units cs)) (no_chunks [] refl)
         ∙ append-nil (text_escape shows t) ∙ own
 
-pub some_escape : (shows : ℕ → Bool) (units : List ℕ → List ℕ) (s : List ℕ) → (text : List ℕ) × IsEscapeBy shows units s text
-some_escape shows units s = (escape_of shows units s, escape_of_is shows units s)
-
 -- a text has one index at most at which no token begins
 pub one_bad_index : (shows : ℕ → Bool) (text : List ℕ) (n m : ℕ) → IsBadEscapeBy shows text n → IsBadEscapeBy shows text m → n ≡ m
 one_bad_index shows text n m a b =

@@ -1,5 +1,5 @@
 -- Escapes of strings that begin with a text or with a unit, by their symbols.
-use Rattle.os_quote.proofs.Common.{text_escape, ◌≡◌, ⊎_elim, ℕ, ◌<◌, ◌≤◌, Bool, true, false, not, ◌||◌, true≢false, List, [], ◌∷◌, ◌++◌, map, length, take, drop, get_or, refl, sym, ap, ◌∙◌, subst, arith, take-append-drop, cases_lt, map-append, chars, scalar, all_scalars, encode_utf8, encode_utf8_all, scalars-chars, encodes-chars, and_parts, append_assoc, Chunk, chunks_of, encode, form_bounds, form_two, form_three, form_past, IsUtf8, Item, item_text, item_texts, unit_item, character_item, items_of, escape_of}
+use Rattle.os_quote.proofs.Common.{text_escape, IsScalar, ◌≡◌, ⊎_elim, ℕ, ◌<◌, ◌≤◌, Bool, true, false, not, ◌||◌, true≢false, List, [], ◌∷◌, ◌++◌, map, length, take, drop, get_or, refl, sym, ap, ◌∙◌, subst, arith, take-append-drop, cases_lt, map-append, chars, scalar, all_scalars, encode_utf8, encode_utf8_all, scalars-chars, encodes-chars, and_parts, append_assoc, Chunk, chunks_of, encode, form_bounds, form_two, form_three, form_past, IsUtf8, Item, item_text, item_texts, unit_item, character_item, items_of, escape_of}
 use Rattle.std.proofs.lemmas.{List.get_or_append_left, Simd.map-map}
 use Rattle.std.specs.Str.{IsValidUpTo}
 use Rattle.os_quote.specs.Start.{IsCutAfterText}
@@ -52,18 +52,23 @@ module _ (shows : ℕ → Bool) (units : List ℕ → List ℕ) where
   escape_by_symbols : (s : List ℕ) → escape_of shows units s ≡ item_texts (map symbol_item (symbols_of units s))
   escape_by_symbols s = ap item_texts (sym (symbol_items (chunks_of s)))
 
-  -- the escape of characters, and of what follows them
+  -- the escape of a character, and of what follows it
+  pub character_first : units [] ≡ [] → (c : ℕ) → IsScalar c → {whole : List ℕ} (rest : List ℕ) → whole ≡ encode_utf8 c ++ rest → escape_of shows units whole ≡ item_text (character_item shows c) ++ escape_of shows units rest
+  character_first none c scalar {whole} rest e =
+      escape_by_symbols whole
+      ∙ ap (λ xs. item_texts (map symbol_item xs)) (symbols_by_character whole rest c scalar e units none)
+      ∙ ap (λ x. item_text (character_item shows c) ++ x) (sym (escape_by_symbols rest))
+
+  -- of characters
   characters_first : units [] ≡ [] → (cs rest : List ℕ) → all_scalars cs ≡ true → escape_of shows units (encode_utf8_all cs ++ rest) ≡ item_texts (map (character_item shows) cs) ++ escape_of shows units rest
   characters_first none [] rest s = refl
   characters_first none (c ∷ cs) rest s =
       let both = and_parts (scalar c) _ s in
-      let whole = encode_utf8_all (c ∷ cs) ++ rest in
-      let after = encode_utf8_all cs ++ rest in
-      escape_by_symbols whole
-      ∙ ap (λ xs. item_texts (map symbol_item xs)) (symbols_by_character whole after c both.0 (append_assoc (encode_utf8 c) (encode_utf8_all cs) rest) units none)
-      ∙ ap (λ x. item_text (character_item shows c) ++ x) (sym (escape_by_symbols after) ∙ characters_first none cs rest both.1)
+      character_first none c both.0 (encode_utf8_all cs ++ rest) (append_assoc (encode_utf8 c) (encode_utf8_all cs) rest)
+      ∙ ap (λ x. item_text (character_item shows c) ++ x) (characters_first none cs rest both.1)
       ∙ sym (append_assoc (item_text (character_item shows c)) (item_texts (map (character_item shows) cs)) (escape_of shows units rest))
 
+  -- of a text
   pub text_and_rest : units [] ≡ [] → (text rest : List ℕ) → IsUtf8 text → escape_of shows units (text ++ rest) ≡ text_escape shows text ++ escape_of shows units rest
   text_and_rest none text rest u = ap (λ t. escape_of shows units (t ++ rest)) (sym (encodes-chars text u)) ∙ characters_first none (chars text) rest (scalars-chars text u)
 

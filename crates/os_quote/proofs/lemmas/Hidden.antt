@@ -79,21 +79,14 @@ pub suspect_begins : (t : List ℕ) (from at : ℕ) → IsNextSuspect t from at 
 suspect_begins t from at s = (omega (arith, s.within), λ _ high. lead_from (get_or t at 0) (get_or t (1 + at) 0) (get_or t (2 + at) 0) s.suspect high)
 
 -- each is unchanged up to a character that is, and so up to what follows it
-pub record AreUnchangedUpTo (t : List ℕ) (at : ℕ) : Type 0 where
-  pub boundary : IsCharBoundary t at
-  pub unchanged : AreUnchanged stays_on_line (take at t)
-
-pub unchanged_after : (t rest : List ℕ) (i c at : ℕ) → IsUtf8 t → IsCharBoundary t i → drop i t ≡ encode_utf8 c ++ rest → AreUnchanged stays_on_line (take i t) → IsUnchanged stays_on_line c → at ≡ length t - length rest → AreUnchangedUpTo t at × (i < at)
-unchanged_after t rest i c at u b e unchanged s is = (record { boundary = bound; unchanged = subst (AllByRecursion (IsUnchanged stays_on_line)) (sym same) (all-append (IsUnchanged stays_on_line) (chars (take i t)) (c ∷ []) unchanged (s, tt)) }, omega (arith, is, some, size, lengths, length-drop i t, b.0))
+pub unchanged_after : (t rest : List ℕ) (i c at : ℕ) → IsUtf8 t → IsCharBoundary t i → drop i t ≡ encode_utf8 c ++ rest → AreUnchanged stays_on_line (take i t) → IsUnchanged stays_on_line c → at ≡ length t - length rest → IsCharBoundary t at × AreUnchanged stays_on_line (take at t)
+unchanged_after t rest i c at u b e unchanged s is = (bound, subst (AllByRecursion (IsUnchanged stays_on_line)) (sym same) (all-append (IsUnchanged stays_on_line) (chars (take i t)) (c ∷ []) unchanged (s, tt)))
   where
     text : IsUtf8 (drop i t)
     text = IsUtf8-drop t i u b
 
     size : length (drop i t) ≡ length (encode_utf8 c) + length rest
     size = ap length e ∙ length-append (encode_utf8 c) rest
-
-    some : 0 < length (encode_utf8 c)
-    some = omega (arith, length-encode c, (len_utf8_bounds c).0)
 
     lengths : length (take i t) ≡ i
     lengths = length-take-le i t b.0

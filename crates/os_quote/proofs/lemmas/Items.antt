@@ -49,9 +49,6 @@ long_same b c x y e = grind (arith, tails, five_digits, wide_same, digit_same, f
 no_slash : (c : ℕ) (x y : List ℕ) → c ≢ backslash → encode_utf8 c ++ x ≡ backslash ∷ y → ⊥
 no_slash c x y n e = n (encode_same c backslash x y (e ∙ ap (λ l. l ++ y) (sym (encode_ascii backslash (omega arith))))).0
 
-second : {a b c d : ℕ} {x y : List ℕ} → a ∷ b ∷ x ≡ c ∷ d ∷ y → b ≡ d
-second {a} {b} {c} {d} {x} {y} e = (tails (tails e).1).0
-
 -- four digits don't begin as a long token does
 wide_or_long : (u : ℕ) (x y : List ℕ) → u < 0x1_0000 → item_text (WideUnit u) ++ x ≡ backslash ∷ 0x75 ∷ 0x7B ∷ y → ⊥
 wide_or_long u x y h e = grind (arith, tails, no_brace)
@@ -68,7 +65,7 @@ module _ (shows : ℕ → Bool) where
   item_same (WideUnit u) (LongCharacter c) x y h k e = absurd (wide_or_long u x _ h e)
   item_same (LongCharacter b) (WideUnit u) x y h k e = absurd (wide_or_long u y _ k (sym e))
   item_same (LongCharacter b) (LongCharacter c) x y h k e = grind (arith, long_same, append_assoc, long_digits, tails)
-  item_same i j x y h k e = let n = second e in absurd (omega arith)
+  item_same i j x y h k e = let n = (tails (tails e).1).0 in absurd (omega arith)
 
 -- an item's text isn't empty
 pub some_bytes : (i : Item) → 0 < length (item_text i)

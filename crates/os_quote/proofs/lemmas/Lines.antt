@@ -67,16 +67,13 @@ cut_is_shorter shows t prefix c following k =
 
 -- ---- whether a text stays on the line
 
-all_shown : (cs : List ℕ) → AllByRecursion (IsUnchanged stays_on_line) cs → AllStay cs
+pub all_shown : (cs : List ℕ) → AllByRecursion (IsUnchanged stays_on_line) cs → AllStay cs
 all_shown [] a = tt
 all_shown (c ∷ cs) a = (a.0.1, all_shown cs a.1)
 
 all_after : (xs : List ℕ) (c : ℕ) (ys : List ℕ) → AllStay (xs ++ c ∷ ys) → (stays_on_line c ≡ true) × AllStay ys
 all_after [] c ys a = a
 all_after (x ∷ xs) c ys a = all_after xs c ys a.1
-
-pub unchanged_stays : (t : List ℕ) → AreUnchanged stays_on_line t → AllStay (chars t)
-unchanged_stays t a = all_shown (chars t) a
 
 module _ (t prefix : List ℕ) (c : ℕ) (following : List ℕ) (u : IsUtf8 t) (k : IsCutAtToken stays_on_line t prefix c following) where
   characters : chars t ≡ chars prefix ++ c ∷ chars following

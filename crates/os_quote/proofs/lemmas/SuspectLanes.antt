@@ -1,5 +1,5 @@
 -- What the tables say of neighbouring bytes.
-use Rattle.os_quote.proofs.Common.{◌≡◌, ℕ, false, bit_and, not, eqb, ap, ◌∙◌, and_zero_l, kind_bits, second_bits, third_bits, kind_bits_of_two, suspect_bits}
+use Rattle.os_quote.proofs.Common.{◌≡◌, ℕ, false, bit_and, not, eqb, ap, sym, ◌∙◌, and_zero_l, kind_bits, second_bits, third_bits, kind_bits_of_two, suspect_bits}
 use Rattle.os_quote.specs.Hidden.{is_suspect}
 
 -- the bits of bytes by what the tables have of each
@@ -21,3 +21,8 @@ none_by_pair x y z e = none_by_bits x y z (ap (λ b. bit_and b (third_bits z)) e
 -- or the first
 pub none_by_lead : (x y z : ℕ) → kind_bits x ≡ 0 → is_suspect x y z ≡ false
 none_by_lead x y z e = none_by_pair x y z (ap (λ b. bit_and b (second_bits y)) e ∙ and_zero_l (second_bits y))
+
+-- nor where all three do: a, b and c are the bytes in vectors
+pub none_by_three : {x y z a b c lead second third pair bits : ℕ} → a ≡ x → b ≡ y → c ≡ z → lead ≡ kind_bits a → second ≡ second_bits b → third ≡ third_bits c → pair ≡ bit_and lead second → bits ≡ bit_and pair third → bits ≡ 0 → is_suspect x y z ≡ false
+none_by_three {x} {y} {z} p q r lead second third pair bits zero =
+    none_by_bits x y z (sym (bits ∙ suspect_of x y z _ _ (pair ∙ pair_of x y _ _ (lead ∙ ap kind_bits p) (second ∙ ap second_bits q)) (third ∙ ap third_bits r)) ∙ zero)

@@ -6,12 +6,9 @@ use Rattle.std.proofs.lemmas.Bool.{and_parts, cases_eq, cases_Bool, lt-ltb, le-l
 abbrev pub IsBackslashAt : List ℕ → ℕ → Type 0
 IsBackslashAt t = Passes (is_byte backslash) t
 
-no_backslash : (x : ℕ) → ¬ (is_byte backslash x ≡ true) → x ≢ backslash
-no_backslash x n e = n (eq-eqb x backslash e)
-
 none_from : (t : List ℕ) (n : ℕ) → ((k : ℕ) → k < n → ¬ (is_byte backslash (get_or t k 0) ≡ true)) → HasNoBackslash (take n t)
 none_from [] zero h = tt
-none_from (x ∷ t) (suc n) h = (no_backslash x (h 0 (omega arith)), none_from t n (λ k lt. h (suc k) (omega arith)))
+none_from (x ∷ t) (suc n) h = (λ e. h 0 (omega arith) (eq-eqb x backslash e), none_from t n (λ k lt. h (suc k) (omega arith)))
 none_from t n h = tt
 
 -- if it finds one, that is the first

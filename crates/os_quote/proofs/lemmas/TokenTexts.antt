@@ -17,9 +17,10 @@ module _ (u a b c d : ℕ) (p : a ≡ upper_hex_digit (u / 0x100 / 16)) (q : b �
   wide_text = ap (λ x. backslash ∷ 0x75 ∷ x) four_digits
 
 -- five of a greater one, and six
-pub five_text : (n first a b c d : ℕ) → n < 0x10_0000 → first ≡ upper_hex_digit (n / 0x1_0000) → a ∷ b ∷ c ∷ d ∷ [] ≡ wide_digits (n % 0x1_0000) → backslash ∷ 0x75 ∷ 0x7B ∷ first ∷ a ∷ b ∷ c ∷ d ∷ 0x7D ∷ [] ≡ item_text (LongCharacter n)
+pub five_text : (n first a b c d : ℕ) → n < 0x10_0000 → first ≡ upper_hex_digit (n / 0x1_0000 % 16) → a ∷ b ∷ c ∷ d ∷ [] ≡ wide_digits (n % 0x1_0000) → backslash ∷ 0x75 ∷ 0x7B ∷ first ∷ a ∷ b ∷ c ∷ d ∷ 0x7D ∷ [] ≡ item_text (LongCharacter n)
 five_text n first a b c d below f e =
-    ap (λ x. backslash ∷ 0x75 ∷ 0x7B ∷ x ∷ a ∷ b ∷ c ∷ d ∷ 0x7D ∷ []) f
+    let one : n / 0x1_0000 % 16 ≡ n / 0x1_0000 = omega (arith, below) in
+    ap (λ x. backslash ∷ 0x75 ∷ 0x7B ∷ x ∷ a ∷ b ∷ c ∷ d ∷ 0x7D ∷ []) (f ∙ ap upper_hex_digit one)
     ∙ ap (λ x. backslash ∷ 0x75 ∷ 0x7B ∷ upper_hex_digit (n / 0x1_0000) ∷ (x ++ 0x7D ∷ [])) e
     ∙ ap (λ x. backslash ∷ 0x75 ∷ 0x7B ∷ (x ++ 0x7D ∷ [])) (sym (five_digits n below))
 

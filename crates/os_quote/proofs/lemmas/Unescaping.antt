@@ -41,10 +41,6 @@ module _ (shows : ℕ → Bool) where
   pub bad_bytes_read : (bytes decoded rest prefix following : List ℕ) → AreBytesRead shows bytes decoded rest → IsCutAtFirst rest prefix following → BeginsNoToken shows (backslash ∷ following) → IsUtf8 bytes → IsBadEscapeBy shows bytes (length bytes - length following - 1)
   bad_bytes_read bytes decoded rest prefix following r cut none u = read_bad shows bytes decoded rest prefix following (r.read u) cut none
 
-  -- all that was read is in the buffer where there is room
-  pub read_fits : (decoded old new : List ℕ) (count : ℕ) → IsTruncated decoded old new count → count ≤ length new → take count new ≡ decoded
-  read_fits decoded old new count t fits = whole decoded old new count t fits
-
   module _ (well_formed : List ℕ → Type 0) (units : List ℕ → List ℕ) (part_units : List ℕ → Type 0) (parts : PartLaws well_formed units part_units)
       (each : (s : List ℕ) (cs : List Chunk) → well_formed s → AreChunks s cs → AllByRecursion (IsChunkOf well_formed) cs) (text old new : List ℕ) (count : ℕ) where
     -- what was read

@@ -1,5 +1,5 @@
 use Rattle.os_quote.proofs.Common.{arith, refl, true≢false}
-use Rattle.os_quote.proofs.lemmas.Lines.{unchanged_stays, hidden_leaves, past_backslash, with_backslash, cut_is_shorter}
+use Rattle.os_quote.proofs.lemmas.Lines.{all_shown, hidden_leaves, past_backslash, with_backslash, cut_is_shorter}
 use Rattle.os_quote.proofs.find_hidden.is_on_one_line.Goals as goal
 
 pub returns-then-character-ne92 : goal.returns-then-character-ne92
@@ -19,4 +19,4 @@ pub loop-character-smaller : goal.loop-character-smaller
 loop-character-smaller c = cut_is_shorter _ _ _ _ _ c.in-Some.ensures
 
 pub returns : goal.returns
-returns c = (λ _. c.loop-character.invariant.1.0 (unchanged_stays _ c.in_default.ensures), λ _. refl)
+returns c = (λ _. c.loop-character.invariant.1.0 (all_shown _ c.in_default.ensures), λ _. refl)

@@ -7,13 +7,11 @@ loop-suspect-init c = (c.requires.boundary, c.requires.unchanged)
 
 pub range_from-requires : goal.range_from-requires
 range_from-requires c _ =
-    let text = c.args.text.now in
-    suspect_begins text c.loop-suspect.at c.in-Some.suspect (subst (λ x. IsNextSuspect x c.loop-suspect.at c.in-Some.suspect) c.as_bytes.ensures.value c.in-Some.ensures)
+    suspect_begins c.args.text.now c.loop-suspect.at c.in-Some.suspect (subst (λ x. IsNextSuspect x c.loop-suspect.at c.in-Some.suspect) c.as_bytes.ensures.value c.in-Some.ensures)
 
 pub range-requires-clause-end_boundary : goal.range-requires-clause-end_boundary
 range-requires-clause-end_boundary c =
-    let text = c.args.text.now in
-    suspect_begins text c.loop-suspect.at c.in-Some.suspect (subst (λ x. IsNextSuspect x c.loop-suspect.at c.in-Some.suspect) c.as_bytes.ensures.value c.in-Some.ensures)
+    suspect_begins c.args.text.now c.loop-suspect.at c.in-Some.suspect (subst (λ x. IsNextSuspect x c.loop-suspect.at c.in-Some.suspect) c.as_bytes.ensures.value c.in-Some.ensures)
 
 pub returns-then-not-is_unchanged : goal.returns-then-not-is_unchanged
 returns-then-not-is_unchanged c =
@@ -39,8 +37,7 @@ loop-suspect-preserved c =
     let begins = suspect_begins text c.loop-suspect.at i next in
     let unchanged = unchanged_to text c.loop-suspect.at i (λ k. omega (arith, c.type_inv.text k)) c.utf8.text c.loop-suspect.invariant.0 begins next.from c.loop-suspect.invariant.1 next.clear in
     let rest = sym c.range_from.ensures.value ∙ sym c.chars-characters.ensures.rest ∙ c.in_ok-character.ensures.steps.0 ∙ ap (λ x. encode_utf8 c.in_ok-character.character ++ x) (sym c.as_str-rest.ensures) in
-    let up_to = unchanged_after text c.as_str-rest.result.now i c.in_ok-character.character (length text - length c.as_str-rest.result.now) c.utf8.text begins rest unchanged (c.is_unchanged.ensures.0 c.if-not-is_unchanged.false) refl in
-    (up_to.0.boundary, up_to.0.unchanged)
+    unchanged_after text c.as_str-rest.result.now i c.in_ok-character.character (length text - length c.as_str-rest.result.now) c.utf8.text begins rest unchanged (c.is_unchanged.ensures.0 c.if-not-is_unchanged.false) refl
 
 pub returns : goal.returns
 returns c = grind (arith, all_unchanged)

@@ -1,5 +1,5 @@
-use Rattle.os_quote.proofs.Common.{are_chunks_of, stays_on_line}
-use Rattle.os_quote.proofs.lemmas.{Escapes.some_escape, Escapes.one_escape, Escapes.one_string, Escapes.never_bad, Escapes.one_bad_index, Lines.escape_is_on_line, Readings.escape_is_text}
+use Rattle.os_quote.proofs.Common.{are_chunks_of, escape_of, stays_on_line}
+use Rattle.os_quote.proofs.lemmas.{Escapes.escape_of_is, Escapes.one_escape, Escapes.one_string, Escapes.never_bad, Escapes.one_bad_index, Lines.escape_is_on_line, Readings.escape_is_text}
 use Rattle.os_quote.proofs.laws.line_escapes.Goals as goal
 
 pub returns : goal.returns
@@ -8,7 +8,7 @@ returns g c =
     let laws = g.met.E.Platform.laws in
     let chunks = are_chunks_of P.well_formed laws.cut_prefix laws.cut_suffix in
     record {
-      some = λ s w. some_escape stays_on_line P.units s;
+      some = λ s w. (escape_of stays_on_line P.units s, escape_of_is stays_on_line P.units s);
       one_escape = one_escape stays_on_line P.units;
       utf8 = escape_is_text stays_on_line P.well_formed P.units P.part_units g.met.E.Platform.parts chunks;
       one_string = one_string stays_on_line P.well_formed P.units P.part_units g.met.E.Platform.parts chunks;

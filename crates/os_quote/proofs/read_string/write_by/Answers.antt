@@ -1,5 +1,6 @@
 use Rattle.os_quote.proofs.Common.{◌≡◌, true, false, sym, ◌∙◌, subst, arith, shown_by, IsEscapeBy, are_chunks_of}
-use Rattle.os_quote.proofs.lemmas.{Readings.escape_is_text, Readings.no_escape, Unescaping.read_fits, Unescaping.unescaped}
+use Rattle.os_quote.proofs.lemmas.{Readings.escape_is_text, Readings.no_escape, Unescaping.unescaped}
+use Rattle.wtf8_core.proofs.lemmas.buffers.Truncated.{whole}
 use Rattle.os_quote.proofs.read_string.write_by.Goals as goal
 
 pub returns-then-count-buffer-clause-string : goal.returns-then-count-buffer-clause-string
@@ -20,7 +21,7 @@ returns-then-is_unescaped-clause-string g c = λ is_text.
     let shows = shown_by c.args.form in
     let read = c.in-Ok.ensures in
     let escape = c.args.escape.now in
-    let same = read_fits shows read.0 c.args.buffer.now c.read.new.buffer c.in-Ok.count read.2 (omega (arith, c.if-count-buffer.false)) in
+    let same = whole read.0 c.args.buffer.now c.read.new.buffer c.in-Ok.count read.2 (omega (arith, c.if-count-buffer.false)) in
     unescaped shows P.well_formed P.units P.part_units g.met.E.Platform.parts (are_chunks_of P.well_formed laws.cut_prefix laws.cut_suffix) escape c.args.buffer.now c.read.new.buffer c.in-Ok.count read.0 (read.1.read is_text) read.2
     (λ fits. subst (λ x. P.well_formed x × IsEscapeBy shows P.units x escape) same (c.is_unescaped.ensures.0 c.if-is_unescaped.true))
 
@@ -34,7 +35,7 @@ returns-else-is_unescaped-clause-fault g c = λ is_text.
     let shows = shown_by c.args.form in
     let read = c.in-Ok.ensures in
     let escape = c.args.escape.now in
-    let same = read_fits shows read.0 c.args.buffer.now c.read.new.buffer c.in-Ok.count read.2 (omega (arith, c.if-count-buffer.false)) in
+    let same = whole read.0 c.args.buffer.now c.read.new.buffer c.in-Ok.count read.2 (omega (arith, c.if-count-buffer.false)) in
     let no : ¬ (false ≡ true) = λ e. cc in
     no_escape shows P.well_formed P.units P.part_units g.met.E.Platform.parts (are_chunks_of P.well_formed laws.cut_prefix laws.cut_suffix) escape read.0 (read.1.read is_text)
     (λ w e. no (sym c.if-is_unescaped.false ∙ c.is_unescaped.ensures.1 (subst (λ x. P.well_formed x × IsEscapeBy shows P.units x escape) (sym same) (w, e))))

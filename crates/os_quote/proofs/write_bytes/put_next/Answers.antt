@@ -2,7 +2,7 @@ use Rattle.os_quote.proofs.Common.{◌≡◌, ◌≤◌, ◌++◌, ℕ, List, su
 use Rattle.std.proofs.Common.{Option, Some, None, MatchOption}
 use Rattle.wtf8_core.specs.OccurrenceLaws.{OccurrenceLaws}
 use Rattle.os_quote.specs.{Start.BeginsWith, Start.IsPut, declared.form.Form.Form, declared.form.Form.TheVariants.Text}
-use Rattle.os_quote.proofs.lemmas.ByteStarts.{from_character}
+use Rattle.os_quote.proofs.lemmas.Prefixes.{from_character}
 use Rattle.os_quote.proofs.write_bytes.put_next.Goals as goal
 
 module _ {T : Type 0} (of : T → List ℕ) {well_formed : List ℕ → Type 0} {units : List ℕ → List ℕ} (occurrence : OccurrenceLaws well_formed units) (form : Form) (shows_all : form ≡ Text) {bytes : List ℕ} (formed : well_formed bytes) (old new : List ℕ) (at : ℕ) where

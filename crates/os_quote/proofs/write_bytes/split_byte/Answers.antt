@@ -3,7 +3,7 @@ use Rattle.std.proofs.{Common.Option, Common.Some, Common.None, Common.MatchOpti
 use Rattle.std.specs.Option.{is_some}
 use Rattle.wtf8_core.specs.{Covered.StartsWithNoCharacter, Character.IsFirstChar}
 use Rattle.os_quote.specs.Start.{BeginsWith, byte_item}
-use Rattle.os_quote.proofs.lemmas.ByteStarts.{from_ascii, from_unit}
+use Rattle.os_quote.proofs.lemmas.Prefixes.{from_ascii, from_unit}
 use Rattle.os_quote.proofs.write_bytes.split_byte.Goals.{then-is_ascii, else-is_ascii, else-not-is_ascii-are_apart-via-then-not-is_ascii-are_apart+else-is_some, else-not-is_ascii-are_apart-via-else-not-is_ascii-are_apart}
 use Rattle.os_quote.proofs.write_bytes.split_byte.Goals as goal
 

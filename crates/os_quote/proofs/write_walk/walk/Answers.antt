@@ -5,13 +5,13 @@ use Rattle.os_quote.proofs.lemmas.{FirstUnits.unit_first, PlainBytes.plain_is_te
 use Rattle.os_quote.proofs.write_walk.walk.Goals as goal
 
 pub take-requires : goal.take-requires
-take-requires g c = room_left g.S.Sink.rules c.loop-rest.invariant.1 _ _ c.requires (plain_first g.met.E.Platform.occurrence c.args.form c.in-Some.ensures.after)
+take-requires g c = room_left g.S.Sink.rules c.loop-rest.invariant.1 _ _ c.requires (plain_first g.met.E.Platform.occurrence c.args.form c.in-Some.ensures)
 
 pub returns-in_err-take : goal.returns-in_err-take
-returns-in_err-take g c = rw (err_from_is_err_and c.from_residual.result c.from_residual.ensures.1).1 (none_taken g.S.Sink.rules c.loop-rest.invariant.1 _ _ c.in_err-take.ensures (plain_first g.met.E.Platform.occurrence c.args.form c.in-Some.ensures.after))
+returns-in_err-take g c = rw (err_from_is_err_and c.from_residual.result c.from_residual.ensures.1).1 (none_taken g.S.Sink.rules c.loop-rest.invariant.1 _ _ c.in_err-take.ensures (plain_first g.met.E.Platform.occurrence c.args.form c.in-Some.ensures))
 
 pub loop-rest-preserved-in-Some : goal.loop-rest-preserved-in-Some
-loop-rest-preserved-in-Some g c = (rest_formed g.met.E.Platform.occurrence _ c.loop-rest.invariant.0 (plain_is_text _ c.in-Some.ensures.after.plain) c.in-Some.ensures.after.joined, one_taken g.S.Sink.rules c.loop-rest.invariant.1 c.in_ok-take.ensures (plain_first g.met.E.Platform.occurrence c.args.form c.in-Some.ensures.after))
+loop-rest-preserved-in-Some g c = (rest_formed g.met.E.Platform.occurrence _ c.loop-rest.invariant.0 (plain_is_text _ c.in-Some.ensures.plain) c.in-Some.ensures.joined, one_taken g.S.Sink.rules c.loop-rest.invariant.1 c.in_ok-take.ensures (plain_first g.met.E.Platform.occurrence c.args.form c.in-Some.ensures))
 
 pub write_bytes-requires : goal.write_bytes-requires
 write_bytes-requires g c =
