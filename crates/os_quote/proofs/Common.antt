@@ -4,7 +4,7 @@ pub use Rattle.os_quote.specs.{Buffers.Pushes, Buffers.text_escape, Buffers.toke
 pub use Rattle.os_quote.specs.Escaped.{escape_of, escaped_text}
 pub use Rattle.os_quote.specs.Item.{Backslash, ByteUnit, Character, HasLongTokens, IsItem, IsLong, Item, LongCharacter, WideUnit, backslash, byte_digits, character_item, hidden_item, high_digits, item_text, item_texts, long_digits, unit_item, wide_digits}
 pub use Rattle.os_quote.specs.Plain.{IsCutAfterPlain, IsPlain, IsPlainUpTo}
-pub use Rattle.os_quote.specs.Reading.{HasNoBackslash, HasNoFour, HasNoFive, HasNoLong, HasNoNumber, HasNoSix, HasNoWide, AreBytesRead, IsFour, IsCutAtFirst, IsFive, IsRead, IsSix, item_bytes, token_item}
+pub use Rattle.os_quote.specs.Reading.{HasNoBackslash, HasNoClosed, HasNoFive, HasNoLong, HasNoNumber, HasNoWide, AreBytesRead, IsClosed, IsCutAtFirst, IsFive, IsRead, item_bytes, token_item}
 pub use Rattle.os_quote.specs.{Shown.is_any, Shown.shown_by, Shown.stays_on_line, HiddenCharacters.hidden_ranges, HiddenCharacters.is_in_ranges}
 pub use Rattle.os_quote.specs.Hidden.{AllClear, AreUnchanged, IsCutAtToken, IsNextSuspect, IsUnchanged, byte_bits, is_suspect, kind_bits, kind_bits_of_two, second_bits, suspect_bits, third_bits}
 pub use Rattle.os_quote.specs.declared.find_tables.TheConstants.{FIRST_HIGH, FIRST_LOW, SECOND_HIGH, SECOND_LOW, THIRD_HIGH, THIRD_LOW, OTHER_HIGH, OTHER_LOW}

@@ -54,20 +54,13 @@ HasNoLong bytes = (c : ℕ) → IsLong c → (after : List ℕ) → bytes ≢ 0x
 abbrev pub HasNoNumber : (ℕ → Bool) → List ℕ → Type 0
 HasNoNumber shows bytes = HasNoWide bytes × (HasLongTokens shows → HasNoLong bytes)
 
--- the bytes don't begin with four digits and a closing brace
-abbrev pub HasNoFour : List ℕ → Type 0
-HasNoFour bytes = (u : ℕ) → u < 0x1_0000 → (after : List ℕ) → bytes ≢ wide_digits u ++ 0x7D ∷ after
+-- the bytes don't begin with these digits, four more and a closing brace
+abbrev pub HasNoClosed : List ℕ → List ℕ → Type 0
+HasNoClosed front bytes = (u : ℕ) → u < 0x1_0000 → (after : List ℕ) → bytes ≢ front ++ (wide_digits u ++ 0x7D ∷ after)
 
--- the bytes are the last four digits of c, a closing brace and the rest, and `high` is the value of the other digits of c
-abbrev pub IsFour : ℕ → List ℕ → ℕ → List ℕ → Type 0
-IsFour high bytes c rest = (c / 0x1_0000 ≡ high) × (bytes ≡ wide_digits (c % 0x1_0000) ++ 0x7D ∷ rest)
-
--- the bytes don't begin with `10`, four digits and a closing brace
-abbrev pub HasNoSix : List ℕ → Type 0
-HasNoSix bytes = (u : ℕ) → u < 0x1_0000 → (after : List ℕ) → bytes ≢ 0x31 ∷ 0x30 ∷ (wide_digits u ++ 0x7D ∷ after)
-
-abbrev pub IsSix : List ℕ → ℕ → List ℕ → Type 0
-IsSix bytes c rest = (c / 0x1_0000 ≡ 0x10) × (bytes ≡ 0x31 ∷ 0x30 ∷ (wide_digits (c % 0x1_0000) ++ 0x7D ∷ rest))
+-- the bytes are these digits, the last four of c, a closing brace and the rest, and `high` is the value of the other digits of c
+abbrev pub IsClosed : List ℕ → ℕ → List ℕ → ℕ → List ℕ → Type 0
+IsClosed front high bytes c rest = (c / 0x1_0000 ≡ high) × (bytes ≡ front ++ (wide_digits (c % 0x1_0000) ++ 0x7D ∷ rest))
 
 -- the bytes don't begin with five digits, the first of which isn't 0, and a closing brace
 abbrev pub HasNoFive : List ℕ → Type 0

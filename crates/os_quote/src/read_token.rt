@@ -1,7 +1,7 @@
 //! Tokens, and the backslashes that begin them.
-ghost use Rattle.std.specs.Prelude.{◌≡◌, ◌≢◌, ◌<◌, ◌∷◌, ◌++◌, ℕ, List, MatchOption, ◌+◌, ◌*◌, ◌≤◌};
+ghost use Rattle.std.specs.Prelude.{◌≡◌, ◌≢◌, ◌<◌, [], ◌∷◌, ◌++◌, ℕ, List, MatchOption, ◌+◌, ◌*◌, ◌≤◌};
 ghost use Rattle.wtf8_core.specs.FaultText.{upper_hex_digit};
-ghost use Rattle.os_quote.specs.{Item.backslash, Item.byte_digits, Item.wide_digits, Item.item_text, Item.IsItem, Item.long_digits, Item.IsLong, Shown.shown_by, Shown.is_any, Escape.BeginsNoToken, Hidden.AreUnchanged, Hidden.IsCutAtToken, Reading.HasNoBackslash, Reading.IsCutAtFirst, Reading.HasNoNumber, Reading.token_item, Reading.HasNoLong, Reading.HasNoFive, Reading.HasNoSix, Reading.HasNoFour, Reading.IsFour, Reading.IsFive, Reading.IsSix, Stripping.StartsNot};
+ghost use Rattle.os_quote.specs.{Item.backslash, Item.byte_digits, Item.wide_digits, Item.item_text, Item.IsItem, Item.long_digits, Item.IsLong, Shown.shown_by, Shown.is_any, Escape.BeginsNoToken, Hidden.AreUnchanged, Hidden.IsCutAtToken, Reading.HasNoBackslash, Reading.IsCutAtFirst, Reading.HasNoNumber, Reading.token_item, Reading.HasNoLong, Reading.HasNoFive, Reading.HasNoClosed, Reading.IsClosed, Reading.IsFive, Stripping.StartsNot};
 
 use crate::form::Form;
 use memchr::memchr;
@@ -146,8 +146,8 @@ pub(crate) fn long_character(bytes: &[u8]) -> Option<(char, &[u8])>
 /// The character whose number is six digits before a brace: `10` and four more.
 #[tactic(auto, using(crate::proofs::lemmas::Items::tails))]
 fn six_digits(digits: &[u8]) -> Option<(char, &[u8])>
-    ensures { MatchOption result (HasNoSix digits.now)
-        (λ read. IsSix digits.now read.0 read.1.now) }
+    ensures { MatchOption result (HasNoClosed (0x31 ∷ 0x30 ∷ []) digits.now)
+        (λ read. IsClosed (0x31 ∷ 0x30 ∷ []) 0x10 digits.now read.0 read.1.now) }
 {
     let low = strip(digits, b"10")?;
     let (character, rest) = closed_character(0x10, low)?;
@@ -174,8 +174,8 @@ fn five_digits(digits: &[u8]) -> Option<(char, &[u8])>
 fn closed_character(high: u8, low: &[u8]) -> Option<(char, &[u8])>
     requires some { 0 < high }
     requires within { high ≤ 0x10 }
-    ensures { MatchOption result (HasNoFour low.now)
-        (λ read. IsFour high low.now read.0 read.1.now) }
+    ensures { MatchOption result (HasNoClosed [] low.now)
+        (λ read. IsClosed [] high low.now read.0 read.1.now) }
 {
     let (number, closed) = four_digits(low)?;
     let rest = strip(closed, b"}")?;

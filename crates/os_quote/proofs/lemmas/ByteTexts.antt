@@ -52,13 +52,13 @@ word_has_text form b i byte index =
     subst (λ n. HasText (text_of form b) (word_at n)) (sym index) (omega (arith, few), (bytes_eq-Decides _ _).0 parts.0, IsUtf8-from_ascii _ (ascii_all _ (all_low _ rest.1)))
 
 -- a word is stored at an index, and what its text doesn't have is written over next
-pub placed : (a ys : List ℕ) (i k n : ℕ) → i + k ≤ length a → length ys ≡ k → n ≤ k → take (i + n) (put_mid i k a ys) ≡ take i a ++ take n ys
-placed a ys i k n fits long few =
+pub placed : (a ys text : List ℕ) (i k n : ℕ) → i + k ≤ length a → length ys ≡ k → n ≤ k → take n ys ≡ text → take (i + n) (put_mid i k a ys) ≡ take i a ++ text
+placed a ys text i k n fits long few is =
     let front : length (take i a) ≡ i = length-take-le i a (omega arith) in
     sym (take-take (i + n) (i + k) (put_mid i k a ys) (omega arith))
     ∙ ap (take (i + n)) (take-put_mid i k a ys (i + k) (omega arith) (omega arith))
     ∙ ap (λ m. take (m + n) (take i a ++ ys)) (sym front)
-    ∙ take-append-add (take i a) ys n
+    ∙ take-append-add (take i a) ys n ∙ ap (λ t. take i a ++ t) is
 
 -- a text that is written after others
 pub one_more : {whole rest written : List ℕ} (before text after : List ℕ) → whole ≡ before ++ rest → rest ≡ text ++ after → written ≡ before ++ text → whole ≡ written ++ after

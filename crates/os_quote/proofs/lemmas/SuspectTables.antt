@@ -74,20 +74,17 @@ no_bits : (x y z : ℕ) → is_suspect x y z ≡ false → suspect_bits x y z �
 unfolding is_suspect
 no_bits x y z e = eqb-true _ _ (not-false _ e)
 
-none : (bits : ℕ) → bits ≡ 0 → is_some bits ≡ false
-none bits e = ap is_some e
-
 -- a character is unchanged where its first byte is no suspect
 pub one_occurs : (c y z : ℕ) → c < 0x80 → y < 256 → z < 256 → is_suspect c y z ≡ false → IsUnchanged stays_on_line c
 one_occurs c y z a v w s =
     let pair = none_of_all (kind_bits_of_two c y) (third_bits z) ascii (all_of third_bits ascii z refl w) (no_bits c y z s) in
     let lead : bit_and (kind_bits c) ascii ≡ 0 = ap (bit_and (kind_bits c)) (sym (all_of second_bits ascii y refl v)) ∙ sym (and_assoc ascii (kind_bits c) (second_bits y)) ∙ pair in
-    is_unchanged c (rw (lt-ltb c 0x80 a) (none _ lead))
+    is_unchanged c (rw (lt-ltb c 0x80 a) (ap is_some lead))
 
 pub two_occurs : (c z : ℕ) → 0x80 ≤ c → c < 0x800 → z < 256 → is_suspect (0xC0 + c / 0x40) (0x80 + c % 0x40) z ≡ false → IsUnchanged stays_on_line c
 two_occurs c z l a w s =
     let pair = none_of_all (kind_bits_of_two (0xC0 + c / 0x40) (0x80 + c % 0x40)) (third_bits z) short (all_of third_bits short z refl w) (no_bits (0xC0 + c / 0x40) (0x80 + c % 0x40) z s) in
-    is_unchanged c (rw (le-ltb c 0x80 l, lt-ltb c 0x800 a) (none _ pair))
+    is_unchanged c (rw (le-ltb c 0x80 l, lt-ltb c 0x800 a) (ap is_some pair))
 
 pub three_occurs : (c : ℕ) → 0x800 ≤ c → c < 0x1_0000 → is_suspect (0xE0 + c / 0x1000) (0x80 + (c / 0x40) % 0x40) (0x80 + c % 0x40) ≡ false → IsUnchanged stays_on_line c
 unfolding is_suspect
@@ -107,6 +104,6 @@ lead_from x y z e h =
     (λ l.
     let same : 128 + (x - 128) ≡ x = omega (arith, h) in
     let lead = subst (λ b. kind_bits b ≡ 0) same (eqb-true _ _ (each_below (λ k. eqb (kind_bits (128 + k)) 0) 64 (x - 128) refl (omega (arith, h, l)))) in
-    absurd (true≢false (sym e ∙ ap (λ b. is_some (bit_and (bit_and b (second_bits y)) (third_bits z))) lead ∙ none _ (ap (λ b. bit_and b (third_bits z)) (and_zero_l (second_bits y)) ∙ and_zero_l (third_bits z)))))
+    absurd (true≢false (sym e ∙ ap (λ b. is_some (bit_and (bit_and b (second_bits y)) (third_bits z))) lead ∙ ap is_some (ap (λ b. bit_and b (third_bits z)) (and_zero_l (second_bits y)) ∙ and_zero_l (third_bits z)))))
     (λ g. g)
     (cases_lt x 192)

@@ -1,4 +1,4 @@
-use Rattle.os_quote.proofs.Common.{◌≡◌, true, false, sym, ◌∙◌, subst, arith, shown_by, IsEscapeBy, are_chunks_of}
+use Rattle.os_quote.proofs.Common.{true≢false, sym, ◌∙◌, subst, arith, shown_by, IsEscapeBy, are_chunks_of}
 use Rattle.os_quote.proofs.lemmas.{Readings.escape_is_text, Readings.no_escape, Unescaping.unescaped}
 use Rattle.wtf8_core.proofs.lemmas.buffers.Truncated.{whole}
 use Rattle.os_quote.proofs.read_string.write_by.Goals as goal
@@ -36,6 +36,5 @@ returns-else-is_unescaped-clause-fault g c = λ is_text.
     let read = c.in-Ok.ensures in
     let escape = c.args.escape.now in
     let same = whole read.0 c.args.buffer.now c.read.new.buffer c.in-Ok.count read.2 (omega (arith, c.if-count-buffer.false)) in
-    let no : ¬ (false ≡ true) = λ e. cc in
     no_escape shows P.well_formed P.units P.part_units g.met.E.Platform.parts (are_chunks_of P.well_formed laws.cut_prefix laws.cut_suffix) escape read.0 (read.1.read is_text)
-    (λ w e. no (sym c.if-is_unescaped.false ∙ c.is_unescaped.ensures.1 (subst (λ x. P.well_formed x × IsEscapeBy shows P.units x escape) (sym same) (w, e))))
+    (λ w e. true≢false (sym (c.is_unescaped.ensures.1 (subst (λ x. P.well_formed x × IsEscapeBy shows P.units x escape) (sym same) (w, e))) ∙ c.if-is_unescaped.false))

@@ -7,7 +7,6 @@ use Rattle.os_quote.proofs.write_bytes.put_character.Goals as goal
 pub returns : goal.returns
 returns c =
     let bytes = c.args.bytes.now in
-    let texts = c.args.texts.now in
     let at = c.args.at in
     let character = c.in_ok-character.character in
     let n = c.in_ok-character.len in
@@ -22,9 +21,6 @@ returns c =
       record {
         within = omega (arith, few);
         is_text = IsUtf8-encode character scalar;
-        written =
-            placed texts c.copy_from_slice.new.self at (at + 4 - at) n (omega (arith, c.requires, c.told-texts)) (omega (arith, ap length stored)) (omega (arith, few))
-            ∙ ap (λ ys. take at texts ++ take n ys) stored
-            ∙ ap (λ t. take at texts ++ t) (take-take n 4 bytes few ∙ first.1);
+        written = placed c.args.texts.now c.copy_from_slice.new.self _ at (at + 4 - at) n (omega (arith, c.requires, c.told-texts)) (omega (arith, ap length stored)) (omega (arith, few)) (ap (take n) stored ∙ take-take n 4 bytes few ∙ first.1);
       },
     )
