@@ -1,5 +1,5 @@
 -- Characters that are unchanged, between suspects.
-use Rattle.os_quote.proofs.Common.{◌≡◌, ⊎_elim, ℕ, suc, ◌+◌, ◌-◌, ◌<◌, ◌≤◌, true, false, List, [], ◌∷◌, ◌++◌, length, take, drop, get_or, sym, ap, ◌∙◌, subst, arith, append_assoc, take-append-drop, length-append, length-drop, get_or-drop, IsScalar, encode_utf8, AllByRecursion, IsUtf8, IsCharBoundary, chars, all_scalars, encode_utf8_all, and_parts, cases_lt, append_cancel_right, length-take-le, drop_at, take_all, IsCharBoundary-at_seam, IsCharBoundary-end, IsUtf8-between, IsUtf8-take, IsUtf8-drop, IsUtf8-past_char, chars-append, chars_past_char, encodes-chars, scalars-chars, length-encode, len_utf8_bounds, scalar, encode, form_ascii, form_two, form_three, form_past, form_encode, is_suspect, IsUnchanged, AreUnchanged, stays_on_line, AllClear, IsNextSuspect}
+use Rattle.os_quote.proofs.Common.{◌≡◌, ⊎_elim, ℕ, suc, ◌+◌, ◌-◌, ◌<◌, ◌≤◌, true, false, List, [], ◌∷◌, ◌++◌, length, take, drop, get_or, sym, ap, ◌∙◌, subst, arith, append_assoc, take-append-drop, length-append, length-drop, get_or-drop, IsScalar, encode_utf8, AllByRecursion, IsUtf8, IsCharBoundary, chars, all_scalars, encode_utf8_all, and_parts, cases_lt, append_cancel_right, length-take-le, drop_at, take_all, IsCharBoundary-at_seam, IsCharBoundary-end, IsUtf8-between, IsUtf8-take, IsUtf8-drop, IsUtf8-past_char, chars-append, chars_past_char, encodes-chars, scalars-chars, scalar, encode, form_ascii, form_two, form_three, form_past, form_encode, is_suspect, IsUnchanged, AreUnchanged, stays_on_line, AllClear, IsNextSuspect}
 use Rattle.std.proofs.Math.Seq.{take-add}
 use Rattle.os_quote.proofs.lemmas.{Escapes.all-append, SuspectTables.one_occurs, SuspectTables.two_occurs, SuspectTables.three_occurs, SuspectTables.four_occurs, SuspectTables.lead_from}
 

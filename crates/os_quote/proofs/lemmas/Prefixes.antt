@@ -1,5 +1,5 @@
 -- Escapes of strings that begin with a text, or with a byte that is written by itself.
-use Rattle.os_quote.proofs.Common.{AllByRecursion, Bool, ByteUnit, Character, IsCutAfterPlain, IsScalar, IsUnchanged, IsUtf8, IsUtf8-encode, IsUtf8-from_ascii, List, WideUnit, [], ap, append-nil, arith, backslash, character_item, chars, chars-IsAscii, chars-nil, chars_past_char, drop, encode_ascii, encode_utf8, escape_of, is_any, item_text, item_texts, le-ltb, len_utf8_bounds, length, length-append, length-drop, length-encode, lt-ltb, map, ne_eqb, refl, shown_by, subst, sym, take, text_escape, unit_item, ℕ, ◌++◌, ◌<◌, ◌∙◌, ◌∷◌, ◌≡◌, ◌≤◌}
+use Rattle.os_quote.proofs.Common.{Bool, ByteUnit, Character, IsCutAfterPlain, IsScalar, IsUtf8, IsUtf8-encode, List, WideUnit, ap, arith, backslash, character_item, drop, encode_ascii, encode_utf8, escape_of, is_any, item_text, le-ltb, len_utf8_bounds, length, length-append, length-drop, length-encode, lt-ltb, ne_eqb, refl, shown_by, subst, sym, take, text_escape, unit_item, ℕ, ◌++◌, ◌<◌, ◌∙◌, ◌∷◌, ◌≡◌, ◌≤◌}
 use Rattle.std.specs.Bool.{if◌then◌else◌}
 use Rattle.os_quote.specs.{declared.form.Form.Form, Start.BeginsWith, Start.byte_item}
 use Rattle.wtf8_core.proofs.lemmas.occurrence.Indices.{no_units}

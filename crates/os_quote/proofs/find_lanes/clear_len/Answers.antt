@@ -1,4 +1,4 @@
-use Rattle.os_quote.proofs.Common.{◌<◌, ◌+◌, get_or, sym, ap, ◌∙◌, arith, kind_bits, second_bits, third_bits}
+use Rattle.os_quote.proofs.Common.{◌<◌, arith, kind_bits, second_bits}
 use Rattle.os_quote.proofs.lemmas.SuspectLanes.{pair_of, none_by_pair, none_by_lead, none_by_three}
 use Rattle.os_quote.proofs.find_lanes.clear_len.Goals as goal
 

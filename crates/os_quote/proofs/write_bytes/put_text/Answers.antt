@@ -1,4 +1,4 @@
-use Rattle.os_quote.proofs.Common.{◌≡◌, ◌+◌, ◌-◌, ◌/◌, ◌++◌, length, take, ap, ◌∙◌, arith}
+use Rattle.os_quote.proofs.Common.{◌≡◌, ◌+◌, ◌-◌, ◌/◌, length, take, ap, ◌∙◌, arith}
 use Rattle.std.specs.Int.{w64, to_le_bytes}
 use Rattle.os_quote.proofs.lemmas.ByteTexts.{placed}
 use Rattle.os_quote.proofs.write_bytes.put_text.Goals as goal
