@@ -9,6 +9,7 @@ pub use os_str_ext::{
     Direction, FromEnd, FromStart, OsUnits, Pieces, RSplit, Split, Symbols, Utf8Chunks, WideUnits,
 };
 use os_str_ext::{Pattern, Platform};
+use std::alloc::AllocError;
 use std::marker::Model;
 pub use wtf8_core::{CodePoints, DecodeWide, EncodeWide};
 
@@ -17,7 +18,6 @@ pub use wtf8_core::{CodePoints, DecodeWide, EncodeWide};
 ///
 /// Cloning doesn't allocate and its answer is always `Ok`; the clone has the same pieces left.
 /// After `None` it gives only `None`.
-#[derive_where(Clone)]
 #[derive(Drop)]
 pub struct RawPieces<'a, E: Platform + 'a, P: Pattern, D: Direction> {
     pieces: Pieces<'a, E, P, D>,
@@ -56,6 +56,20 @@ impl<'a, E: Platform, P: Pattern, D: Direction> RawPieces<'a, E, P, D> {
         ensures { AreOfRest D.cuts raw_bytes result self.now }
     {
         Some(RawOsStr::new(self.pieces.rest()?))
+    }
+}
+
+impl<'a, E: Platform, P: Pattern, D: Direction> Clone for RawPieces<'a, E, P, D> {
+    ghost use Rattle.std.specs.Prelude.{◌≡◌};
+
+    ghost is_clone = { λ x y. y ≡ x };
+
+    ghost is_infallible = { λ _. Unit {0} };
+
+    fn clone(&self) -> Result<Self, AllocError> {
+        Ok(RawPieces {
+            pieces: self.pieces.clone()?,
+        })
     }
 }
 

@@ -58,7 +58,9 @@ impl<E: Platform, A: Allocator> RawOsStrBox<E, A> {
 }
 
 impl<E: Platform, A: Allocator> From<BoxedStr<A>> for RawOsStrBox<E, A> {
-    ghost use Rattle.{std.specs.Prelude.◌≡◌, std.specs.Box.boxed_str_bytes, os_str_bytes.specs.Raw.box_bytes};
+    ghost use Rattle.std.specs.Prelude.{◌≡◌};
+    ghost use Rattle.std.specs.Box.{boxed_str_bytes};
+    ghost use Rattle.os_str_bytes.specs.Raw.{box_bytes};
 
     ghost from_gives = { λ text boxed. box_bytes boxed ≡ boxed_str_bytes text };
 

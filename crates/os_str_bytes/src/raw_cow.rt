@@ -51,7 +51,8 @@ pub trait RawOsStrCow<'a, E: Platform + 'a>: Sized {
 }
 
 impl<'a, E: Platform + 'a, A: Allocator> RawOsStrCow<'a, E> for CowRawOsStr<'a, E, A> {
-    ghost use Rattle.{platform_str.specs.Cows.cow_bytes, os_str_bytes.specs.RawCow.raw_cow_bytes, os_str_bytes.specs.RawCow.IsKept};
+    ghost use Rattle.platform_str.specs.Cows.{cow_bytes};
+    ghost use Rattle.os_str_bytes.specs.RawCow.{raw_cow_bytes, IsKept};
 
     type OsStrCow = OsStrCow<'a, E, A>;
 
@@ -98,7 +99,8 @@ impl<'a, E: Platform, A: Allocator> CowRawOsStr<'a, E, A> {
 }
 
 impl<'a, E: Platform + 'a, A: Allocator> From<RawOsStr<'a, E>> for CowRawOsStr<'a, E, A> {
-    ghost use Rattle.{std.specs.Prelude.◌≡◌, os_str_bytes.specs.declared.raw_cow.CowRawOsStr.TheVariants.Borrowed};
+    ghost use Rattle.std.specs.Prelude.{◌≡◌};
+    ghost use Rattle.os_str_bytes.specs.declared.raw_cow.CowRawOsStr.TheVariants.{Borrowed};
 
     ghost from_gives = { λ raw cow. cow ≡ Borrowed raw };
 
@@ -108,7 +110,8 @@ impl<'a, E: Platform + 'a, A: Allocator> From<RawOsStr<'a, E>> for CowRawOsStr<'
 }
 
 impl<'a, E: Platform + 'a, A: Allocator> From<RawOsString<E, A>> for CowRawOsStr<'a, E, A> {
-    ghost use Rattle.{std.specs.Prelude.◌≡◌, os_str_bytes.specs.declared.raw_cow.CowRawOsStr.TheVariants.Owned};
+    ghost use Rattle.std.specs.Prelude.{◌≡◌};
+    ghost use Rattle.os_str_bytes.specs.declared.raw_cow.CowRawOsStr.TheVariants.{Owned};
 
     ghost from_gives = { λ raw cow. cow ≡ Owned raw };
 

@@ -18,7 +18,8 @@ pub struct RawOsStr<'a, E: Platform + 'a> {
 }
 
 impl<'a, E: Platform> Default for RawOsStr<'a, E> {
-    ghost use Rattle.{std.specs.Prelude.◌≡◌, std.specs.Prelude.[], os_str_bytes.specs.Raw.raw_bytes};
+    ghost use Rattle.std.specs.Prelude.{◌≡◌, []};
+    ghost use Rattle.os_str_bytes.specs.Raw.{raw_bytes};
 
     ghost is_default = { λ string. raw_bytes string ≡ [] };
 

@@ -470,7 +470,9 @@ impl<E: Platform, A: Allocator> RawOsString<E, A> {
 }
 
 impl<E: Platform, A: Allocator> From<OsString<E, A>> for RawOsString<E, A> {
-    ghost use Rattle.{std.specs.Prelude.◌≡◌, platform_str.specs.Strings.string_vec_of, os_str_bytes.specs.Raw.raw_vec_of};
+    ghost use Rattle.std.specs.Prelude.{◌≡◌};
+    ghost use Rattle.platform_str.specs.Strings.{string_vec_of};
+    ghost use Rattle.os_str_bytes.specs.Raw.{raw_vec_of};
 
     ghost from_gives = { λ string raw. raw_vec_of raw ≡ string_vec_of string };
 
@@ -480,7 +482,9 @@ impl<E: Platform, A: Allocator> From<OsString<E, A>> for RawOsString<E, A> {
 }
 
 impl<E: Platform, A: Allocator> From<String<A>> for RawOsString<E, A> {
-    ghost use Rattle.{std.specs.Prelude.◌≡◌, std.specs.String.string_vec, os_str_bytes.specs.Raw.raw_vec_of};
+    ghost use Rattle.std.specs.Prelude.{◌≡◌};
+    ghost use Rattle.std.specs.String.{string_vec};
+    ghost use Rattle.os_str_bytes.specs.Raw.{raw_vec_of};
 
     ghost from_gives = { λ text raw. raw_vec_of raw ≡ string_vec text };
 
@@ -490,7 +494,8 @@ impl<E: Platform, A: Allocator> From<String<A>> for RawOsString<E, A> {
 }
 
 impl<E: Platform, A: Allocator> From<RawOsStrBox<E, A>> for RawOsString<E, A> {
-    ghost use Rattle.{std.specs.Prelude.◌≡◌, os_str_bytes.specs.Raw.box_bytes, os_str_bytes.specs.Raw.raw_vec_of};
+    ghost use Rattle.std.specs.Prelude.{◌≡◌};
+    ghost use Rattle.os_str_bytes.specs.Raw.{box_bytes, raw_vec_of};
 
     ghost from_gives = { λ boxed raw. (raw_vec_of raw).items ≡ box_bytes boxed };
 
@@ -500,7 +505,9 @@ impl<E: Platform, A: Allocator> From<RawOsStrBox<E, A>> for RawOsString<E, A> {
 }
 
 impl<E: Platform, A: Allocator> From<RawOsString<E, A>> for OsString<E, A> {
-    ghost use Rattle.{std.specs.Prelude.◌≡◌, platform_str.specs.Strings.string_vec_of, os_str_bytes.specs.Raw.raw_vec_of};
+    ghost use Rattle.std.specs.Prelude.{◌≡◌};
+    ghost use Rattle.platform_str.specs.Strings.{string_vec_of};
+    ghost use Rattle.os_str_bytes.specs.Raw.{raw_vec_of};
 
     ghost from_gives = { λ raw string. string_vec_of string ≡ raw_vec_of raw };
 

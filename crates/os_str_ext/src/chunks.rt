@@ -8,6 +8,7 @@ ghost use Rattle.os_str_ext.specs.Parts.{part_bytes};
 
 use crate::os_units::NonUnicodeOsStr;
 use platform_str::{OsStr, Platform};
+use std::alloc::AllocError;
 use std::marker::Model;
 use std::ops::Range;
 
@@ -15,7 +16,6 @@ use std::ops::Range;
 ///
 /// [`OsStrBytesExt::utf8_chunks`](crate::OsStrBytesExt::utf8_chunks) makes it. A clone has the same
 /// chunks left; cloning doesn't allocate, and its answer is always `Ok`.
-#[derive_where(Clone)]
 #[derive(Drop)]
 pub struct Utf8Chunks<'a, E: Platform + 'a> {
     rest: OsStr<'a, E>,
@@ -30,6 +30,19 @@ impl<'a, E: Platform> Model for Utf8Chunks<'a, E> {
     ghost view = { λ it. chunks_of (bytes it.rest) };
 
     ghost invariant = { λ it. IsUncoveredUpTo (bytes it.rest) it.uncovered };
+}
+
+impl<'a, E: Platform> Clone for Utf8Chunks<'a, E> {
+    ghost is_clone = { λ x y. y ≡ x };
+
+    ghost is_infallible = { λ _. Unit {0} };
+
+    fn clone(&self) -> Result<Self, AllocError> {
+        Ok(Utf8Chunks {
+            rest: self.rest,
+            uncovered: self.uncovered,
+        })
+    }
 }
 
 impl<'a, E: Platform> Utf8Chunks<'a, E> {

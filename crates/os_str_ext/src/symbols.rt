@@ -7,6 +7,7 @@ ghost use Rattle.os_str_ext.specs.Symbols.{AreSymbols, symbols_of};
 use crate::characters::split_first_char;
 use crate::os_units::OsUnit;
 use platform_str::{OsStr, Platform};
+use std::alloc::AllocError;
 use std::marker::Model;
 
 /// One element of a string: a whole character, or a unit of what isn't text.
@@ -26,7 +27,6 @@ pub enum Symbol {
 ///
 /// [`OsStrBytesExt::symbols`](crate::OsStrBytesExt::symbols) makes it. A clone has the same symbols
 /// left; cloning doesn't allocate, and its answer is always `Ok`.
-#[derive_where(Clone)]
 #[derive(Drop)]
 pub struct Symbols<'a, E: Platform + 'a> {
     rest: OsStr<'a, E>,
@@ -40,6 +40,16 @@ impl<'a, E: Platform> Model for Symbols<'a, E> {
     ghost Value = { List Symbol };
 
     ghost view = { λ it. symbols_of E.units (bytes it.rest) };
+}
+
+impl<'a, E: Platform> Clone for Symbols<'a, E> {
+    ghost is_clone = { λ x y. y ≡ x };
+
+    ghost is_infallible = { λ _. Unit {0} };
+
+    fn clone(&self) -> Result<Self, AllocError> {
+        Ok(Symbols { rest: self.rest })
+    }
 }
 
 impl<'a, E: Platform> Symbols<'a, E> {
