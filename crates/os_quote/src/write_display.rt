@@ -2,6 +2,7 @@
 use crate::form::Form;
 use crate::write_walk::write_escape_to;
 use os_str_bytes::{OsStr, Platform, Writeable, write_filled};
+use std::alloc::AllocError;
 use std::fmt;
 
 /// A string that prints as its escape. Printing it allocates nothing.
@@ -9,11 +10,24 @@ use std::fmt;
 /// Returned by [`escaped`](crate::escaped) and [`escaped_line`](crate::escaped_line). A width counts
 /// the characters of the escape, and fills after it if no alignment is given. A precision doesn't
 /// truncate.
-#[derive_where(Clone, Copy)]
 pub struct Escaped<'a, E: Platform + 'a> {
     string: OsStr<'a, E>,
     form: Form,
 }
+
+impl<'a, E: Platform> Clone for Escaped<'a, E> {
+    ghost use Rattle.std.specs.Prelude.{◌≡◌};
+
+    ghost is_clone = { λ x y. y ≡ x };
+
+    ghost is_infallible = { λ _. Unit {0} };
+
+    fn clone(&self) -> Result<Self, AllocError> {
+        Ok(*self)
+    }
+}
+
+impl<'a, E: Platform> Copy for Escaped<'a, E> {}
 
 impl<'a, E: Platform> Escaped<'a, E> {
     ghost use Rattle.platform_str.specs.Strings.{bytes};

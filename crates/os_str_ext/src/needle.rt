@@ -11,8 +11,9 @@ use wtf8_core::vectors::window::put_in_zeros;
 /// The longest needle that is searched for by two of its bytes, or by its last byte alone.
 const LONGEST: usize = 32;
 
-/// In longer strings the time that `memmem` takes to prepare for a needle pays off.
-const SHORT: usize = 160;
+/// In longer strings the time that `memmem` takes to prepare for a needle pays off, unless its letters
+/// are rare.
+const SHORT: usize = 128;
 
 /// The same for a needle of two bytes, which occurs wherever they do.
 const SHORT_FOR_TWO: usize = 1024;
