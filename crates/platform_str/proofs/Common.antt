@@ -3,7 +3,7 @@ pub use Rattle.platform_str.specs.{Bulk.begins_pair, Bulk.pairs, Display.fill_be
 pub use Rattle.platform_str.specs.platforms.Wasm.{never_uncovered}
 pub use Rattle.std.proofs.Common.{Bool, Err, List, Ok, Result, Some, [], ap, append_assoc, arith, cond, drop, eqb, leb, length, length-append, length-drop, map, refl, rules, slice_index, subst, suc, sym, take, true, vec_capacity, vec_len, w16, w8, zero, ℕ, ◌%◌, ◌*◌, ◌/◌, ◌++◌, ◌+◌, ◌-◌, ◌<◌, ◌^◌, ◌∙◌, ◌∷◌, ◌≡◌, ◌≤◌}
 pub use Rattle.std.proofs.{Math.ListN.length-set, Math.ListN.set, Math.Seq.take-add, Math.Seq.take-append-add}
-pub use Rattle.std.proofs.lemmas.{Bool.cond_both, Bool.false≢true, Bool.Decides.nat_tests}
+pub use Rattle.std.proofs.lemmas.{Bool.cond_both, Bool.false≢true, Bool.Decides.nat_tests, Grind.common_steps}
 pub use Rattle.std.proofs.lemmas.List.{append-nil, drop-drop, drop_at, get_or-take, length-map, length-take, length-take-le, take-append-drop, take-take, take_all, take_at, with_items_is}
 pub use Rattle.std.proofs.lemmas.{List.Elements.All-from_get_or, List.Elements.recursion_from_All, List.Sums.count_by-le-length, List.Sums.sum_by-cons, Str.IsUtf8-append, Str.IsUtf8-string_bytes}
 unfoldable pub use Rattle.std.specs.Char.{encode_utf8}

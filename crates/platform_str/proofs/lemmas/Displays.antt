@@ -1,5 +1,6 @@
 -- Characters of lossy texts, and texts that are filled.
-use Rattle.std.proofs.Common.{◌≡◌, ℕ, ◌+◌, ◌-◌, List, [], ◌∷◌, ◌++◌, length, cond, Option, Some, refl, sym, ap, ◌∙◌, arith, append_assoc, unwrap_or}
+use Rattle.platform_str.proofs.Common.{nat_tests, common_steps}
+use Rattle.std.proofs.Common.{◌≡◌, ℕ, ◌+◌, ◌-◌, List, [], ◌∷◌, ◌++◌, length, cond, Option, Some, refl, sym, ap, ◌∙◌, arith, append_assoc}
 use Rattle.std.specs.{Char.encode_utf8, List.repeat, Fmt.is_char_start, Fmt.char_count, List.FoldsTo, List.concat, declared.fmt.Alignment.Alignment}
 use Rattle.platform_str.specs.{Lossy.IsFirstText, Display.fill_before, Display.filled, declared.writeable.Shortfall.Shortfall}
 use Rattle.platform_str.proofs.lemmas.LossyLoops.{encode_fffd}
@@ -33,18 +34,9 @@ by_padding fill align text padding = repeat (fill_before align padding) (encode_
 -- what is written piece by piece, if a width is given
 pub filled_by : (fill later : ℕ) (align : Option Alignment) (width : Option ℕ) (asked padding before : ℕ) (text : List ℕ) → later ≡ fill → width ≡ Some asked → padding ≡ asked - char_count text → before ≡ fill_before align padding
     → repeat before (encode_utf8 fill) ++ (text ++ repeat (padding - before) (encode_utf8 later)) ≡ filled fill align width text
-filled_by fill later align width asked padding before text l w p b =
-    let same : padding ≡ unwrap_or width 0 - char_count text = p ∙ ap (λ o. unwrap_or o 0 - char_count text) (sym w) in
-    ap (λ z. repeat before (encode_utf8 fill) ++ (text ++ repeat (padding - before) (encode_utf8 z))) l
-    ∙ ap (λ n. repeat n (encode_utf8 fill) ++ (text ++ repeat (padding - n) (encode_utf8 fill))) b
-    ∙ ap (by_padding fill align text) same
+filled_by fill later align width asked padding before text l w p b = grind (arith, nat_tests, common_steps)
 
 module _ {well_formed : List ℕ → Type 0} {lossy : List ℕ → List ℕ} {bytes prefix rest : List ℕ} (f : IsFirstText well_formed lossy bytes prefix rest) where
   -- what is written so far, and then the text and U+FFFD
   pub write_first : (done all : List ℕ) → done ++ lossy bytes ≡ all → ((done ++ prefix) ++ encode_utf8 0xFFFD) ++ lossy rest ≡ all
-  write_first done all e =
-      append_assoc (done ++ prefix) (encode_utf8 0xFFFD) (lossy rest)
-      ∙ append_assoc done prefix (encode_utf8 0xFFFD ++ lossy rest)
-      ∙ ap (λ x. done ++ (prefix ++ (x ++ lossy rest))) encode_fffd
-      ∙ ap (λ x. done ++ x) (sym f.lossy_is)
-      ∙ e
+  write_first done all e = grind (arith, nat_tests, common_steps, encode_fffd, append_assoc)

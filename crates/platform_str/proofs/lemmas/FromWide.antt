@@ -1,6 +1,6 @@
 -- The bytes of units, unit by unit.
 use Rattle.std.proofs.Common.{◌≡◌, ℕ, zero, suc, ◌+◌, ◌-◌, ◌*◌, ◌/◌, ◌%◌, ◌≤◌, ◌<◌, true, false, cond, List, [], ◌∷◌, ◌++◌, length, length-append, take, drop, get_or, Fits, w16, refl, sym, ap, ◌∙◌, subst, arith, append_assoc}
-use Rattle.platform_str.proofs.Common.{cond_both, nat_tests, take-append-drop, recursion_from_All, All-from_get_or, AllByRecursion, flat_map, is_pair, paired, encode, HasUnits, IsUnit, encoded_units}
+use Rattle.platform_str.proofs.Common.{cond_both, nat_tests, take-append-drop, recursion_from_All, All-from_get_or, AllByRecursion, flat_map, is_pair, paired, encode, HasUnits, IsUnit, encoded_units, common_steps}
 use Rattle.wtf8_core.specs.Decoder.{code_points_of}
 use Rattle.platform_str.specs.FromWide.{bytes_by_neighbours, bytes_after_first, word_bytes}
 
@@ -26,11 +26,7 @@ gives_few b u v i = grind (arith, nat_tests)
 
 -- and what a pair gives
 pair_gives : (b u v w : ℕ) → is_pair b u ≡ false → is_pair u v ≡ true → bytes_by_neighbours b u v ++ bytes_by_neighbours u v w ≡ encode (paired u v)
-pair_gives b u v w p q =
-    let four = encode (paired u v) in
-    ap (λ t. cond t (drop 3 (encode (paired b u))) (cond (is_pair u v) (take 3 four) (encode u)) ++ bytes_by_neighbours u v w) p
-    ∙ ap (λ t. cond t (take 3 four) (encode u) ++ cond t (drop 3 four) (cond (is_pair v w) (take 3 (encode (paired v w))) (encode v))) q
-    ∙ take-append-drop 3 four
+pair_gives b u v w p q = grind (arith, nat_tests, common_steps, take-append-drop)
 
 -- the last unit of a pair, and the first
 pub last_gives : (b u v : ℕ) → is_pair b u ≡ true → bytes_by_neighbours b u v ≡ (0x80 + u % 0x40) ∷ []

@@ -1,7 +1,7 @@
 -- What vectors compute of units, lane by lane.
 use Rattle.std.proofs.Common.{◌≡◌, ℕ, ◌+◌, ◌*◌, ◌/◌, ◌%◌, ◌^◌, ◌<◌, ◌≤◌, Bool, true, false, cond, ltb, leb, eqb, refl, sym, ◌∙◌, arith, List, [], ◌∷◌, ◌++◌, length, take}
 use Rattle.std.specs.Int.{w32, to_le_bytes}
-use Rattle.platform_str.proofs.Common.{nat_tests, false≢true, length-take, put_chunk, is_pair, encode, IsUnit}
+use Rattle.platform_str.proofs.Common.{nat_tests, false≢true, length-take, put_chunk, is_pair, encode, IsUnit, common_steps}
 use Rattle.platform_str.proofs.lemmas.{LaneTests.six_and_six, LaneTests.sixes, LaneTests.take_prefix_put_chunk, SixteenLanes.splat, SixteenLanes.both, FromWideCounts.lane_is_pair, FromWide.last_gives, FromWide.high_gives, FromWide.alone_gives, FromWide.no_pair_after_low}
 use Rattle.platform_str.specs.{FromWide.bytes_by_neighbours, FromWide.word_bytes, Lanes.HasLanes}
 
@@ -15,14 +15,7 @@ abbrev pub packed : ℕ → ℕ → ℕ → ℕ → ℕ
 packed f s t n = ((f + s * 2 ^ 8 % 2 ^ 16) % 2 ^ 16 + (t + n * 2 ^ 8 % 2 ^ 16) % 2 ^ 16 * 2 ^ 16 % 2 ^ 32) % 2 ^ 32
 
 packed_bytes : (f s t n : ℕ) → f < 256 → s < 256 → t < 256 → n < 256 → word_bytes (packed f s t n) ≡ take n (f ∷ s ∷ t ∷ n ∷ [])
-packed_bytes f s t n a b c d =
-    let w = packed f s t n in
-    let p : w % 256 ≡ f = omega (arith, a, b, c, d) in
-    let q : w / 256 ^ 1 % 256 ≡ s = omega (arith, a, b, c, d) in
-    let r : w / 256 ^ 2 % 256 ≡ t = omega (arith, a, b, c, d) in
-    let u : w / 256 ^ 3 % 256 ≡ n = omega (arith, a, b, c, d) in
-    let m : w / 0x100_0000 ≡ n = omega (arith, a, b, c, d) in
-    λ i. take (m i) (p i ∷ q i ∷ r i ∷ u i ∷ [])
+packed_bytes f s t n a b c d = grind (arith, nat_tests, common_steps)
 
 -- the lanes, of a unit between two others; t says whether it begins a pair, e whether it ends one
 abbrev lane_value : Bool → ℕ → ℕ → ℕ
@@ -71,10 +64,4 @@ few_bytes w h = omega (arith, h, length-take (w / 0x100_0000) (to_le_bytes w32 w
 -- the bytes of a word, stored at an index
 pub word_stored : (at w : ℕ) (xs : List ℕ) → at + 4 ≤ length xs → w / 0x100_0000 ≤ 4
     → take (at + w / 0x100_0000) (put_chunk at xs ((w + 0) % 256 ∷ (w + 0) / 256 % 256 ∷ (w + 0) / 256 / 256 % 256 ∷ (w + 0) / 256 / 256 / 256 % 256 ∷ [])) ≡ take at xs ++ word_bytes w
-word_stored at w xs h few =
-    let m : (w + 0) % 256 ≡ w % 256 = omega arith in
-    let p : (w + 0) / 256 % 256 ≡ w / 256 ^ 1 % 256 = omega arith in
-    let q : (w + 0) / 256 / 256 % 256 ≡ w / 256 ^ 2 % 256 = omega arith in
-    let r : (w + 0) / 256 / 256 / 256 % 256 ≡ w / 256 ^ 3 % 256 = omega arith in
-    (λ i. take (at + w / 0x100_0000) (put_chunk at xs (m i ∷ p i ∷ q i ∷ r i ∷ [])))
-    ∙ take_prefix_put_chunk at (w / 0x100_0000) xs (to_le_bytes w32 w) h few
+word_stored at w xs h few = grind (arith, nat_tests, common_steps, take_prefix_put_chunk)

@@ -1,6 +1,6 @@
 -- One step of a loop over a string's faults.
 use Rattle.std.proofs.Common.{◌≡◌, ℕ, ◌<◌, ◌≤◌, List, ◌++◌, length, take, drop, refl, sym, ap, ◌∙◌, subst, arith, append_assoc, length-append, length-drop, ◌+◌, ◌-◌, take-take}
-use Rattle.platform_str.proofs.Common.{take-append-add, length-take-le, IsValidUpTo, replacement, EncodingError, none_at, encode_utf8, StartsWithNoCharacter, PlatformLaws, IsReplaced, IsLeft, IsFirstText}
+use Rattle.platform_str.proofs.Common.{take-append-add, length-take-le, IsValidUpTo, replacement, EncodingError, none_at, encode_utf8, StartsWithNoCharacter, PlatformLaws, IsReplaced, IsLeft, IsFirstText, nat_tests, common_steps}
 use Rattle.wtf8_core.proofs.lemmas.texts.StdFaults.{no_char}
 
 -- no whole character starts at a fault
@@ -27,17 +27,7 @@ module _ {first_fault : List ℕ → EncodingError → Type 0} {well_formed : Li
       laws.lossy_step after m (formed_at e v w) (some_at e v) (uncovered_at e v) r
 
   pub first_text : {bytes prefix after rest : List ℕ} {n m : ℕ} → prefix ≡ take n bytes → after ≡ drop n bytes → rest ≡ drop m after → IsValidUpTo bytes n → well_formed bytes → replaces after m → IsFirstText well_formed lossy bytes prefix rest
-  first_text {bytes} {prefix} {after} {rest} {n} {m} t e d v w r =
-      let p = first_part e v w r in
-      let s = v.short in
-      record {
-        rest_is = subst well_formed (sym d) p.after;
-        lossy_is = laws.lossy_prefix bytes n w v
-            ∙ ap (λ x. take n bytes ++ lossy x) (sym e)
-            ∙ ap (λ x. take n bytes ++ x) (p.lossy_is ∙ ap (λ x. replacement ++ lossy x) (sym d))
-            ∙ ap (λ x. x ++ (replacement ++ lossy rest)) (sym t);
-        shorter = omega (arith, s, p.some, p.within, ap length t, length-take-le n bytes (omega (arith, s)), ap length e, length-drop n bytes, ap length d, length-drop m after);
-      }
+  first_text {bytes} {prefix} {after} {rest} {n} {m} t e d v w r = grind (arith, nat_tests, common_steps, first_part, length-take-le, length-drop, v.short)
 
 -- one more text and one more U+FFFD are made
 pub one_more : {well_formed : List ℕ → Type 0} {lossy : List ℕ → List ℕ} {prefix rest after : List ℕ} (made : List ℕ) → IsFirstText well_formed lossy rest prefix after

@@ -1,6 +1,6 @@
 -- Vectors of 16 lanes, lane by lane.
 use Rattle.std.proofs.Common.{◌≡◌, ℕ, ◌+◌, ◌*◌, ◌/◌, ◌%◌, ◌^◌, ◌≤◌, ◌<◌, Bool, false, cond, eqb, not, List, map, length, take, drop, get_or, replicate, sym, ap, ◌∙◌, arith}
-use Rattle.platform_str.proofs.{Common.mask_l, Common.zip2, Common.top, Common.length-map, lemmas.Choices.bit_kept}
+use Rattle.platform_str.proofs.{Common.nat_tests, Common.common_steps, Common.mask_l, Common.zip2, Common.top, Common.length-map, lemmas.Choices.bit_kept}
 use Rattle.std.proofs.lemmas.{List.get_or-map, List.get_or-take, Simd.length-chunk, Simd.get_or-chunk, Simd.get_or-zip2, Simd.get_or-replicate, Simd.length-replicate, Simd.length-zip2, Simd.tops_compared, Simd.length-sel_l, Simd.get_or-sel_l, Simd.bitmask_splat, Simd.bit_mask_l, Nat.one_shl}
 use Rattle.platform_str.specs.Lanes.{HasLanes}
 use lib.Lanes.{sel_l}
@@ -25,10 +25,7 @@ pub splat : (y : ℕ) → HasLanes (replicate 16 y) (λ _. y)
 splat y = record { many = length-replicate 16 y; each = λ i h. get_or-replicate 16 i y 0 h }
 
 pub both : (op : ℕ → ℕ → ℕ) {xs ys : List ℕ} {f g : ℕ → ℕ} → HasLanes xs f → HasLanes ys g → HasLanes (zip2 op xs ys) (λ i. op (f i) (g i))
-both op {xs} {ys} {f} {g} a b = record {
-  many = length-zip2 op xs ys (a.many ∙ sym b.many) ∙ a.many;
-  each = λ i h. get_or-zip2 op xs ys i 0 0 0 (omega (arith, a.many, h)) (omega (arith, b.many, h)) ∙ ap (λ x. op x (get_or ys i 0)) (a.each i h) ∙ ap (op (f i)) (b.each i h);
-}
+both op {xs} {ys} {f} {g} a b = grind (arith, nat_tests, common_steps, length-zip2, get_or-zip2, a.many, b.many, a.each, b.each)
 
 -- `select` by a comparison
 pub choice : (test : ℕ → ℕ → Bool) {xs ys yes no : List ℕ} {f g p q : ℕ → ℕ} → HasLanes xs f → HasLanes ys g → HasLanes yes p → HasLanes no q

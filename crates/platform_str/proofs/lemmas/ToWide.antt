@@ -3,10 +3,10 @@ use Rattle.std.proofs.Common.{◌≡◌, ⊎_elim, ℕ, zero, suc, Bool, true, f
 use Rattle.std.proofs.{lemmas.Bool.cond-false, Math.Nat.pow-suc}
 use Rattle.wtf8_core.proofs.{Common.cases_lt, lemmas.units.OneToOne.wide_pair, lemmas.forms.Shapes.form_parts}
 use Rattle.wtf8_core.specs.{Byte.IsContinuation, Surrogate.high_unit, Surrogate.low_unit}
-use Rattle.platform_str.proofs.Common.{nat_tests, wide_single, form_ascii, form_two, form_three, form_past, encode, encode_utf16, IsCodePoint, units, flat_map, IsWtf8, HasUnits, units_of, has_units_of, code_points_in-encoded, AllByRecursion, append_assoc}
+use Rattle.platform_str.proofs.Common.{nat_tests, wide_single, form_ascii, form_two, form_three, form_past, encode, encode_utf16, IsCodePoint, units, flat_map, IsWtf8, HasUnits, units_of, has_units_of, code_points_in-encoded, AllByRecursion, append_assoc, common_steps}
 use Rattle.platform_str.proofs.lemmas.Choices.{none_chosen}
 use lib.Pow.{shr-shr}
-use Rattle.platform_str.specs.ToWide.{adds_unit, bits_of_two, bits_of_three, unit_at, units_by_neighbours, units_after_first, chosen}
+use Rattle.platform_str.specs.ToWide.{adds_unit, unit_at, units_by_neighbours, units_after_first, chosen}
 
 -- what vectors compute is the unit
 abbrev pub two_lanes : ℕ → ℕ → ℕ
@@ -21,19 +21,12 @@ pub lane_is_unit : (b f s t : ℕ) → f < 2 ^ 8
     (cond (leb 0xF0 f) ((three_lanes f s t / 0x10 + 0xD7C0) % 2 ^ 16)
     (cond (leb 0xE0 f) (three_lanes f s t)
     (two_lanes f s % 0x800)))) ≡ unit_at b f s t
-lane_is_unit b f s t h =
-    let two : two_lanes f s ≡ bits_of_two f s = omega arith in
-    let three : three_lanes f s t ≡ bits_of_three f s t = omega arith in
-    let low : (three_lanes f s t % 0x400 + 0xDC00) % 2 ^ 16 ≡ 0xDC00 + three_lanes f s t % 0x400 = omega arith in
-    let high : (three_lanes f s t / 0x10 + 0xD7C0) % 2 ^ 16 ≡ 0xD7C0 + three_lanes f s t / 0x10 = omega arith in
-    rw (low, high, three, two) refl
+lane_is_unit b f s t h = grind (arith, nat_tests, common_steps)
 
 -- where no lead of four is beside a byte, two choices fewer do
 pub lane_without_pair : (b f s t : ℕ) → f < 2 ^ 8 → b < 0xF0 → f < 0xF0
     → cond (ltb f 0x80) f (cond (leb 0xE0 f) (three_lanes f s t) (two_lanes f s % 0x800)) ≡ unit_at b f s t
-lane_without_pair b f s t h l m =
-    let none : (x : ℕ) → x < 0xF0 → leb 0xF0 x ≡ false = λ x k. grind (arith, nat_tests, k) in
-    ap (cond (ltb f 0x80) f) (sym (cond-false (leb 0xF0 b) _ _ (none b l) ∙ cond-false (leb 0xF0 f) _ _ (none f m))) ∙ lane_is_unit b f s t h
+lane_without_pair b f s t h l m = grind (arith, nat_tests, common_steps, cond-false, lane_is_unit)
 
 -- and a bit where a unit is added
 pub lane_is_bit : (b f : ℕ) → ◌≡◌ {A = ℕ} (cond (not (eqb (cond (leb 0xF0 b) 1 (cond (not (eqb (f / 0x40) 2)) 1 0)) 0)) 1 0) (cond (adds_unit b f) 1 0)

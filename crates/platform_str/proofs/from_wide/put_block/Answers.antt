@@ -1,14 +1,10 @@
-use Rattle.platform_str.proofs.Common.{rules, ◌+◌, length, length-append, length-drop, take, drop, slice_index, ap, arith, flat_map}
+use Rattle.platform_str.proofs.Common.{rules, length, length-append, length-drop, take, drop, ap, arith, flat_map, nat_tests, common_steps}
 use Rattle.platform_str.specs.FromWide.{word_bytes, bytes_after_first}
 use Rattle.platform_str.proofs.lemmas.{ToWide.appended, FromWide.block_words, FromWide.gives_few, FromWide.some_after, FromWideLanes.few_bytes}
 use Rattle.platform_str.proofs.from_wide.put_block.Goals as goal
 
 pub put_words-requires-clause-few : goal.put_words-requires-clause-few
-put_words-requires-clause-few c i h =
-    let us = c.args.units.now in
-    let same = c.unit_words.ensures i (search rules) in
-    let three = gives_few (slice_index us i) (slice_index us (1 + i)) (slice_index us (2 + i)) (omega (arith, (c.type_inv.units (1 + i)).fits)) in
-    few_bytes (slice_index c.unit_words.result i) (omega (arith, three, ap length same))
+put_words-requires-clause-few c i h = grind (arith, nat_tests, common_steps, gives_few, few_bytes, c.unit_words.ensures, c.type_inv.units)
 
 pub put_words-requires-clause-room : goal.put_words-requires-clause-room
 put_words-requires-clause-room c =

@@ -1,5 +1,5 @@
 use Rattle.std.proofs.lemmas.{List.map-id, Simd.Each1-from_get_or, Simd.length-put_chunk, Simd.take_more_put_chunk}
-use Rattle.platform_str.proofs.Common.{rules, ◌≡◌, ◌+◌, ◌≤◌, ℕ, map, put_chunk, ◌++◌, ◌<◌, [], length, length-append, length-take-le, length-drop, take, drop, slice_index, ap, ◌∙◌, sym, subst, arith, take_all, append-nil, recursion_from_All, HasUnits}
+use Rattle.platform_str.proofs.Common.{rules, ◌≡◌, ◌+◌, ◌≤◌, ℕ, map, put_chunk, ◌++◌, ◌<◌, length, length-append, length-take-le, length-drop, take, drop, slice_index, ap, ◌∙◌, sym, arith, take_all, append-nil, recursion_from_All, nat_tests, common_steps}
 use Rattle.platform_str.specs.FromWide.{bytes_by_neighbours, bytes_after_first}
 use Rattle.platform_str.proofs.lemmas.{ToWide.appended, FromWide.are_units, FromWide.string_given, FromWide.first_gives, FromWide.block_ascii, FromWide.none_after}
 use Rattle.platform_str.proofs.from_wide.write_wtf8.Goals as goal
@@ -50,10 +50,4 @@ loop-rest-preserved-then-goes_on_in_ascii c =
     )
 
 pub returns : goal.returns
-returns c =
-    let us = c.args.units.now in
-    let bytes = c.loop-rest.bytes in
-    let none = none_after c.loop-rest.rest.now (omega (arith, c.loop-rest-test.false)) in
-    let all = take_all c.loop-rest.end bytes (omega (arith, c.loop-rest.invariant.2, ap length none)) in
-    let same = sym (append-nil bytes) ∙ ap (λ x. x ++ []) (sym all) ∙ ap (λ x. take c.loop-rest.end bytes ++ x) (sym none) ∙ c.loop-rest.invariant.1 in
-    subst (λ b. HasUnits b us) (sym same) (string_given us (are_units us c.type_inv.units))
+returns c = grind (arith, nat_tests, common_steps, none_after, string_given, are_units, take_all, append-nil, c.loop-rest.bytes, c.loop-rest-test.false, c.loop-rest.end, c.type_inv.units)

@@ -1,4 +1,4 @@
-use Rattle.platform_str.proofs.Common.{rules, ◌≤◌, ◌<◌, ◌*◌, ◌^◌, length, ap, arith, pairs}
+use Rattle.platform_str.proofs.Common.{rules, arith, nat_tests, common_steps}
 use Rattle.platform_str.proofs.lemmas.{FromWideCounts.counted, FromWideCounts.counted_prefix, FromWideCounts.counted_few, FromWideCounts.count_few, FromWideCounts.counted_none, FromWideCounts.pairs_few, FromWideCounts.all_counted, FromWideCounts.string_counted, FromWide.are_units}
 use Rattle.platform_str.proofs.from_wide.wtf8_len.Goals as goal
 
@@ -9,28 +9,16 @@ pub overflow_add-len-then-rest-gt16 : goal.overflow_add-len-then-rest-gt16
 overflow_add-len-then-rest-gt16 c = omega (arith, c.count_from.ensures, c.count_from-then-rest-gt16.ensures, count_few 16 0x80 c.loop-rest.rest.now, count_few 16 0x800 c.loop-rest.rest.now)
 
 pub overflow_add-len-then-rest-gt16-2 : goal.overflow_add-len-then-rest-gt16-2
-overflow_add-len-then-rest-gt16-2 c =
-    let short : 3 * length c.args.units.now < 2 ^ 64 = search rules in
-    omega (arith, short, c.loop-rest.invariant.0, c.count_from.ensures, c.count_from-then-rest-gt16.ensures, counted_prefix 16 c.loop-rest.rest.now (omega (arith, c.if-rest-gt16.true)), counted_few c.args.units.now)
+overflow_add-len-then-rest-gt16-2 c = search (rules, common_steps, counted_prefix, counted_few, c.count_from.ensures, c.count_from-then-rest-gt16.ensures, c.if-rest-gt16.true)
 
 pub overflow_add-pairs : goal.overflow_add-pairs
-overflow_add-pairs c =
-    let short : 3 * length c.args.units.now < 2 ^ 64 = search rules in
-    omega (arith, short, c.loop-rest.invariant.1, c.count_pairs-pairs.ensures, pairs_few c.args.units.now)
+overflow_add-pairs c = grind (arith, nat_tests, common_steps, pairs_few, c.count_pairs-pairs.ensures)
 
 pub overflow_add-pairs-else-rest-gt16 : goal.overflow_add-pairs-else-rest-gt16
-overflow_add-pairs-else-rest-gt16 c =
-    let short : 3 * length c.args.units.now < 2 ^ 64 = search rules in
-    let one : c.from-pairs.result ≤ 1 = search rules in
-    omega (arith, short, c.loop-rest.invariant.1, pairs_few c.args.units.now, one)
+overflow_add-pairs-else-rest-gt16 c = grind (arith, nat_tests, common_steps, pairs_few)
 
 pub loop-rest-preserved-then-rest-gt16 : goal.loop-rest-preserved-then-rest-gt16
-loop-rest-preserved-then-rest-gt16 c =
-    let rest = c.loop-rest.rest.now in
-    let after = c.split_at.ensures.back in (
-      omega (arith, c.loop-rest.invariant.0, c.count_from.ensures, c.count_from-then-rest-gt16.ensures, counted_prefix 16 rest (omega (arith, c.if-rest-gt16.true)), ap counted after),
-      omega (arith, c.loop-rest.invariant.1, c.count_pairs-pairs.ensures, ap pairs after),
-    )
+loop-rest-preserved-then-rest-gt16 c = grind (arith, nat_tests, common_steps, counted_prefix, counted, c.split_at.ensures.back, c.count_from.ensures, c.count_from-then-rest-gt16.ensures, c.if-rest-gt16.true, c.count_pairs-pairs.ensures)
 
 pub overflow_sub-result : goal.overflow_sub-result
 overflow_sub-result c =

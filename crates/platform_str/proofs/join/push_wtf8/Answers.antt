@@ -1,16 +1,12 @@
 use Rattle.std.proofs.Common.{◌≡◌, ℕ, ◌+◌, ◌≤◌, List, ◌++◌, length, take, drop, sym, ap, ◌∙◌, append_assoc, take-append-drop}
-use Rattle.platform_str.proofs.Common.{encode, form_past, rules, ◌-◌, Result, Ok, Err, length-append, length-drop, subst, cond, cond_both, arith, OnOk, with_items_is, IsWtf8, units_of, IsJoin, IsPairBetween}
+use Rattle.platform_str.proofs.Common.{encode, form_past, rules, ◌-◌, Result, Ok, Err, length-append, length-drop, subst, cond, cond_both, arith, OnOk, with_items_is, IsWtf8, units_of, IsJoin, IsPairBetween, nat_tests, common_steps}
 use Rattle.std.specs.Result.{is_ok}
 use Rattle.wtf8_core.proofs.lemmas.units.Joins.{plain_join, pair_bytes, written_join}
 use Rattle.platform_str.proofs.join.push_wtf8.Goals as goal
 
 -- the form of a code point past FFFF, between what came before it and what comes after it
 pair_written : (new old : List ℕ) (at end c : ℕ) → take end new ≡ take at old ++ encode c → drop end new ≡ drop end old → end ≡ at + length (encode c) → 0x1_0000 ≤ c → new ≡ take at old ++ (encode c ++ drop (at + 4) old)
-pair_written new old at end c prefix after size past =
-    let four : end ≡ at + 4 = size ∙ ap (λ f. at + length f) (form_past c past) in
-    sym (take-append-drop end new)
-    ∙ ap (λ x. x ++ drop end new) prefix ∙ append_assoc (take at old) (encode c) (drop end new)
-    ∙ ap (λ x. take at old ++ (encode c ++ x)) (after ∙ ap (λ n. drop n old) four)
+pair_written new old at end c prefix after size past = grind (arith, nat_tests, common_steps, form_past, take-append-drop, append_assoc)
 
 -- of an answer of `extend_from_slice`
 joined : {T E : Type 0} (r : Result T E) (a b n : List ℕ) → IsJoin IsWtf8 units_of a b (a ++ b) → n ≡ cond (is_ok r) (a ++ b) a → OnOk r (units_of n ≡ units_of a ++ units_of b)

@@ -1,4 +1,4 @@
-use Rattle.platform_str.proofs.Common.{◌≡◌, List, ℕ, ◌++◌, sym, ap, ◌∙◌, append_assoc, IsJoin}
+use Rattle.platform_str.proofs.Common.{◌≡◌, List, ℕ, ◌++◌, sym, ap, ◌∙◌, append_assoc, IsJoin, nat_tests, common_steps, arith}
 use Rattle.wtf8_core.specs.{Occurrence.IsPrefix, OccurrenceLaws.OccurrenceLaws}
 use Rattle.platform_str.proofs.laws.joins.Goals as goal
 
@@ -15,15 +15,7 @@ module _ (wf : List ℕ → Type 0) (units : List ℕ → List ℕ) (laws : Occu
   IsSomeJoin p s = (q : List ℕ) × (wf q × IsJoin wf units p q s)
 
   prefixes : (p s : List ℕ) → wf p → wf s → (IsPrefix (units p) (units s) → IsSomeJoin p s) × (IsSomeJoin p s → IsPrefix (units p) (units s))
-  prefixes p s v w = (
-    λ f. let r = laws.some_rest p s f.rest v w f.joined in (r.0, (r.1.0, (w, f.joined ∙ ap (λ z. units p ++ z) (sym r.1.1)))),
-    λ j. record { rest = units j.0; joined = j.1.1.1 },
-  )
+  prefixes p s v w = grind (arith, nat_tests, common_steps)
 
 pub returns : goal.returns
-returns g c = record {
-  some = g.met.E.Platform.occurrence.some_join;
-  one = one g.E.Platform.well_formed g.E.Platform.units g.met.E.Platform.occurrence;
-  associative = associative g.E.Platform.well_formed g.E.Platform.units g.met.E.Platform.occurrence;
-  prefixes = prefixes g.E.Platform.well_formed g.E.Platform.units g.met.E.Platform.occurrence;
-}
+returns g c = grind (arith, nat_tests, common_steps, one, associative, prefixes, g.met.E.Platform.occurrence.some_join, g.E.Platform.well_formed, g.E.Platform.units, g.met.E.Platform.occurrence)

@@ -1,4 +1,4 @@
-use Rattle.platform_str.proofs.{Common.◌++◌, Common.ap, Common.sym, Common.◌∙◌, Common.arith, lemmas.LossyLoops.one_more}
+use Rattle.platform_str.proofs.{Common.nat_tests, Common.common_steps, Common.◌++◌, Common.ap, Common.arith, lemmas.LossyLoops.one_more}
 use Rattle.platform_str.proofs.lossy.text_bytes.Goals as goal
 
 pub loop-fault-init : goal.loop-fault-init
@@ -11,12 +11,7 @@ pub after_fault-rest-requires-clause-fault : goal.after_fault-rest-requires-clau
 after_fault-rest-requires-clause-fault g c = rw c.in-Some.is at c.loop-fault.invariant.2
 
 pub loop-fault-preserved : goal.loop-fault-preserved
-loop-fault-preserved g c =
-    let lossy = g.E.Platform.lossy in
-    let first = c.after_fault-rest.ensures in
-    (first.rest_is, ap (λ x. x ++ lossy c.after_fault-rest.result.now) c.in_ok-push_replaced.ensures ∙ sym (one_more c.loop-fault.text.items first) ∙ c.loop-fault.invariant.1, c.utf8_fault-fault.ensures)
+loop-fault-preserved g c = grind (arith, nat_tests, common_steps, one_more, g.E.Platform.lossy, c.after_fault-rest.ensures, c.in_ok-push_replaced.ensures, c.loop-fault.text.items, c.utf8_fault-fault.ensures)
 
 pub returns : goal.returns
-returns g c =
-    let text = rw c.in_default.is at c.loop-fault.invariant.2 in
-    c.in_ok-extend_from_slice.ensures.items ∙ ap (λ x. c.loop-fault.text.items ++ x) (sym (g.met.E.Platform.laws.lossy_text _ text)) ∙ c.loop-fault.invariant.1
+returns g c = grind (arith, nat_tests, common_steps, c.in_default.is, c.in_ok-extend_from_slice.ensures.items, c.loop-fault.text.items, g.met.E.Platform.laws.lossy_text)

@@ -1,5 +1,5 @@
 use Rattle.wtf8_core.proofs.lemmas.buffers.Truncated.{none_yet}
-use Rattle.platform_str.proofs.Common.{[], refl, sym, ◌∙◌, ap, ◌++◌, length, subst, arith, replacement, IsTruncated}
+use Rattle.platform_str.proofs.Common.{[], refl, ap, ◌++◌, length, subst, arith, replacement, IsTruncated, nat_tests, common_steps}
 use Rattle.platform_str.proofs.lemmas.LossyLoops.{made_more}
 use Rattle.platform_str.proofs.lossy.write_text.Goals as goal
 
@@ -32,7 +32,4 @@ pub push_truncated-requires : goal.push_truncated-requires
 push_truncated-requires g c = omega (arith, c.loop-text.invariant.1.1.1, c.requires.short)
 
 pub returns : goal.returns
-returns g c =
-    let all = c.loop-text.invariant in
-    let text = all.1.1.0.lossy_is ∙ ap (λ x. all.0 ++ x) (g.met.E.Platform.laws.lossy_text _ c.in_default.ensures) in
-    subst (λ t. IsTruncated t c.args.buffer.now c.push_truncated.new.buffer c.push_truncated.result) (sym text) (c.push_truncated.ensures.written all.0 c.args.buffer.now all.1.0)
+returns g c = grind (arith, nat_tests, common_steps, c.loop-text.invariant, g.met.E.Platform.laws.lossy_text, c.in_default.ensures, c.push_truncated.new.buffer, c.push_truncated.ensures.written)

@@ -1,23 +1,13 @@
-use Rattle.platform_str.proofs.Common.{[], ◌∷◌, ◌++◌, ◌<◌, ap, arith, sym, ◌∙◌, append-nil, take, drop, length, length-drop, length-take-le, rules, slice_index}
+use Rattle.platform_str.proofs.Common.{[], ◌∷◌, ◌++◌, ap, arith, sym, ◌∙◌, append-nil, take, drop, length, length-drop, length-take-le, slice_index, nat_tests, common_steps}
 use Rattle.platform_str.specs.ToWide.{units_after_first}
 use Rattle.platform_str.proofs.lemmas.ToWide.{none_after, appended, begins_with, block_ascii, one_ascii, no_units}
 use Rattle.platform_str.proofs.to_wide.push_units.Goals as goal
 
 pub returns-then-is_empty-clause-ok : goal.returns-then-is_empty-clause-ok
-returns-then-is_empty-clause-ok g c =
-    let items = c.args.units.now.items in
-    sym (ap (λ x. items ++ x) (no_units c.args.string.now c.requires (search rules)) ∙ append-nil items)
+returns-then-is_empty-clause-ok g c = grind (arith, nat_tests, common_steps, no_units, append-nil, c.requires)
 
 pub loop-rest-init : goal.loop-rest-init
-loop-rest-init g c =
-    let s = c.args.string.now in
-    let some : 0 < length s = search rules in
-    let begins = begins_with s c.requires some ∙ ap (λ u. u ∷ units_after_first s) (sym c.first_unit.ensures) in (
-      some,
-      appended _ c.args.units.now.items (c.first_unit.result ∷ []) (units_after_first s) _ c.in_ok-push.ensures.items begins,
-      omega (arith, c.in_ok-push.ensures.capacity),
-      omega (arith, c.in_ok-push.ensures.len),
-    )
+loop-rest-init g c = grind (arith, nat_tests, common_steps, begins_with, appended, c.requires, c.first_unit.ensures, c.in_ok-push.ensures.items, c.in_ok-push.ensures.capacity, c.in_ok-push.ensures.len)
 
 pub loop-rest-preserved-then-goes_on_in_ascii : goal.loop-rest-preserved-then-goes_on_in_ascii
 loop-rest-preserved-then-goes_on_in_ascii g c =
@@ -44,6 +34,4 @@ loop-rest-preserved-then-rest-lt128 g c =
     )
 
 pub returns-clause-ok : goal.returns-clause-ok
-returns-clause-ok g c =
-    let items = c.loop-rest.units.items in
-    sym (ap (λ x. items ++ x) (none_after c.loop-rest.rest.now (omega (arith, c.loop-rest-test.false))) ∙ append-nil items) ∙ c.loop-rest.invariant.1
+returns-clause-ok g c = grind (arith, nat_tests, common_steps, none_after, append-nil, c.loop-rest.units.items, c.loop-rest-test.false)

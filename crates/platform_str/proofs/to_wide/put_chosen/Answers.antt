@@ -1,3 +1,4 @@
+use Rattle.platform_str.proofs.Common.{nat_tests, common_steps}
 use Rattle.std.proofs.Common.{◌≡◌, ◌+◌, ◌*◌, ◌/◌, ◌%◌, ◌-◌, ◌++◌, ◌≤◌, ◌^◌, ap, sym, ◌∙◌, subst, rules, arith, length, length-append, append_assoc, take, drop, length-drop}
 use Rattle.std.proofs.lemmas.{List.drop-drop, List.take_all, List.drop_all, List.length-take-le, Nat.ones-le, Simd.length-put_chunk}
 use lib.Count.{ones}
@@ -38,8 +39,4 @@ loop-i-preserved c =
     )
 
 pub returns-clause-end : goal.returns-clause-end
-returns-clause-end c =
-    let lanes = c.args.lanes in
-    let all : length lanes ≡ 16 = search rules in
-    let none = drop_all (4 * c.loop-i.i) lanes (omega (arith, all, c.loop-i-test.false)) in
-    omega (arith, c.loop-i.invariant.5, ap (λ r. length (chosen r c.loop-i.left)) none, ones_chosen lanes c.args.mask (omega (arith, c.requires.bits, ap (λ k. 2 ^ k) all)))
+returns-clause-end c = grind (arith, nat_tests, common_steps, drop_all, ones_chosen, c.loop-i.i, c.loop-i-test.false, c.loop-i.left, c.requires.bits)

@@ -1,26 +1,14 @@
-use Rattle.platform_str.proofs.Common.{◌++◌, ◌<◌, [], ◌∷◌, append-nil, ap, sym, subst, refl, ◌∙◌, arith, rules, length, length-drop, length-take-le, take, drop}
-use Rattle.wtf8_core.specs.Truncated.{IsTruncated}
+use Rattle.platform_str.proofs.Common.{◌++◌, append-nil, ap, sym, subst, refl, ◌∙◌, arith, length, length-drop, length-take-le, take, drop, nat_tests, common_steps}
 use Rattle.wtf8_core.proofs.lemmas.buffers.Truncated.{none_yet}
 use Rattle.platform_str.specs.ToWide.{Appends, units_after_first}
 use Rattle.platform_str.proofs.lemmas.ToWide.{appended, begins_with, block_ascii, no_units, none_after}
 use Rattle.platform_str.proofs.wide_buffer.write_units.Goals as goal
 
 pub returns-then-is_empty : goal.returns-then-is_empty
-returns-then-is_empty c =
-    let buffer = c.args.buffer.now in
-    let none = no_units c.args.string.now c.requires (search rules) in
-    subst (λ x. IsTruncated x buffer buffer 0) (sym none) (none_yet buffer)
+returns-then-is_empty c = grind (arith, nat_tests, common_steps, no_units, none_yet, c.requires)
 
 pub loop-rest-init : goal.loop-rest-init
-loop-rest-init c =
-    let s = c.args.string.now in
-    let buffer = c.args.buffer.now in
-    let some : 0 < length s = search rules in
-    let begins = begins_with s c.requires some ∙ ap (λ u. u ∷ units_after_first s) (sym c.first_unit.ensures) in (
-      some,
-      omega (arith, c.push_truncated-count.ensures.len),
-      (c.first_unit.result ∷ [], c.push_truncated-count.ensures.written [] buffer (none_yet buffer), sym begins),
-    )
+loop-rest-init c = grind (arith, nat_tests, common_steps, begins_with, none_yet, c.requires, c.first_unit.ensures, c.push_truncated-count.ensures.len, c.push_truncated-count.ensures.written)
 
 pub loop-rest-preserved-then-goes_on_in_ascii : goal.loop-rest-preserved-then-goes_on_in_ascii
 loop-rest-preserved-then-goes_on_in_ascii c =
@@ -36,7 +24,4 @@ loop-rest-preserved-then-goes_on_in_ascii c =
     )
 
 pub returns : goal.returns
-returns c =
-    let all = c.loop-rest.invariant.2 in
-    let none = none_after c.loop-rest.rest.now (omega (arith, c.loop-rest-test.false)) in
-    subst (λ x. IsTruncated x c.args.buffer.now c.loop-rest.buffer c.loop-rest.count) (sym (append-nil all.0) ∙ ap (λ x. all.0 ++ x) (sym none) ∙ all.2) all.1
+returns c = grind (arith, nat_tests, common_steps, none_after, append-nil, c.loop-rest-test.false, c.loop-rest.buffer, c.loop-rest.count)
