@@ -3,7 +3,7 @@ use Rattle.std.proofs.lemmas.List.{take_at}
 use Rattle.platform_str.proofs.from_wide.fill.Goals as goal
 
 pub returns-in_default : goal.returns-in_default
-returns-in_default c = grind (arith, nat_tests, common_steps, length-take-le, length-append, c.loop-end.invariant, c.loop-end.end, c.loop-end.bytes, c.requires, c.loop-end-test.true, c.loop-end.left)
+returns-in_default c = grind (arith, nat_tests, common_steps, length-take-le, length-append, c.loop-end.invariant, c.requires, c.loop-end-test.true)
 
 pub returns : goal.returns
-returns c = grind (arith, nat_tests, common_steps, take_all, take_at, c.loop-end.invariant, c.loop-end.bytes, c.loop-end.end, c.loop-end-test.false, c.loop-end.left)
+returns c = grind (arith, nat_tests, common_steps, take_all, take_at, c.loop-end.invariant, c.loop-end-test.false)

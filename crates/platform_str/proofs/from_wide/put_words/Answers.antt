@@ -4,4 +4,4 @@ use Rattle.platform_str.proofs.lemmas.FromWideLanes.{word_stored}
 use Rattle.platform_str.proofs.from_wide.put_words.Goals as goal
 
 pub loop-i-preserved : goal.loop-i-preserved
-loop-i-preserved c = grind (arith, nat_tests, common_steps, drop_more, word_stored, length-put_chunk, append_assoc, length-take-le, length-append, c.loop-i.i, c.loop-i.end, c.loop-i.bytes, c.loop-i-test.true, c.requires.few, c.requires.room)
+loop-i-preserved c = grind (arith, nat_tests, common_steps, drop_more, word_stored, length-put_chunk, append_assoc, length-take-le, length-append, c.loop-i-test.true, c.requires.few, c.requires.room)

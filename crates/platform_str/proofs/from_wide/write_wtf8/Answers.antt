@@ -50,4 +50,4 @@ loop-rest-preserved-then-goes_on_in_ascii c =
     )
 
 pub returns : goal.returns
-returns c = grind (arith, nat_tests, common_steps, none_after, string_given, are_units, take_all, append-nil, c.loop-rest.bytes, c.loop-rest-test.false, c.loop-rest.end, c.type_inv.units)
+returns c = grind (arith, nat_tests, common_steps, none_after, string_given, are_units, take_all, append-nil, c.loop-rest-test.false, c.type_inv.units)

@@ -18,4 +18,4 @@ module _ (wf : List ℕ → Type 0) (units : List ℕ → List ℕ) (laws : Occu
   prefixes p s v w = grind (arith, nat_tests, common_steps)
 
 pub returns : goal.returns
-returns g c = grind (arith, nat_tests, common_steps, one, associative, prefixes, g.met.E.Platform.occurrence.some_join, g.E.Platform.well_formed, g.E.Platform.units, g.met.E.Platform.occurrence)
+returns g c = grind (arith, nat_tests, common_steps, one, associative, prefixes, g.met.E.Platform.occurrence.some_join, g.met.E.Platform.occurrence)

@@ -11,7 +11,7 @@ pub after_fault-rest-requires-clause-fault : goal.after_fault-rest-requires-clau
 after_fault-rest-requires-clause-fault g c = rw c.in-Some.is at c.loop-fault.invariant.2
 
 pub loop-fault-preserved : goal.loop-fault-preserved
-loop-fault-preserved g c = grind (arith, nat_tests, common_steps, one_more, g.E.Platform.lossy, c.after_fault-rest.ensures, c.in_ok-push_replaced.ensures, c.loop-fault.text.items, c.utf8_fault-fault.ensures)
+loop-fault-preserved g c = grind (arith, nat_tests, common_steps, one_more, c.after_fault-rest.ensures, c.in_ok-push_replaced.ensures, c.utf8_fault-fault.ensures)
 
 pub returns : goal.returns
-returns g c = grind (arith, nat_tests, common_steps, c.in_default.is, c.in_ok-extend_from_slice.ensures.items, c.loop-fault.text.items, g.met.E.Platform.laws.lossy_text)
+returns g c = grind (arith, nat_tests, common_steps, c.in_default.is, c.in_ok-extend_from_slice.ensures.items, g.met.E.Platform.laws.lossy_text)

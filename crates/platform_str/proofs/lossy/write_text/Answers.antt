@@ -32,4 +32,4 @@ pub push_truncated-requires : goal.push_truncated-requires
 push_truncated-requires g c = omega (arith, c.loop-text.invariant.1.1.1, c.requires.short)
 
 pub returns : goal.returns
-returns g c = grind (arith, nat_tests, common_steps, c.loop-text.invariant, g.met.E.Platform.laws.lossy_text, c.in_default.ensures, c.push_truncated.new.buffer, c.push_truncated.ensures.written)
+returns g c = grind (arith, nat_tests, common_steps, c.loop-text.invariant, g.met.E.Platform.laws.lossy_text, c.in_default.ensures, c.push_truncated.ensures.written)

@@ -34,4 +34,4 @@ loop-rest-preserved-then-rest-lt128 g c =
     )
 
 pub returns-clause-ok : goal.returns-clause-ok
-returns-clause-ok g c = grind (arith, nat_tests, common_steps, none_after, append-nil, c.loop-rest.units.items, c.loop-rest-test.false)
+returns-clause-ok g c = grind (arith, nat_tests, common_steps, none_after, append-nil, c.loop-rest-test.false)

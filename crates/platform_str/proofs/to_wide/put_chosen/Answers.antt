@@ -39,4 +39,4 @@ loop-i-preserved c =
     )
 
 pub returns-clause-end : goal.returns-clause-end
-returns-clause-end c = grind (arith, nat_tests, common_steps, drop_all, ones_chosen, c.loop-i.i, c.loop-i-test.false, c.loop-i.left, c.requires.bits)
+returns-clause-end c = grind (arith, nat_tests, common_steps, drop_all, ones_chosen, c.loop-i-test.false, c.requires.bits)

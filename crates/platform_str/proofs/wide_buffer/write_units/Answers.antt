@@ -24,4 +24,4 @@ loop-rest-preserved-then-goes_on_in_ascii c =
     )
 
 pub returns : goal.returns
-returns c = grind (arith, nat_tests, common_steps, none_after, append-nil, c.loop-rest-test.false, c.loop-rest.buffer, c.loop-rest.count)
+returns c = grind (arith, nat_tests, common_steps, none_after, append-nil, c.loop-rest-test.false)
