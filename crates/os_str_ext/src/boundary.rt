@@ -86,7 +86,5 @@ pub(crate) fn part<E: Platform>(string: OsStr<'_, E>, start: usize, end: usize) 
     ensures units { IsPartInUnits E.units (bytes string.entry) start end (bytes result) }
 {
     laws::boundaries();
-    let (prefix, _) = split_at(string, end);
-    let (_, part) = split_at(prefix, start);
-    part
+    split_at(split_at(string, end).0, start).1
 }

@@ -17,14 +17,12 @@ pub(crate) fn split_first_char<E: Platform>(string: OsStr<'_, E>) -> Option<(cha
 {
     let bytes = string.as_encoded_bytes();
     if !bytes.is_empty() && bytes[0] < 0x80 {
-        let (_, rest) = split_at(string, 1);
-        return Some((char::from(bytes[0]), rest));
+        return Some((char::from(bytes[0]), split_at(string, 1).1));
     }
     let Some((character, size)) = first_char(bytes) else {
         return None;
     };
-    let (_, rest) = split_at(string, size);
-    Some((character, rest))
+    Some((character, split_at(string, size).1))
 }
 
 /// The character with which a string ends, and the rest of the string.

@@ -55,11 +55,7 @@ pub(crate) fn occurs_at(bytes: &[u8], needle: &[u8], at: usize) -> bool
     ensures { IsTrue result ↔ NeedleOccursAt bytes.now needle.now at }
 {
     let (_, rest) = bytes.split_at(at);
-    if rest.len() < needle.len() {
-        return false;
-    }
-    let (prefix, _) = rest.split_at(needle.len());
-    are_same(prefix, needle)
+    needle.len() <= rest.len() && are_same(rest.split_at(needle.len()).0, needle)
 }
 
 /// Whether an occurrence of the needle ends at index `at`.
@@ -192,8 +188,7 @@ fn next_candidate(finder: &Finder, bytes: &[u8], from: usize) -> Option<usize>
         (Nowhere (NeedleOccursAt bytes.now needle) from (length bytes.now + 1))
         (NoneBefore (NeedleOccursAt bytes.now needle) from (length bytes.now)) }
 {
-    let (_, rest) = bytes.split_at(from);
-    match finder.find_prefilter(rest) {
+    match finder.find_prefilter(bytes.split_at(from).1) {
         Some(at) => Some(from + at),
         None => None,
     }
@@ -205,8 +200,7 @@ fn first_from(bytes: &[u8], needle: &[u8], from: usize) -> Option<usize>
     requires { from ≤ length bytes.now }
     ensures { FindsNeedle bytes.now needle.now from result }
 {
-    let (_, rest) = bytes.split_at(from);
-    match memmem::find(rest, needle) {
+    match memmem::find(bytes.split_at(from).1, needle) {
         Some(at) => Some(from + at),
         None => None,
     }
@@ -233,6 +227,5 @@ fn last_by_end(bytes: &[u8], needle: &[u8]) -> Option<usize>
         }
         end = at;
     }
-    let (prefix, _) = bytes.split_at(end);
-    memmem::rfind(prefix, needle)
+    memmem::rfind(bytes.split_at(end).0, needle)
 }

@@ -91,8 +91,7 @@ impl<'a, E: Platform> NonUnicodeOsStr<'a, E> {
     {
         let bytes = self.string.as_encoded_bytes();
         let (number, size) = E::first_unit(bytes);
-        let (_, rest) = bytes.split_at(size);
-        let rest = OsStr::from_encoded_bytes_unchecked(rest);
+        let rest = OsStr::from_encoded_bytes_unchecked(bytes.split_at(size).1);
         (OsUnit { number }, NonUnicodeOsStr::new(rest))
     }
 }

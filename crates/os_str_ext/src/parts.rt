@@ -21,8 +21,7 @@ pub(crate) fn strip_prefix<'a, E: Platform>(
     if !has_prefix(string.as_encoded_bytes(), text) {
         return None;
     }
-    let (_, rest) = split_at(string, text.len());
-    Some(rest)
+    Some(split_at(string, text.len()).1)
 }
 
 /// The same as [`starts_with`]. It isn't inlined, so that a caller gets an answer and no jump for each
@@ -46,8 +45,7 @@ pub(crate) fn strip_suffix<'a, E: Platform>(
     if !ends_with(string.as_encoded_bytes(), text) {
         return None;
     }
-    let (rest, _) = split_at(string, string.len() - text.len());
-    Some(rest)
+    Some(split_at(string, string.len() - text.len()).0)
 }
 
 /// The string with all prefixes that are the text repeatedly removed; the whole string if the text
@@ -61,8 +59,7 @@ pub(crate) fn trim_start<'a, E: Platform>(string: OsStr<'a, E>, text: &str) -> O
     }
     laws::boundaries();
     let at = start_run(string.as_encoded_bytes(), text.as_bytes());
-    let (_, rest) = split_at(string, at);
-    rest
+    split_at(string, at).1
 }
 
 /// The string with all suffixes that are the text repeatedly removed; the whole string if the text
@@ -76,8 +73,7 @@ pub(crate) fn trim_end<'a, E: Platform>(string: OsStr<'a, E>, text: &str) -> OsS
     }
     laws::boundaries();
     let at = end_run(string.as_encoded_bytes(), text.as_bytes());
-    let (rest, _) = split_at(string, at);
-    rest
+    split_at(string, at).0
 }
 
 /// The parts before and after the first occurrence of the text, or `None` if it doesn't occur.
@@ -110,7 +106,5 @@ fn around<E: Platform>(string: OsStr<'_, E>, start: usize, end: usize) -> Parts<
     ensures prefix { bytes result.0 ≡ take start (bytes string.entry) }
     ensures suffix { bytes result.1 ≡ drop end (bytes string.entry) }
 {
-    let (prefix, _) = split_at(string, start);
-    let (_, suffix) = split_at(string, end);
-    (prefix, suffix)
+    (split_at(string, start).0, split_at(string, end).1)
 }

@@ -19,9 +19,6 @@ pub(crate) fn repeat<E: Platform, A: Allocator>(
 {
     let encoded = string.as_encoded_bytes();
     let mut vec = Vec::new(alloc);
-    if count == 0 {
-        return Ok(OsString::from_encoded_bytes_unchecked(vec));
-    }
     if encoded.is_empty() {
         return Ok(OsString::from_encoded_bytes_unchecked(vec));
     }

@@ -37,11 +37,7 @@ pub(crate) fn starts_with(bytes: &[u8], text: &str) -> bool
     ensures edge { IsTrue result → IsBoundary bytes.now (length text.now) }
 {
     laws::boundaries();
-    if bytes.len() < text.len() {
-        return false;
-    }
-    let (prefix, _) = bytes.split_at(text.len());
-    are_same(prefix, text.as_bytes())
+    text.len() <= bytes.len() && are_same(bytes.split_at(text.len()).0, text.as_bytes())
 }
 
 /// Whether the bytes end with the text.
@@ -52,9 +48,6 @@ pub(crate) fn ends_with(bytes: &[u8], text: &str) -> bool
     ensures fits { IsTrue result → length text.now ≤ length bytes.now }
 {
     laws::boundaries();
-    if bytes.len() < text.len() {
-        return false;
-    }
-    let (_, suffix) = bytes.split_at(bytes.len() - text.len());
-    are_same(suffix, text.as_bytes())
+    text.len() <= bytes.len()
+        && are_same(bytes.split_at(bytes.len() - text.len()).1, text.as_bytes())
 }

@@ -111,7 +111,6 @@ fn split_first_symbol<E: Platform>(string: OsStr<'_, E>) -> Option<(Symbol, OsSt
     }
     let bytes = string.as_encoded_bytes();
     let (number, size) = E::first_unit(bytes);
-    let (_, rest) = bytes.split_at(size);
-    let rest = OsStr::from_encoded_bytes_unchecked(rest);
+    let rest = OsStr::from_encoded_bytes_unchecked(bytes.split_at(size).1);
     Some((Symbol::Unit(OsUnit { number }), rest))
 }

@@ -3,14 +3,10 @@ use Rattle.std.proofs.Common.{true-eqb}
 use Rattle.os_str_ext.proofs.lemmas.Repeats.{no_times, of_nothing, once_more}
 use Rattle.os_str_ext.proofs.repeat.repeat.Goals as goal
 
-pub returns-then-count-eq0-clause-units : goal.returns-then-count-eq0-clause-units
-returns-then-count-eq0-clause-units g c =
-    (no_times g.E.Platform.well_formed g.E.Platform.units g.met.E.Platform.occurrence (bytes c.args.string) _ c.args.count (ap (λ v. v.items) c.from_encoded_bytes_unchecked.ensures ∙ c.new-vec.ensures.items) c.if-count-eq0.true).1
-
 pub returns-then-is_empty-clause-units : goal.returns-then-is_empty-clause-units
 returns-then-is_empty-clause-units g c =
     let none : length (bytes c.args.string) ≡ 0 = ap length (sym c.as_encoded_bytes-encoded.ensures.value) ∙ true-eqb _ 0 c.if-is_empty.ensures in
-    (of_nothing g.E.Platform.well_formed g.E.Platform.units g.met.E.Platform.occurrence (bytes c.args.string) _ c.args.count (ap (λ v. v.items) c.from_encoded_bytes_unchecked-then-is_empty.ensures ∙ c.new-vec.ensures.items) none).1
+    (of_nothing g.E.Platform.well_formed g.E.Platform.units g.met.E.Platform.occurrence (bytes c.args.string) _ c.args.count (ap (λ v. v.items) c.from_encoded_bytes_unchecked.ensures ∙ c.new-vec.ensures.items) none).1
 
 pub loop-init : goal.loop-init
 loop-init g c = no_times g.E.Platform.well_formed g.E.Platform.units g.met.E.Platform.occurrence c.as_encoded_bytes-encoded.result.now _ 0 (c.reserve_exact.ensures.items ∙ c.new-vec.ensures.items) refl
