@@ -132,8 +132,7 @@ fn clear_from(bytes: &[u8], at: usize) -> usize
     if bytes.len() - at <= BLOCK + 1 {
         return 0;
     }
-    let (_, rest) = bytes.split_at(at);
-    clear_len(rest)
+    clear_len(bytes.split_at(at).1)
 }
 
 /// How many bytes from an index on aren't suspects, as far as a copy of them says, with zeros after it.

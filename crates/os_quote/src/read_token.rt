@@ -25,12 +25,8 @@ pub(crate) fn split_backslash(text: &str) -> Option<(&str, &str)>
         (λ parts. IsCutAtToken is_any text.now parts.0.now backslash parts.1.now) }
 {
     let (prefix, following) = cut_backslash(text.as_bytes())?;
-    Some(unsafe {
-        (
-            str::from_utf8_unchecked(prefix),
-            str::from_utf8_unchecked(following),
-        )
-    })
+    let prefix = unsafe { str::from_utf8_unchecked(prefix) };
+    Some((prefix, unsafe { str::from_utf8_unchecked(following) }))
 }
 
 /// The same of bytes, which may not be a text. Where one token follows another, no search is begun.

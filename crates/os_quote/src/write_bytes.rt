@@ -95,8 +95,7 @@ fn split_byte<E: Platform>(bytes: &[u8]) -> Option<(u8, &[u8])>
     if unit >= 0x100 || (unit < 0x80) != is_ascii {
         return None;
     }
-    let (_, rest) = bytes.split_at(size);
-    Some((unit as u8, rest))
+    Some((unit as u8, bytes.split_at(size).1))
 }
 
 /// Writes the text of the first byte or, where all is shown, the first character from an index on, and
@@ -142,8 +141,7 @@ fn put_character<'a>(
         return None;
     }
     texts[at..at + 4].copy_from_slice(four);
-    let (_, rest) = bytes.split_at(len);
-    Some((at + len, rest))
+    Some((at + len, bytes.split_at(len).1))
 }
 
 /// Writes the text of a byte from an index on, and returns the index after it. It also overwrites up to

@@ -37,10 +37,8 @@ impl TokenText {
     pub(crate) fn of_backslash() -> TokenText
         ensures { result ≡ item_text Backslash }
     {
-        TokenText {
-            bytes: [b'\\', b'\\', 0, 0, 0, 0, 0, 0, 0, 0],
-            len: 2,
-        }
+        let bytes = [b'\\', b'\\', 0, 0, 0, 0, 0, 0, 0, 0];
+        TokenText { bytes, len: 2 }
     }
 
     /// `\xHH`.
@@ -49,10 +47,8 @@ impl TokenText {
         ensures { result ≡ item_text (ByteUnit byte) }
     {
         let (a, b) = digits(byte);
-        TokenText {
-            bytes: [b'\\', b'x', a, b, 0, 0, 0, 0, 0, 0],
-            len: 4,
-        }
+        let bytes = [b'\\', b'x', a, b, 0, 0, 0, 0, 0, 0];
+        TokenText { bytes, len: 4 }
     }
 
     /// `\uHHHH`.
@@ -62,10 +58,8 @@ impl TokenText {
     {
         let (a, b) = digits((number / 0x100) as u8);
         let (c, d) = digits((number % 0x100) as u8);
-        TokenText {
-            bytes: [b'\\', b'u', a, b, c, d, 0, 0, 0, 0],
-            len: 6,
-        }
+        let bytes = [b'\\', b'u', a, b, c, d, 0, 0, 0, 0];
+        TokenText { bytes, len: 6 }
     }
 
     /// `\u{H..}` of five or six digits.
@@ -78,16 +72,12 @@ impl TokenText {
         let (a, b) = digits((low / 0x100) as u8);
         let (c, d) = digits((low % 0x100) as u8);
         if number >= 0x10_0000 {
-            return TokenText {
-                bytes: [b'\\', b'u', b'{', b'1', b'0', a, b, c, d, b'}'],
-                len: 10,
-            };
+            let bytes = [b'\\', b'u', b'{', b'1', b'0', a, b, c, d, b'}'];
+            return TokenText { bytes, len: 10 };
         }
         let (zero, first) = digits((number / 0x1_0000) as u8);
-        TokenText {
-            bytes: [b'\\', b'u', b'{', first, a, b, c, d, b'}', zero],
-            len: 9,
-        }
+        let bytes = [b'\\', b'u', b'{', first, a, b, c, d, b'}', zero];
+        TokenText { bytes, len: 9 }
     }
 }
 
@@ -97,8 +87,6 @@ fn digits(byte: u8) -> (u8, u8)
     ensures first { result.0 ≡ upper_hex_digit (byte / 16) }
     ensures second { result.1 ≡ upper_hex_digit (byte % 16) }
 {
-    (
-        upper_hex_digit(byte / 16) as u8,
-        upper_hex_digit(byte % 16) as u8,
-    )
+    let (high, low) = (byte / 16, byte % 16);
+    (upper_hex_digit(high) as u8, upper_hex_digit(low) as u8)
 }

@@ -80,8 +80,7 @@ fn walk<E: Platform, S: Sink>(form: Form, string: OsStr<'_, E>, sink: &mut S) ->
             // its number was asked before, whether it is one byte
             let (unit, size) = E::first_unit(rest);
             write_unit(unit, sink)?;
-            let (_, following) = rest.split_at(size);
-            rest = following;
+            rest = rest.split_at(size).1;
         }
     }
     Ok(())
