@@ -11,3 +11,4 @@ pub mod Joined
 pub mod RelativeParts
 pub mod Simple
 pub mod Divided
+pub mod ReadCalls

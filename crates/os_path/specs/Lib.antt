@@ -6,3 +6,7 @@ pub mod Ancestors
 pub mod Converted
 pub mod Keys
 pub mod Divided
+pub mod ErrorText
+pub mod Strings
+pub mod Reserved
+pub mod Compared

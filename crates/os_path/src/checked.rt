@@ -1,7 +1,7 @@
 //! Paths below a base: each is a string of the base's platform.
 ghost use Rattle.std.specs.Prelude.{IfOk, IfErr};
 ghost use Rattle.platform_str.specs.Strings.{bytes, path_vec_of};
-ghost use Rattle.path_building.specs.Checked.{IsCheckedJoin, IsJoinFault};
+ghost use Rattle.path_building.specs.Checked.{IsCheckedJoin, IsBelowBase, IsJoinFault};
 
 use crate::style::PathStyle;
 use path_building::JoinError;
@@ -16,14 +16,18 @@ pub(crate) fn join_checked<E: PathStyle, A: Allocator + Clone>(
 ) -> Result<PathBuf<E, A>, JoinError>
     ensures ok { IfOk result (λ joined. IsCheckedJoin E.follows
         (bytes base.entry) (bytes path.entry) (path_vec_of joined).items) }
+    ensures below { IfOk result (λ joined. IsBelowBase E.follows
+        (bytes base.entry) (path_vec_of joined).items) }
     ensures err { IfErr result
         (λ error. IsJoinFault E.follows (bytes base.entry) (bytes path.entry) error) }
 {
-    let joined = path_building::join_checked(
+    match path_building::join_checked(
         alloc,
         E::style(),
         base.as_encoded_bytes(),
         path.as_encoded_bytes(),
-    )?;
-    Ok(PathBuf::from(OsString::from_encoded_bytes_unchecked(joined)))
+    ) {
+        Ok(joined) => Ok(PathBuf::from(OsString::from_encoded_bytes_unchecked(joined))),
+        Err(error) => Err(error),
+    }
 }

@@ -41,6 +41,7 @@ impl<'a, E: PathStyle> Components<'a, E> {
         ensures items { AreComponents E.follows (bytes string.entry) result.items }
         ensures style { result.style ≡ E.follows }
         ensures path { result.path ≡ bytes string.entry }
+        ensures taken { result.taken ≡ 0 }
     {
         Components {
             left: path_rules::Components::new(E::style(), string.as_encoded_bytes()),
@@ -48,7 +49,7 @@ impl<'a, E: PathStyle> Components<'a, E> {
         }
     }
 
-    /// The part of the path that has the components that are left (std's `Components::as_path`).
+    /// The part of the path where the components are that are left (std's `Components::as_path`).
     ///
     /// ```
     /// use os_path::PathExt;
@@ -62,7 +63,8 @@ impl<'a, E: PathStyle> Components<'a, E> {
     ///
     /// [`path_rules::Components::as_path`] says where it begins and ends.
     pub fn as_path(&self) -> Path<'a, E>
-        ensures { IsLeft self.now.style self.now.path self.now.items (path_bytes result) }
+        ensures { IsLeft self.now.style self.now.path self.now.taken self.now.items
+            (path_bytes result) }
     {
         Path::new(OsStr::from_encoded_bytes_unchecked(self.left.as_path()))
     }
@@ -79,7 +81,7 @@ impl<'a, E: PathStyle> Iterator for Components<'a, E> {
         let Some(item) = self.left.next() else {
             return None;
         };
-        Some(string_of(item))
+        Some(formed_component(item))
     }
 }
 
@@ -90,12 +92,14 @@ impl<'a, E: PathStyle> DoubleEndedIterator for Components<'a, E> {
         let Some(item) = self.left.next_back() else {
             return None;
         };
-        Some(string_of(item))
+        Some(formed_component(item))
     }
 }
 
-/// A component of well-formed bytes, as a string.
-fn string_of<'a, E: PathStyle>(item: Component<&'a [u8]>) -> Component<OsStr<'a, E>>
+/// A component of well-formed bytes, as one of strings.
+pub(crate) fn formed_component<'a, E: PathStyle>(
+    item: Component<&'a [u8]>,
+) -> Component<OsStr<'a, E>>
     requires { IsFormed E.well_formed (item_of item) }
     ensures { os_item_of result ≡ item_of item.entry }
 {

@@ -1,5 +1,5 @@
 //! The calls that every path of a platform has.
-ghost use Rattle.std.specs.Prelude.{List, ℕ, ◌≡◌, ◌↔◌, IsTrue, MatchOption, Bool, Some, IfOk, IfErr};
+ghost use Rattle.std.specs.Prelude.{List, ℕ, ◌≡◌, ◌↔◌, IsTrue, MatchOption, Bool, Some, IfOk, IfErr, map};
 ghost use Rattle.platform_str.specs.Strings.{bytes, path_bytes, path_vec_of};
 ghost use Rattle.path_building.specs.Join.{IsJoin};
 ghost use Rattle.path_building.specs.FileName.{IsNamed, IsExtensionSet, IsExtensionAdded};
@@ -9,30 +9,38 @@ ghost use Rattle.path_rules.specs.Components.{AreComponents};
 ghost use Rattle.path_rules.specs.Parent.{IsParent, HasNoParent, HasFileName, HasNoFileName};
 ghost use Rattle.path_rules.specs.Root.{HasRoot, IsAbsolute};
 ghost use Rattle.path_rules.specs.Component.{Item};
-ghost use Rattle.path_rules.specs.Compare.{StartsWith, EndsWith};
+ghost use Rattle.path_rules.specs.Compare.{StartsWith, EndsWith, HaveAlikeComponents};
 ghost use Rattle.path_rules.specs.Strip.{IsStripped};
 ghost use Rattle.path_rules.specs.Simplified.{IsSimplified};
 ghost use Rattle.path_rules.specs.StyleRules.{rules_of_style};
 ghost use Rattle.path_rules.specs.Trailing.{EndsWithSeparator, TrimsTrailing};
 ghost use Rattle.path_building.specs.Normalized.{IsNormalized, IsNormalizeFault};
 ghost use Rattle.path_building.specs.Cleaned.{IsCleaned};
-ghost use Rattle.path_building.specs.Checked.{IsCheckedJoin, IsJoinFault};
+ghost use Rattle.path_building.specs.Checked.{IsCheckedJoin, IsBelowBase, IsJoinFault};
 ghost use Rattle.path_building.specs.Relative.{IsRelativeFrom};
 ghost use Rattle.path_building.specs.Restyled.{IsRestyled};
 ghost use Rattle.os_path.specs.Converted.{IsConvertFault};
 ghost use Rattle.std.specs.Option.{option_map};
 ghost use Rattle.os_path.specs.Prefixes.{os_kind_of, HasPrefix, HasNoPrefix};
+ghost use Rattle.os_path.specs.Compared.{IsOrder};
+ghost use Rattle.os_path.specs.Reserved.{IsReservedPath};
+ghost use Rattle.os_path.specs.Strings.{string_of};
 ghost use Rattle.os_path.specs.Names.{HasFileStem, HasFilePrefix, HasExtension, LacksExtension};
 
 use crate::ancestors::Ancestors;
 use crate::components::Components;
+use crate::iter::Iter;
+use crate::reserved::is_reserved_path;
 use crate::style::PathStyle;
 use crate::styles::ConvertError;
-use crate::{built, checked, normal, parts, prefixes, relative, simplify, stripped, styles};
+use crate::{
+    built, checked, compared, normal, parts, prefixes, relative, simplify, stripped, styles,
+};
 use path_building::{JoinError, NormalizeError};
 use path_rules::Prefix;
 use platform_str::{OsStr, Path, PathBuf};
 use std::alloc::{AllocError, Allocator};
+use std::cmp::Ordering;
 
 /// The calls of std's `Path` that look at the path alone, for a path of any platform.
 ///
@@ -77,8 +85,29 @@ pub trait PathExt<'a>: Sized + Copy {
         ensures items { AreComponents Self.Platform.follows (bytes_of self) result.items }
         ensures style { result.style ≡ Self.Platform.follows }
         ensures path { result.path ≡ bytes_of self }
+        ensures taken { result.taken ≡ 0 }
     {
         Components::new(OsStr::from_encoded_bytes_unchecked(self.path_bytes()))
+    }
+
+    /// The components as strings, from both ends (std's `Path::iter`); a root is the separator that
+    /// is written.
+    ///
+    /// ```
+    /// use os_path::{PathExt, path};
+    /// use platform_str::{OsStr, Windows};
+    ///
+    /// let mut left = path::<Windows>("c:/a/./b").iter();
+    /// assert!(rt; left.next() == Some(OsStr::new("c:")));
+    /// assert!(rt; left.next() == Some(OsStr::new("\\")));
+    /// assert!(rt; left.next_back() == Some(OsStr::new("b")));
+    /// assert!(rt; left.next() == Some(OsStr::new("a")) && left.next().is_none());
+    /// ```
+    final fn iter(self) -> Iter<'a, Self::Platform>
+        ensures { (items : List Item) × (AreComponents Self.Platform.follows (bytes_of self) items
+            × (result ≡ map (string_of Self.Platform.follows) items)) }
+    {
+        Iter::new(self.components())
     }
 
     /// The path without its last component (std's `Path::parent`); `None` if the path has no
@@ -327,6 +356,64 @@ pub trait PathExt<'a>: Sized + Copy {
         }
     }
 
+    /// Whether both paths have the same components (std's `==` of paths); drives are the same in
+    /// upper and lower case.
+    ///
+    /// ```
+    /// use os_path::{PathExt, path};
+    /// use platform_str::Unix;
+    ///
+    /// assert!(rt; path::<Unix>("/usr//lib/").equals(path("/usr/./lib")));
+    /// assert!(rt; !path::<Unix>("a").equals(path("./a")));
+    /// ```
+    final fn equals(self, other: Path<'_, Self::Platform>) -> bool
+        ensures { IsTrue result
+            ↔ HaveAlikeComponents Self.Platform.follows (bytes_of self) (path_bytes other.entry) }
+    {
+        compared::equals(
+            OsStr::from_encoded_bytes_unchecked(self.path_bytes()),
+            other.as_os_str(),
+        )
+    }
+
+    /// The order of both paths by their components (std's `Ord` of paths). As the key of a map a
+    /// path is a [`crate::ByComponents`].
+    ///
+    /// ```
+    /// use os_path::{PathExt, path};
+    /// use platform_str::Unix;
+    /// use std::cmp::Ordering;
+    ///
+    /// assert!(rt; path::<Unix>("a/b").compare(path("a-b")) == Ordering::Less);
+    /// assert!(rt; path::<Unix>("a/b").compare(path("a//b/")) == Ordering::Equal);
+    /// ```
+    final fn compare(self, other: Path<'_, Self::Platform>) -> Ordering
+        ensures { IsOrder Self.Platform.follows (bytes_of self) (path_bytes other.entry) result }
+    {
+        compared::compare(
+            OsStr::from_encoded_bytes_unchecked(self.path_bytes()),
+            other.as_os_str(),
+        )
+    }
+
+    /// Whether a name of the path is one that Windows keeps for itself (CPython 3.13's
+    /// `isreserved`, of a whole path), by [`crate::is_reserved`]. A path of another platform than
+    /// Windows has no such name.
+    ///
+    /// ```
+    /// use os_path::{PathExt, path};
+    /// use platform_str::{Unix, Windows};
+    ///
+    /// assert!(rt; path::<Windows>("C:\\a\\nul.txt").is_reserved());
+    /// assert!(rt; path::<Windows>("a./b").is_reserved() && path::<Windows>("x/a:b").is_reserved());
+    /// assert!(rt; !path::<Windows>("C:..\\a").is_reserved() && !path::<Unix>("nul").is_reserved());
+    /// ```
+    final fn is_reserved(self) -> bool
+        ensures { IsTrue result ↔ IsReservedPath Self.Platform.follows (bytes_of self) }
+    {
+        is_reserved_path(OsStr::<Self::Platform>::from_encoded_bytes_unchecked(self.path_bytes()))
+    }
+
     // Separators at the end.
 
     /// Whether the last byte is a separator (std's `Path::has_trailing_sep`).
@@ -345,7 +432,8 @@ pub trait PathExt<'a>: Sized + Copy {
     }
 
     /// The path without the separators at its end (std's `Path::trim_trailing_sep`). A path that
-    /// has a root and no parent is kept as it is.
+    /// has a root and no parent is kept as it is. After `\\?\` a `/` is part of a name and stays,
+    /// where std takes it off.
     ///
     /// ```
     /// use os_path::PathExt;
@@ -363,11 +451,13 @@ pub trait PathExt<'a>: Sized + Copy {
     // Normal forms.
 
     /// The path without `\\?\`, if that names the same path (the crate dunce's `simplified`); any
-    /// other path is answered as it is, and so is each path of another platform than Windows.
+    /// other path is returned as it is, and so is each path of another platform than Windows.
     ///
-    /// It is taken off before a drive, if no component is `.` or `..`, none is reserved
-    /// (`path_rules::is_reserved`) or longer than 255 UTF-16 code units, and the path isn't longer
-    /// than 260. A name with a lone surrogate may be among them.
+    /// `\\?\` is taken off before a drive and its root, if no component is `.` or `..`, none is
+    /// reserved (`path_rules::is_reserved`) or longer than 255 UTF-16 code units, and the path isn't
+    /// longer than 260. A name with a lone surrogate may be among them. The path that is returned is
+    /// absolute, has a root and has the same components below its prefix exactly as the path
+    /// (`path_rules::laws::simplified_place`); so `\\?\C:` stays.
     ///
     /// ```
     /// use os_path::PathExt;
@@ -389,8 +479,10 @@ pub trait PathExt<'a>: Sized + Copy {
     /// no name is a symbolic link.
     ///
     /// A `.` at the start of a path without a root is kept, a path whose prefix begins with `\\?\`
-    /// isn't resolved, and a first name that by itself would be read as a prefix gets `.\` before
-    /// it. A normal form is its own (`path_building::laws::normalized_again`).
+    /// isn't resolved, a first name that by itself would be read as a prefix gets `.\` before it,
+    /// and a root before the name `??` gets `\.` before it, since Windows reads `\??\` as `\\?\`
+    /// (`path_building::laws::no_object`). A normal form is its own
+    /// (`path_building::laws::normalized_again`).
     ///
     /// # Errors
     ///
@@ -426,8 +518,8 @@ pub trait PathExt<'a>: Sized + Copy {
     /// at a root (Go's `filepath.Clean`, CPython's `normpath`), in new memory.
     ///
     /// A `..` that has neither a name nor a root before it is kept, and the empty path is `.`. A
-    /// path whose prefix begins with `\\?\` and a first name that would be read as a prefix are
-    /// treated as by [`PathExt::normalize`]. A clean path is its own clean form
+    /// path whose prefix begins with `\\?\`, a first name that would be read as a prefix and the name
+    /// `??` after a root are treated as by [`PathExt::normalize`]. A clean path is its own clean form
     /// (`path_building::laws::cleaned_again`).
     ///
     /// # Errors
@@ -524,16 +616,21 @@ pub trait PathExt<'a>: Sized + Copy {
     /// (typed-path's `join_checked`): the components of this path, and after them the names of the
     /// other, in which `.` and `..` are resolved, written with the main separator.
     ///
-    /// The other path is refused if it has a prefix or a root, or if a `..` would leave this one; on
-    /// Windows also if one of its names has a colon or is reserved. So no path leaves this one
-    /// (`path_building::laws::joined_below`), unless a name is a symbolic link.
+    /// The other path is rejected if it has a NUL, a prefix or a root, or if a `..` would leave this
+    /// one; on Windows also if one of its names has a colon or is reserved. This path is rejected if
+    /// it has a NUL, and on Windows if it is no place of its own, as `\\server`. If it is a prefix
+    /// alone and begins with `\\?\`, as `\\?\C:`, it gets its root. So the result has no NUL, and no
+    /// path leaves this one (clause `below`, `path_building::laws::joined_below`), unless a name is a
+    /// symbolic link.
     ///
     /// # Errors
     ///
-    /// The first of these that holds: `Prefix` if the other path has a prefix; `Root` if it has a
-    /// root; `Leaves` if a `..` has no name of it before it to take away; `Stream` if a name of a
-    /// Windows path has a colon; `Reserved` if one is reserved; `Base` if this path is a prefix
-    /// alone that begins with `\\?\`, to which a name would belong; `Memory` if an allocation fails.
+    /// The first of these that holds: `BaseNul` with the index of this path's first NUL; `Base` if
+    /// the prefix of this path lacks a part, as that of `\\?\UNC\server`, or if it has no prefix and
+    /// begins with two separators, as `\\server`, or with `\??\`; `Nul` with the index of the other
+    /// path's first NUL; `Prefix` if the other path has a prefix; `Root` if it has a root; `Leaves` if
+    /// a `..` has no name of it before it to take away; `Stream` if a name of a Windows path has a
+    /// colon; `Reserved` if one is reserved; `Memory` if an allocation fails.
     ///
     /// ```
     /// use os_path::{JoinError, PathExt};
@@ -544,6 +641,8 @@ pub trait PathExt<'a>: Sized + Copy {
     /// assert!(rt; path.as_os_str() == OsStr::new("/srv/files/b/c"));
     /// let error = base.join_checked(alloc, Path::new(OsStr::new("../etc"))).err();
     /// assert!(rt; error == Some(JoinError::Leaves));
+    /// let error = base.join_checked(alloc, Path::new(OsStr::new("..\0x"))).err();
+    /// assert!(rt; error == Some(JoinError::Nul(2)));
     /// let base = Path::<Windows>::new(OsStr::new("C:\\files"));
     /// let error = base.join_checked(alloc, Path::new(OsStr::new("a/nul.txt"))).err();
     /// assert!(rt; error == Some(JoinError::Reserved));
@@ -555,6 +654,8 @@ pub trait PathExt<'a>: Sized + Copy {
     ) -> Result<PathBuf<Self::Platform, A>, JoinError>
         ensures ok { IfOk result (λ joined. IsCheckedJoin Self.Platform.follows
             (bytes_of self) (path_bytes path.entry) (path_vec_of joined).items) }
+        ensures below { IfOk result (λ joined. IsBelowBase Self.Platform.follows
+            (bytes_of self) (path_vec_of joined).items) }
         ensures err { IfErr result
             (λ error. IsJoinFault Self.Platform.follows (bytes_of self) (path_bytes path.entry) error) }
     {
@@ -603,7 +704,8 @@ pub trait PathExt<'a>: Sized + Copy {
     /// `with_encoding`): the root, `.`, `..` and the names, written with the main separator. If both
     /// platforms have one style, the bytes are the path's.
     ///
-    /// A name may still be one that Windows keeps for itself (`path_rules::is_reserved`).
+    /// On Windows a root before the name `??` gets `\.` before it, since `\??\` is read as `\\?\`. A name
+    /// may still be one that Windows keeps for itself (`path_rules::is_reserved`).
     ///
     /// # Errors
     ///

@@ -21,12 +21,12 @@ pub fn cut_boundaries()
 {}
 
 /// A path's bytes are the strings of its components and, by turns with these, separators and dots
-/// that name nothing. Its units are the units of all these, and each is cut at boundaries, so no half
+/// that name nothing; between two names a separator comes first and one comes last. Its units are the units of all these, and each is cut at boundaries, so no half
 /// of a surrogate pair is cut off or joined to another.
 pub fn component_units<E: PathStyle>()
     ensures { (path : List ℕ) → (items : List Item) → E.well_formed path
         → AreComponents E.follows path items
-        → (parts : List (List ℕ)) × AreParts E.units path items parts }
+        → (parts : List (List ℕ)) × AreParts E.follows E.units path items parts }
 {}
 
 /// Paths that are compared by their components are equal exactly if their keys are equal, and

@@ -10,7 +10,8 @@
 //! surrogate pair is ever joined to another. What builds a path takes an allocator and answers a
 //! `Result`; [`push`], [`pop`], [`set_file_name`], [`set_extension`] and [`add_extension`] change an
 //! owned path in place. No other call allocates. An extension that is set has no separator
-//! (`path_rules::is_extension_text` tests it); no other call has a condition.
+//! (`path_rules::is_extension_text` tests it); no other call has a condition. A path may have a NUL,
+//! at which a system would end it; [`PathExt::join_checked`] alone rejects it.
 #![tactic(auto)]
 
 mod ancestors;
@@ -19,13 +20,18 @@ mod built;
 mod by_components;
 mod changed;
 mod checked;
+mod compared;
+mod component_ext;
 mod components;
 mod ext;
+mod iter;
 pub mod laws;
+mod literal;
 mod normal;
 mod parts;
 mod prefixes;
 mod relative;
+mod reserved;
 mod simplify;
 mod stripped;
 mod style;
@@ -34,9 +40,13 @@ mod styles;
 pub use ancestors::Ancestors;
 pub use buf::{add_extension, pop, push, set_extension, set_file_name};
 pub use by_components::ByComponents;
+pub use component_ext::ComponentExt;
 pub use components::Components;
 pub use ext::PathExt;
+pub use iter::Iter;
+pub use literal::path;
 pub use path_building::{JoinError, NormalizeError};
 pub use path_rules::{Component, Prefix, Style};
+pub use reserved::is_reserved;
 pub use style::PathStyle;
 pub use styles::ConvertError;

@@ -1,5 +1,6 @@
 //! A path of one platform as a path of another.
-ghost use Rattle.std.specs.Prelude.{◌≡◌, IfOk, IfErr};
+ghost use Rattle.std.specs.Prelude.{◌≡◌, decimal, IfOk, IfErr};
+ghost use Rattle.std.specs.Fmt.{WritesStyledOnOk};
 ghost use Rattle.platform_str.specs.Strings.{bytes, path_vec_of};
 ghost use Rattle.path_building.specs.Restyled.{IsRestyled};
 ghost use Rattle.wtf8_core.specs.declared.fault.EncodingError as of_bytes;
@@ -10,9 +11,21 @@ use crate::style::PathStyle;
 use path_building::StyleError;
 use platform_str::{OsStr, OsString, PathBuf};
 use std::alloc::Allocator;
+use std::error::Error;
+use std::fmt;
+use std::fmt::{InlineText, Write as _};
 use wtf8_core::EncodingError;
 
 /// Why a path of another platform can't have a path's components.
+///
+/// Its text says it to a person. It has no width: `{:>99}` writes what `{}` does.
+///
+/// ```
+/// use os_path::ConvertError;
+///
+/// let error = ConvertError::Component(3);
+/// assert_eq!(rt; format!(in alloc; "{error}")?.as_str(), "the platform can't have component 3");
+/// ```
 #[derive(Clone, Copy, Debug, PartialEq, Eq)]
 pub enum ConvertError {
     /// The component at this index is the first that the platform's style can't have.
@@ -21,6 +34,37 @@ pub enum ConvertError {
     Encoding(EncodingError),
     /// An allocation failed.
     Memory,
+}
+
+impl fmt::Display for ConvertError {
+    ghost use Rattle.std.specs.Prelude.{Some};
+    ghost use Rattle.os_path.specs.ErrorText.{convert_error_text};
+
+    ghost output = { λ error. Some (convert_error_text error) };
+
+    ghost styled_output = { λ error _. Some (convert_error_text error) };
+
+    fn fmt<W: fmt::Write>(&self, f: &mut fmt::Formatter<W>) -> fmt::Result {
+        match *self {
+            ConvertError::Component(index) => {
+                f.write_str("the platform can't have component ")?;
+                write_number(index, f)
+            }
+            ConvertError::Encoding(fault) => fault.fmt(f),
+            ConvertError::Memory => f.write_str("out of memory"),
+        }
+    }
+}
+
+impl Error for ConvertError {}
+
+/// Writes the decimal digits of a number, whatever width is asked for.
+fn write_number<W: fmt::Write>(number: usize, f: &mut fmt::Formatter<W>) -> fmt::Result
+    ensures { WritesStyledOnOk W.write_str_gives f.old result (decimal number) f.new }
+{
+    let mut digits = InlineText::<20>::new();
+    write!(digits, "{number}")?;
+    f.write_str(digits.as_str())
 }
 
 /// The path of another platform with the same components.

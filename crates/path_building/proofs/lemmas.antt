@@ -7,9 +7,11 @@ pub mod Spelling
 pub mod Resolving
 pub mod Written
 pub mod AsWritten
+pub mod Objects
 pub mod Forms
 pub mod Again
 pub mod FileNames
+pub mod Bases
 pub mod Checks
 pub mod Below
 pub mod StripJoins
@@ -18,3 +20,5 @@ pub mod Restyles
 pub mod NameJoins
 pub mod Trailing
 pub mod MainSeparators
+pub mod InlineTexts
+pub mod NulFree

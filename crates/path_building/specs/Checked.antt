@@ -1,7 +1,6 @@
 -- A path below a base (typed-path's `join_checked`): the base's components, and after them names alone.
-use Rattle.std.specs.Prelude.{◌≡◌, ◌≢◌, ℕ, nat_eq, Bool, false, List, [], ◌++◌}
+use Rattle.std.specs.Prelude.{◌≡◌, ℕ, nat_eq, Bool, false, List, ◌++◌}
 use Rattle.std.specs.List.{AllByRecursion, list_any}
-use Rattle.path_rules.specs.declared.rules.Rules.TheVariants as rules
 use Rattle.path_rules.specs.declared.rules.Style as whose
 use Rattle.path_rules.specs.declared.rules.Style.TheVariants as style
 use Rattle.path_building.specs.declared.checked.JoinError.{JoinError}
@@ -9,12 +8,13 @@ use Rattle.path_building.specs.declared.checked.JoinError.TheVariants as error
 use Rattle.path_rules.specs.StyleRules.{rules_of_style}
 use Rattle.path_rules.specs.Component.{Item, Prefix, RootDir, CurDir, ParentDir, Normal}
 use Rattle.path_rules.specs.Components.{AreComponents}
-use Rattle.path_rules.specs.Prefix.{Kind, IsPrefixOf, rules_of, IsPrefixed}
+use Rattle.path_rules.specs.Prefix.{IsPrefixed}
 use Rattle.path_rules.specs.Root.{BeginsWithSeparator}
 use Rattle.path_rules.specs.Reserved.{IsReserved}
 use Rattle.path_building.specs.Normal.{AreNames, AreNormalOf}
 use Rattle.path_building.specs.Normalized.{IsNormalForm}
 use Rattle.path_building.specs.Join.{IsRelativeTo, without_dot}
+use Rattle.path_building.specs.Base.{HasNoNul, IsFirstNul, LacksPart, IsBase, own_root}
 use Rattle.path_building.specs.Written.{IsPathOf}
 
 -- a colon comes before the name of a stream
@@ -54,26 +54,30 @@ pub record LeadsInside (w : whose.Style) (path : List ℕ) (items names : List I
   pub is : names ≡ without_dot normal
   pub alone : AreNames names
 
--- and on Windows no name of the path has a colon or is reserved
+-- and the path has no NUL, and on Windows none of its names has a colon or is reserved
 pub record AreCheckedNames (w : whose.Style) (path : List ℕ) (names : List Item) : Type 0 where
+  pub no_nul : HasNoNul path
   pub items : List Item
   pub inside : LeadsInside w path items names
   pub streams : NameNoStream w items
   pub free : AreFree w items
 
--- the path is a prefix alone after which only `\` separates, as `\\?\C:`
-abbrev pub IsVerbatimAlone : whose.Style → List ℕ → Type 0
-IsVerbatimAlone style.Unix path = ⊥
-IsVerbatimAlone style.Windows path = (kind : Kind) × (IsPrefixOf path kind [] × (rules_of kind ≡ rules.Verbatim))
-
--- the joined path has the base's components, and then the names, written with the main separator
+-- the joined path has the components of a base that is a place of its own, its root if it is a prefix alone that begins with `\\?\`, and then the names, written with the main separator
 pub record IsCheckedJoin (w : whose.Style) (base path joined : List ℕ) : Type 0 where
   pub base_items : List Item
   pub names : List Item
+  pub place : IsBase w base
   pub base_are : AreComponents w base base_items
   pub checked : AreCheckedNames w path names
-  pub separable : IsVerbatimAlone w base → names ≡ []
-  pub answers : IsPathOf w (base_items ++ names) joined
+  pub answers : IsPathOf w (base_items ++ (own_root base_items ++ names)) joined
+
+-- the joined path has the base's components, and after them names alone
+pub record IsBelowBase (w : whose.Style) (base joined : List ℕ) : Type 0 where
+  pub base_items : List Item
+  pub names : List Item
+  pub base_are : AreComponents w base base_items
+  pub are : AreComponents w joined (base_items ++ (own_root base_items ++ names))
+  pub alone : AreNames names
 
 -- the normal form begins with that of the base's components, and goes on with names
 pub record BeginsBelow (items normal : List Item) : Type 0 where
@@ -81,7 +85,7 @@ pub record BeginsBelow (items normal : List Item) : Type 0 where
   pub names : List Item
   pub form : IsNormalForm items base
   pub alone : AreNames names
-  pub is : normal ≡ base ++ names
+  pub is : normal ≡ base ++ (own_root items ++ names)
 
 -- a `..` of the path has no name before it to take
 abbrev pub LeadsOut : whose.Style → List ℕ → Type 0
@@ -95,26 +99,42 @@ NamesStream w path = (items : List Item) × ((names : List Item) × (LeadsInside
 abbrev pub NamesReserved : whose.Style → List ℕ → Type 0
 NamesReserved w path = (items : List Item) × ((names : List Item) × (LeadsInside w path items names × (NameNoStream w items × ¬ (AreFree w items))))
 
--- why the path's names are refused
+-- why the names of a path without NUL are refused
 abbrev pub IsNameFault : whose.Style → List ℕ → JoinError → Type 0
+IsNameFault w path (error.BaseNul index) = ⊥
+IsNameFault w path error.Base = ⊥
+IsNameFault w path (error.Nul index) = ⊥
 IsNameFault w path error.Prefix = IsPrefixed w path
 IsNameFault w path error.Root = ¬ (IsPrefixed w path) × BeginsWithSeparator (rules_of_style w) path
 IsNameFault w path error.Leaves = LeadsOut w path
 IsNameFault w path error.Stream = NamesStream w path
 IsNameFault w path error.Reserved = NamesReserved w path
-IsNameFault w path error.Base = ⊥
 IsNameFault w path error.Memory = Unit {0}
 
--- the names would belong to the base's prefix
-abbrev pub IsOpenBase : whose.Style → List ℕ → List ℕ → Type 0
-IsOpenBase w base path = IsVerbatimAlone w base × ((names : List Item) × (AreCheckedNames w path names × (names ≢ [])))
+-- why the base is none
+abbrev pub IsBaseFault : whose.Style → List ℕ → JoinError → Type 0
+IsBaseFault w base (error.BaseNul index) = IsFirstNul base index
+IsBaseFault w base error.Base = HasNoNul base × LacksPart w base
+IsBaseFault w base (error.Nul index) = ⊥
+IsBaseFault w base error.Prefix = ⊥
+IsBaseFault w base error.Root = ⊥
+IsBaseFault w base error.Leaves = ⊥
+IsBaseFault w base error.Stream = ⊥
+IsBaseFault w base error.Reserved = ⊥
+IsBaseFault w base error.Memory = ⊥
+
+-- the base is one, the path has no NUL, and its names are refused for this reason
+abbrev pub AreNamesRefused : whose.Style → List ℕ → List ℕ → JoinError → Type 0
+AreNamesRefused w base path e = IsBase w base × (HasNoNul path × IsNameFault w path e)
 
 -- why the path isn't joined to the base
 abbrev pub IsJoinFault : whose.Style → List ℕ → List ℕ → JoinError → Type 0
-IsJoinFault w base path error.Prefix = IsNameFault w path error.Prefix
-IsJoinFault w base path error.Root = IsNameFault w path error.Root
-IsJoinFault w base path error.Leaves = IsNameFault w path error.Leaves
-IsJoinFault w base path error.Stream = IsNameFault w path error.Stream
-IsJoinFault w base path error.Reserved = IsNameFault w path error.Reserved
-IsJoinFault w base path error.Base = IsOpenBase w base path
+IsJoinFault w base path (error.BaseNul index) = IsFirstNul base index
+IsJoinFault w base path error.Base = HasNoNul base × LacksPart w base
+IsJoinFault w base path (error.Nul index) = IsBase w base × IsFirstNul path index
+IsJoinFault w base path error.Prefix = AreNamesRefused w base path error.Prefix
+IsJoinFault w base path error.Root = AreNamesRefused w base path error.Root
+IsJoinFault w base path error.Leaves = AreNamesRefused w base path error.Leaves
+IsJoinFault w base path error.Stream = AreNamesRefused w base path error.Stream
+IsJoinFault w base path error.Reserved = AreNamesRefused w base path error.Reserved
 IsJoinFault w base path error.Memory = Unit {0}

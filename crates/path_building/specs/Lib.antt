@@ -6,7 +6,9 @@ pub mod Spelled
 pub mod Normalized
 pub mod Cleaned
 pub mod FileName
+pub mod Base
 pub mod Checked
+pub mod ErrorText
 pub mod Relative
 pub mod Restyled
 pub mod Trailing

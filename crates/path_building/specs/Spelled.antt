@@ -9,8 +9,9 @@ use Rattle.path_rules.specs.declared.head.Head.{Head}
 use Rattle.path_rules.specs.declared.rules.Style as whose
 use Rattle.path_rules.specs.declared.rules.Style.TheVariants as style
 use Rattle.path_building.specs.Normalized.{BeginsAsPrefix}
-use Rattle.path_rules.specs.Component.{Item, Prefix, RootDir, CurDir, ParentDir, Normal, named}
-use Rattle.path_building.specs.Written.{spelling, joined_names, HasEmptyShare}
+use Rattle.path_rules.specs.Component.{Item, RootDir, ParentDir, Normal, named}
+use Rattle.path_rules.specs.Components.{AreComponents}
+use Rattle.path_building.specs.Written.{spelling, joined_names, HasEmptyShare, object_dir, IsPathOf}
 
 -- the part that a component is written as names it
 pub record IsSpelled (r : Rules) (x : Item) : Type 0 where
@@ -42,6 +43,12 @@ abbrev pub DoublesRoot : whose.Style → List ℕ → Bool → Type 0
 DoublesRoot style.Unix path doubled = doubled ≡ false
 DoublesRoot style.Windows path doubled = (doubled ≡ true → HasEmptyShare path) × (HasEmptyShare path → doubled ≡ true)
 
+-- a root without a prefix comes before the name `??`
+abbrev pub ObjectNext : whose.Style → List ℕ → Start → List Item → Type 0
+ObjectNext style.Unix prefix start names = ⊥
+ObjectNext style.Windows [] Root (Normal s ∷ xs) = s ≡ object_dir
+ObjectNext style.Windows prefix start names = ⊥
+
 -- how a path may start again: one without a prefix in any way that gives it none, one with a prefix as it did
 abbrev pub MayStart : whose.Style → Head → Start → List Item → Type 0
 MayStart w head start names = (head.prefix.now ≡ [] → start ≡ Nothing → ¬ (BeginsAsPrefix w names)) × (head.prefix.now ≢ [] → start ≡ head.start)
@@ -71,3 +78,9 @@ abbrev pub cleaned_start : Start → List Item
 cleaned_start Root = RootDir ∷ []
 cleaned_start Dot = []
 cleaned_start Nothing = []
+
+-- the path's components and then these names, as they are written
+pub record IsNamesAfter (w : whose.Style) (path : List ℕ) (names : List Item) (joined : List ℕ) : Type 0 where
+  pub items : List Item
+  pub are : AreComponents w path items
+  pub answers : IsPathOf w (items ++ names) joined

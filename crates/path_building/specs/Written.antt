@@ -1,7 +1,9 @@
--- How a path is written from its components: a prefix as it is, the root as one main separator, and one main separator between the names.
-use Rattle.std.specs.Prelude.{◌≡◌, ◌⊎◌, ℕ, List, [], ◌∷◌, ◌++◌}
+-- How a path is written from its components: a prefix as it is, the root as one main separator, and one main separator between the names. None begins as a path of Windows' object manager does.
+use Rattle.std.specs.Prelude.{◌≡◌, ◌⊎◌, ℕ, true, List, [], ◌∷◌, ◌++◌}
+use Rattle.path_rules.specs.declared.rules.Rules.TheVariants as rules
 use Rattle.path_rules.specs.declared.rules.Style.{Style}
 use Rattle.path_rules.specs.declared.rules.Style.TheVariants as style
+use Rattle.path_rules.specs.Separators.{separates, Edge}
 use Rattle.path_rules.specs.StyleRules.{main_separator}
 use Rattle.path_rules.specs.Component.{Item, Prefix, RootDir, CurDir, ParentDir, Normal}
 use Rattle.path_rules.specs.Components.{AreComponents}
@@ -58,9 +60,30 @@ NamesAShare style.Unix items = ⊥
 NamesAShare style.Windows (Prefix s ∷ RootDir ∷ x ∷ xs) = HasEmptyShare s
 NamesAShare style.Windows items = ⊥
 
--- the path is these components as they are written with the main separator; it has one more after a prefix whose share the first name would be
+-- the path begins with a separator, `??`, and a separator or its end: Windows takes `\??\` for its object manager's directory, as it takes `\\?\` (Go's `filepath.Clean`)
+abbrev pub BeginsAsObject : List ℕ → Type 0
+BeginsAsObject [] = ⊥
+BeginsAsObject (a ∷ []) = ⊥
+BeginsAsObject (a ∷ b ∷ []) = ⊥
+BeginsAsObject (a ∷ b ∷ c ∷ s) = (separates rules.Either a ≡ true) × ((b ≡ 0x3F) × ((c ≡ 0x3F) × Edge rules.Either s))
+
+-- `??`
+abbrev pub object_dir : List ℕ
+object_dir = 0x3F ∷ 0x3F ∷ []
+
+-- the first name after the root of a path without a prefix is `??`
+abbrev pub NamesAnObject : Style → List Item → Type 0
+NamesAnObject style.Unix items = ⊥
+NamesAnObject style.Windows (RootDir ∷ Normal s ∷ xs) = s ≡ object_dir
+NamesAnObject style.Windows items = ⊥
+
+-- these components as they are written with the main separator; it is there once more after a prefix whose share the first name would be
+abbrev pub IsWrittenOut : Style → List Item → List ℕ → Type 0
+IsWrittenOut w items path = (NamesAShare w items × (path ≡ written_apart (main_separator w) items)) ⊎ (¬ (NamesAShare w items) × (path ≡ written (main_separator w) items))
+
+-- the path is these components as they are written; before a root and `??` comes `\.`, which names nothing
 abbrev pub IsWritten : Style → List Item → List ℕ → Type 0
-IsWritten w items path = (NamesAShare w items × (path ≡ written_apart (main_separator w) items)) ⊎ (¬ (NamesAShare w items) × (path ≡ written (main_separator w) items))
+IsWritten w items path = (NamesAnObject w items × (path ≡ main_separator w ∷ 0x2E ∷ written (main_separator w) items)) ⊎ (¬ (NamesAnObject w items) × IsWrittenOut w items path)
 
 -- the path has these components and is written from them
 abbrev pub IsPathOf : Style → List Item → List ℕ → Type 0

@@ -1,23 +1,44 @@
 //! A path below a base, or what is wrong with it.
-ghost use Rattle.std.specs.Prelude.{◌≡◌, ◌≢◌, ◌++◌, ◌↔◌, [], false, map, IsTrue, IfOk, IfErr, OnOk};
+ghost use Rattle.std.specs.Prelude.{◌≡◌, ◌↔◌, ◌++◌, map, IsTrue, IfOk, IfErr, OnOk};
 ghost use Rattle.std.specs.List.{AllByRecursion};
-ghost use Rattle.path_rules.specs.declared.head.Start.TheVariants.{Nothing};
-ghost use Rattle.path_rules.specs.declared.rules.Rules.TheVariants as rule;
 ghost use Rattle.path_rules.specs.StyleRules.{rules_of_style};
 ghost use Rattle.path_rules.specs.Component.{components_in};
 ghost use Rattle.path_rules.specs.Views.{item_of};
-ghost use Rattle.path_building.specs.Spelled.{AreSpelled};
-ghost use Rattle.path_building.specs.Checked.{has_colon, NamesNoStream, IsFree, NameNoStream, AreFree, AreCheckedNames, IsNameFault, IsCheckedJoin, IsJoinFault};
+ghost use Rattle.path_building.specs.Spelled.{AreSpelled, IsNamesAfter};
+ghost use Rattle.path_building.specs.Base.{HasNoNul, IsFirstNul, IsBase, IsVerbatimAlone};
+ghost use Rattle.path_building.specs.Checked.{has_colon, NamesNoStream, IsFree, NameNoStream, AreFree, AreCheckedNames, IsNameFault, IsBaseFault, IsCheckedJoin, IsBelowBase, IsJoinFault};
 
-use crate::joining::{is_prefixed, is_verbatim_rule};
+use crate::base::{first_nul, is_verbatim_alone, lacks_part};
+use crate::error_text::write_at_byte;
+use crate::joining::is_prefixed;
 use crate::normal::{all_names, resolved, written_as};
-use path_rules::parts::{Head, Start, begins_with_separator, head_of, next_in};
+use path_rules::parts::{begins_with_separator, head_of, next_in};
 use path_rules::{Component, Rules, Style, is_reserved};
 use std::alloc::{AllocError, Allocator};
+use std::error::Error;
+use std::fmt;
 
-/// Why [`join_checked`] answers no path.
+/// Why [`join_checked`] returns no path.
+///
+/// Its text says it to a person. It has no width: `{:>99}` writes what `{}` does.
+///
+/// ```
+/// use path_building::JoinError;
+///
+/// let error = JoinError::Nul(2);
+/// assert_eq!(rt; format!(in alloc; "{error}")?.as_str(), "NUL at byte 2 of the path");
+/// let error = JoinError::Leaves;
+/// assert_eq!(rt; format!(in alloc; "{error}")?.as_str(), "the path leaves the base");
+/// ```
 #[derive(Clone, Copy, Debug, PartialEq, Eq)]
 pub enum JoinError {
+    /// The byte index of the first NUL of the base.
+    BaseNul(usize),
+    /// The Windows base is no place of its own: its prefix lacks a part, as `\\?\UNC\server`, or it has
+    /// none and begins with two separators, as `\\server`, or with `\??\`.
+    Base,
+    /// The byte index of the first NUL of the path.
+    Nul(usize),
     /// The path has a prefix.
     Prefix,
     /// The path has a root.
@@ -28,11 +49,34 @@ pub enum JoinError {
     Stream,
     /// A name of a Windows path is reserved ([`path_rules::is_reserved`]).
     Reserved,
-    /// The base is a prefix alone that begins with `\\?\`, as `\\?\C:`, to which a name would belong.
-    Base,
     /// An allocation failed.
     Memory,
 }
+
+impl fmt::Display for JoinError {
+    ghost use Rattle.std.specs.Prelude.{Some};
+    ghost use Rattle.path_building.specs.ErrorText.{join_error_text};
+
+    ghost output = { λ error. Some (join_error_text error) };
+
+    ghost styled_output = { λ error _. Some (join_error_text error) };
+
+    fn fmt<W: fmt::Write>(&self, f: &mut fmt::Formatter<W>) -> fmt::Result {
+        match *self {
+            JoinError::BaseNul(index) => write_at_byte("NUL", index, " of the base", f),
+            JoinError::Base => f.write_str("the base has an incomplete prefix"),
+            JoinError::Nul(index) => write_at_byte("NUL", index, " of the path", f),
+            JoinError::Prefix => f.write_str("the path has a prefix"),
+            JoinError::Root => f.write_str("the path has a root"),
+            JoinError::Leaves => f.write_str("the path leaves the base"),
+            JoinError::Stream => f.write_str("the path has a colon in a name"),
+            JoinError::Reserved => f.write_str("the path has a reserved name"),
+            JoinError::Memory => f.write_str("out of memory"),
+        }
+    }
+}
+
+impl Error for JoinError {}
 
 impl From<AllocError> for JoinError {
     ghost use Rattle.std.specs.Prelude.{◌≡◌};
@@ -49,18 +93,23 @@ impl From<AllocError> for JoinError {
 /// (typed-path's `join_checked`): the base's components, and after them the names of the path, in
 /// which `.` and `..` are resolved, written with the main separator.
 ///
-/// The path is refused if it has a prefix or a root, or if a `..` would leave the base; on Windows
-/// also if one of its names has a colon or is reserved, even if a `..` takes that name away. So the
-/// answer begins with the base's components, and so does its normal form with the base's
-/// ([`crate::laws::joined_below`]): no path leaves the base unless a name is a symbolic link.
+/// The path is rejected if it has a NUL, a prefix or a root, or if a `..` would leave the base; on
+/// Windows also if one of its names has a colon or is reserved, even if a `..` takes that name away.
+/// A base with a NUL is rejected, and on Windows one that is no place of its own, since a name would
+/// belong to its prefix, as to that of `\\server`. A base that is a prefix alone and begins with
+/// `\\?\`, as `\\?\C:`, gets its root. So the result has no NUL, and begins with the base's components
+/// as its normal form does with the base's ([`crate::laws::joined_below`]): no path leaves the base
+/// unless a name is a symbolic link.
 ///
 /// # Errors
 ///
-/// The first of these that holds: `Prefix` if the path has a prefix; `Root` if it has a root;
-/// `Leaves` if a `..` has no name of the path before it to take away, as in `..` and `a/../..`;
-/// `Stream` if a name of a Windows path has a colon, as `a:b`; `Reserved` if one is reserved, as
-/// `nul.txt` ([`path_rules::is_reserved`]); `Base` if the base is a prefix alone that begins with
-/// `\\?\`, as `\\?\C:`, and the path names something below it; `Memory` if an allocation fails.
+/// The first of these that holds: `BaseNul` with the index of the base's first NUL; `Base` if the
+/// base's prefix lacks a part, as that of `\\?\UNC\server`, or if it has no prefix and begins with
+/// two separators, as `\\server`, or with `\??\`; `Nul` with the index of the path's first NUL;
+/// `Prefix` if the path has a prefix; `Root` if it has a root; `Leaves` if a `..` has no name of the
+/// path before it to take away, as in `..` and `a/../..`; `Stream` if a name of a Windows path has a
+/// colon, as `a:b`; `Reserved` if one is reserved, as `nul.txt` ([`path_rules::is_reserved`]);
+/// `Memory` if an allocation fails.
 ///
 /// ```
 /// use path_building::{JoinError, join_checked};
@@ -70,10 +119,14 @@ impl From<AllocError> for JoinError {
 /// assert_eq!(rt; path.as_slice(), b"/srv/files/b/c".as_slice());
 /// let path = join_checked(alloc, Style::Windows, br"C:\files", b"a/b")?;
 /// assert_eq!(rt; path.as_slice(), br"C:\files\a\b".as_slice());
-/// let refused = join_checked(alloc, Style::Unix, b"/srv/files", b"a/../../etc");
-/// assert!(rt; refused.is_err_and(|e| e == JoinError::Leaves));
-/// let refused = join_checked(alloc, Style::Windows, br"C:\files", b"a/NUL.txt");
-/// assert!(rt; refused.is_err_and(|e| e == JoinError::Reserved));
+/// let rejected = join_checked(alloc, Style::Unix, b"/srv/files", b"a/../../etc");
+/// assert!(rt; rejected.is_err_and(|e| e == JoinError::Leaves));
+/// let rejected = join_checked(alloc, Style::Unix, b"/srv/files", b"..\0x");
+/// assert!(rt; rejected.is_err_and(|e| e == JoinError::Nul(2)));
+/// let rejected = join_checked(alloc, Style::Windows, br"C:\files", b"a/NUL.txt");
+/// assert!(rt; rejected.is_err_and(|e| e == JoinError::Reserved));
+/// let rejected = join_checked(alloc, Style::Windows, br"\\server", br"share\x");
+/// assert!(rt; rejected.is_err_and(|e| e == JoinError::Base));
 /// ```
 pub fn join_checked<A: Allocator + Clone>(
     alloc: A,
@@ -82,16 +135,54 @@ pub fn join_checked<A: Allocator + Clone>(
     path: &[u8],
 ) -> Result<Vec<u8, A>, JoinError>
     ensures ok { IfOk result (λ joined. IsCheckedJoin style base.now path.now joined.items) }
+    ensures below { IfOk result (λ joined. IsBelowBase style base.now joined.items) }
     ensures err { IfErr result (λ error. IsJoinFault style base.now path.now error) }
 {
+    check_base(style, base)?;
+    if let Some(index) = first_nul(path) {
+        return Err(JoinError::Nul(index));
+    }
     let names = checked_names(alloc.clone()?, style, path)?;
-    let head = head_of(style, base);
-    if !may_follow(head, &names) {
+    if is_verbatim_alone(style, base) {
+        let mut root = Vec::with_capacity(alloc.clone()?, base.len() + 1)?;
+        root.extend_from_slice(base)?;
+        root.extend_from_slice(br"\")?;
+        return Ok(names_after(alloc, style, &root, &names)?);
+    }
+    Ok(names_after(alloc, style, base, &names)?)
+}
+
+/// Whether a base is one, or why not.
+fn check_base(style: Style, base: &[u8]) -> Result<(), JoinError>
+    ensures ok { OnOk result (IsBase style base.now) }
+    ensures err { IfErr result (λ error. IsBaseFault style base.now error) }
+{
+    if let Some(index) = first_nul(base) {
+        return Err(JoinError::BaseNul(index));
+    }
+    if lacks_part(style, base) {
         return Err(JoinError::Base);
     }
+    Ok(())
+}
+
+/// Checked names after a path that isn't a prefix alone after which only `\` separates.
+fn names_after<A: Allocator + Clone>(
+    alloc: A,
+    style: Style,
+    path: &[u8],
+    names: &[Component<&[u8]>],
+) -> Result<Vec<u8, A>, AllocError>
+    requires spelled { AreSpelled (rules_of_style style) (map item_of names.now) }
+    requires streams { NameNoStream style (map item_of names.now) }
+    requires no_alone { ¬ (IsVerbatimAlone style path.now) }
+    ensures { IfOk result
+        (λ joined. IsNamesAfter style path.now (map item_of names.now) joined.items) }
+{
+    let head = head_of(style, path);
     let mut all = all_names(alloc.clone()?, head.rules, head.body)?;
-    add_names(&mut all, &names)?;
-    Ok(written_as(alloc, style, base, head, head.start, &all)?)
+    add_names(&mut all, names)?;
+    written_as(alloc, style, path, head, head.start, &all)
 }
 
 /// The names that a path leads to, or what is wrong with it.
@@ -100,6 +191,7 @@ fn checked_names<'a, A: Allocator>(
     style: Style,
     path: &'a [u8],
 ) -> Result<Vec<Component<&'a [u8]>, A>, JoinError>
+    requires { HasNoNul path.now }
     ensures ok { IfOk result
         (λ names. AreCheckedNames style path.entry.now (map item_of names.items)) }
     ensures spelled { IfOk result
@@ -124,22 +216,6 @@ fn checked_names<'a, A: Allocator>(
         return Err(JoinError::Reserved);
     }
     Ok(names)
-}
-
-/// Whether names may follow a path: none may follow a prefix alone after which only `\` separates.
-fn may_follow(head: Head<'_>, names: &[Component<&[u8]>]) -> bool
-    ensures yes { IsTrue result → head.entry.rules ≡ rule.Verbatim → head.entry.start ≡ Nothing
-        → map item_of names.now ≡ [] }
-    ensures no { result ≡ false → (head.entry.rules ≡ rule.Verbatim)
-        × ((head.entry.start ≡ Nothing) × (map item_of names.now ≢ [])) }
-{
-    if names.is_empty() {
-        return true;
-    }
-    match head.start {
-        Start::Nothing => !is_verbatim_rule(head.rules),
-        _ => true,
-    }
 }
 
 /// Appends names to others.

@@ -7,17 +7,18 @@ ghost use Rattle.path_rules.specs.Components.{AreComponents, AreUnixComponents, 
 ghost use Rattle.path_building.specs.Normal.{AreNormalOf};
 ghost use Rattle.path_building.specs.Join.{IsVerbatimPath, IsDriveAlone, IsRelativeTo, HaveTheSamePrefix, IsJoin, without_dot};
 ghost use Rattle.path_building.specs.Normalized.{IsNormalForm, IsNormalized};
-ghost use Rattle.path_building.specs.Checked.{IsCheckedJoin, IsVerbatimAlone, BeginsBelow};
+ghost use Rattle.path_building.specs.Base.{HasNoNul, IsVerbatimAlone};
+ghost use Rattle.path_building.specs.Checked.{IsCheckedJoin, IsBelowBase, BeginsBelow};
 ghost use Rattle.path_building.specs.Cleaned.{CleansTo, IsCleaned};
 ghost use Rattle.path_rules.specs.Parent.{IsParent, HasFileName};
-ghost use Rattle.path_rules.specs.declared.rules.Style.TheVariants.{Unix};
+ghost use Rattle.path_rules.specs.declared.rules.Style.TheVariants.{Unix, Windows};
 ghost use Rattle.path_rules.specs.Compare.{HaveAlikeComponents};
 ghost use Rattle.path_rules.specs.Strip.{IsStripped};
 ghost use Rattle.path_rules.specs.StyleRules.{rules_of_style};
 ghost use Rattle.path_rules.specs.Trailing.{EndsWithSeparator};
 ghost use Rattle.path_building.specs.Trailing.{IsWithTrailingSep};
 ghost use Rattle.path_rules.specs.Root.{IsAbsolute};
-ghost use Rattle.path_building.specs.Written.{IsPathOf};
+ghost use Rattle.path_building.specs.Written.{BeginsAsObject, IsPathOf};
 ghost use Rattle.path_building.specs.Relative.{IsRelativeFrom};
 ghost use Rattle.path_building.specs.MainSeparators.{HasMainSeparators};
 
@@ -63,9 +64,16 @@ pub fn cleaned_again()
         → IsCleaned style path answer → IsCleaned style answer answer }
 {}
 
-/// A path that was joined to a base and checked has, normalized, the base's normal form and names
-/// after it, and it has a normal form wherever the base has one: it never leaves the base.
+/// A path that was joined to a base and checked has the base's components, and after them names
+/// alone: it never leaves the base. Normalized, it has the base's normal form and names after it, and
+/// it has a normal form wherever the base has one. A base that is a prefix alone and begins with
+/// `\\?\` has its root before the names. The joined path has no NUL, so a string of C is all of it.
 pub fn joined_below()
+    ensures below { (style : whose.Style) → (base : List ℕ) → (path : List ℕ)
+        → (joined : List ℕ) → IsCheckedJoin style base path joined
+        → IsBelowBase style base joined }
+    ensures no_nul { (style : whose.Style) → (base : List ℕ) → (path : List ℕ)
+        → (joined : List ℕ) → IsCheckedJoin style base path joined → HasNoNul joined }
     ensures begins { (style : whose.Style) → (base : List ℕ) → (path : List ℕ)
         → (joined : List ℕ) → IsCheckedJoin style base path joined → (items : List Item)
         → (more : List Item) → (normal : List Item) → AreComponents style base items
@@ -135,6 +143,14 @@ pub fn parent_joined()
         → ¬ (IsVerbatimPath style parent) → IsRelativeTo style name
         → IsJoin style parent name joined → HaveTheSamePrefix style parent joined
         → (items : List Item) → AreComponents style path items → AreComponents style joined items }
+{}
+
+/// A Windows path that is written from components doesn't begin with `\??\`, which Windows reads as it
+/// reads `\\?\`: so do none of those that [`crate::normalize`], [`crate::clean`],
+/// [`crate::join_checked`] and, for another style, [`crate::with_style`] return.
+pub fn no_object()
+    ensures { (items : List Item) → (path : List ℕ) → IsPathOf Windows items path
+        → ¬ (BeginsAsObject path) }
 {}
 
 /// In a path that is written anew the main separator alone separates, but in its prefix: a Windows

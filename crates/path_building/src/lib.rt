@@ -7,14 +7,17 @@
 //! in the other style, [`normalize`] and [`clean`] its normal form and its clean form. What a path
 //! says is in `path_rules`.
 //!
-//! Paths are bytes here too, in no encoding. `..` is resolved by [`normalize`], [`clean`] and
-//! [`join_checked`] alone, and where a path is joined to one that begins with `\\?\`. Each call
-//! allocates, with an allocator that it is given or that the vector has, and answers a `Result`; a
-//! vector that was to be changed is at `Err` as it was. Only an extension has a condition
-//! ([`path_rules::is_extension_text`]).
+//! Paths are bytes here too, in no encoding, and may have a NUL, at which a system would end them:
+//! [`join_checked`] alone rejects it. `..` is resolved by [`normalize`], [`clean`] and
+//! [`join_checked`], by [`relative_from`], also after `\\?\`, and where a path is joined to one that
+//! begins with `\\?\`. Each call allocates, with an allocator that it is given or that the vector has,
+//! and returns a `Result`; a vector that was to be changed is at `Err` as it was. Only an extension
+//! has a condition ([`path_rules::is_extension_text`]).
 #![tactic(auto)]
 
+mod base;
 mod checked;
+mod error_text;
 mod file_names;
 mod joining;
 pub mod laws;

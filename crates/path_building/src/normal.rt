@@ -13,12 +13,23 @@ ghost use Rattle.path_rules.specs.Prefix.{begins_verbatim};
 ghost use Rattle.path_building.specs.Normalized.{IsReadAsPrefix, BeginsAsPrefix, IsShielded, IsNormalized, IsNormalizeFault};
 ghost use Rattle.path_building.specs.Cleaned.{or_dot, IsCleaned};
 
-use crate::writing::{has_empty_share, written};
+use crate::writing::{before_start, has_empty_share, written};
 use path_rules::parts::{Head, Start, head_of, is_verbatim, next_in};
 use path_rules::{Component, Rules, Style, windows_prefix};
 use std::alloc::{AllocError, Allocator};
+use std::error::Error;
+use std::fmt;
 
-/// Why [`normalize`] answers no path.
+/// Why [`normalize`] returns no path.
+///
+/// Its text says it to a person. It has no width: `{:>99}` writes what `{}` does.
+///
+/// ```
+/// use path_building::NormalizeError;
+///
+/// let error = NormalizeError::NoName;
+/// assert_eq!(rt; format!(in alloc; "{error}")?.as_str(), "a `..` has no name before it");
+/// ```
 #[derive(Clone, Copy, Debug, PartialEq, Eq)]
 pub enum NormalizeError {
     /// A `..` has no name before it that it could take away.
@@ -26,6 +37,24 @@ pub enum NormalizeError {
     /// An allocation failed.
     Memory,
 }
+
+impl fmt::Display for NormalizeError {
+    ghost use Rattle.std.specs.Prelude.{Some};
+    ghost use Rattle.path_building.specs.ErrorText.{normalize_error_text};
+
+    ghost output = { λ error. Some (normalize_error_text error) };
+
+    ghost styled_output = { λ error _. Some (normalize_error_text error) };
+
+    fn fmt<W: fmt::Write>(&self, f: &mut fmt::Formatter<W>) -> fmt::Result {
+        match *self {
+            NormalizeError::NoName => f.write_str("a `..` has no name before it"),
+            NormalizeError::Memory => f.write_str("out of memory"),
+        }
+    }
+}
+
+impl Error for NormalizeError {}
 
 impl From<AllocError> for NormalizeError {
     ghost use Rattle.std.specs.Prelude.{◌≡◌};
@@ -44,8 +73,9 @@ impl From<AllocError> for NormalizeError {
 ///
 /// A `.` at the start of a path without a root is kept. A path whose prefix begins with `\\?\` is
 /// not resolved: Windows takes its `.` and `..` as they are. A first name that by itself would be
-/// read as a prefix gets `.\` before it, as in `a\..\C:`, whose normal form is `.\C:`. A normal
-/// form is its own ([`crate::laws::normalized_again`]).
+/// read as a prefix gets `.\` before it, as in `a\..\C:`, whose normal form is `.\C:`, and a root
+/// before the name `??` gets `\.` before it, since Windows reads `\??\` as it reads `\\?\`
+/// ([`crate::laws::no_object`]). A normal form is its own ([`crate::laws::normalized_again`]).
 ///
 /// # Errors
 ///
@@ -60,6 +90,8 @@ impl From<AllocError> for NormalizeError {
 /// assert_eq!(rt; path.as_slice(), b"/usr/bin".as_slice());
 /// let path = normalize(alloc, Style::Windows, br"a\..\C:")?;
 /// assert_eq!(rt; path.as_slice(), br".\C:".as_slice());
+/// let path = normalize(alloc, Style::Windows, br"\a\..\??\c:\x")?;
+/// assert_eq!(rt; path.as_slice(), br"\.\??\c:\x".as_slice());
 /// assert!(rt; normalize(alloc, Style::Unix, b"a/../..").is_err_and(|e| e == NormalizeError::NoName));
 /// ```
 pub fn normalize<A: Allocator + Clone>(
@@ -89,8 +121,8 @@ pub fn normalize<A: Allocator + Clone>(
 ///
 /// A `..` that has neither a name nor a root before it is kept, and the empty path is `.`. It
 /// differs from [`normalize`] in these and in that a `.` at the start is left out; a path whose
-/// prefix begins with `\\?\` and a first name that would be read as a prefix are treated as there. A
-/// clean path is its own clean form ([`crate::laws::cleaned_again`]).
+/// prefix begins with `\\?\`, a first name that would be read as a prefix and the name `??` after a
+/// root are treated as there. A clean path is its own clean form ([`crate::laws::cleaned_again`]).
 ///
 /// # Errors
 ///
@@ -105,6 +137,8 @@ pub fn normalize<A: Allocator + Clone>(
 /// assert_eq!(rt; clean(alloc, Style::Unix, b"/..")?.as_slice(), b"/".as_slice());
 /// assert_eq!(rt; clean(alloc, Style::Unix, b"")?.as_slice(), b".".as_slice());
 /// assert_eq!(rt; clean(alloc, Style::Windows, b"C:/..")?.as_slice(), br"C:\".as_slice());
+/// let path = clean(alloc, Style::Windows, b"/??/c:/x")?;
+/// assert_eq!(rt; path.as_slice(), br"\.\??\c:\x".as_slice());
 /// ```
 pub fn clean<A: Allocator + Clone>(
     alloc: A,
@@ -142,11 +176,12 @@ pub(crate) fn written_as<A: Allocator>(
         written.items) }
 {
     let doubled = has_doubled_root(style, path);
+    let before = before_start(style, head.prefix, start, names);
     written(
         alloc,
         path.len(),
         style.main_separator(),
-        head.prefix,
+        before,
         start,
         doubled,
         names,

@@ -23,8 +23,9 @@ use std::alloc::{AllocError, Allocator};
 ///
 /// The components at the start that both have are left out; then each component of the base is a
 /// `..`, but for a `.` at its start, and what is left of the path follows, written with the main
-/// separator. A path with another prefix or another root than the base's is answered whole. A first
-/// name that by itself would be read as a prefix gets `.\` before it.
+/// separator. A path with another prefix or another root than the base's is the whole way, written
+/// with the main separator; if it begins with `\\?\`, its `.` and `..` are resolved, as they are where
+/// it is joined. A first name that by itself would be read as a prefix gets `.\` before it.
 ///
 /// `None` if that isn't so: if the base is absolute and the path isn't, if the base goes up by a `..`
 /// where the path doesn't, or if the answer joined to the base would lead to another place, as

@@ -4,14 +4,26 @@ ghost use Rattle.path_rules.specs.Views.{item_of};
 ghost use Rattle.path_rules.specs.Component.{Normal};
 ghost use Rattle.path_building.specs.Restyled.{IsHad, AreHad, IsFirstUnlike, IsRestyled, IsStyleFault};
 
+use crate::error_text::write_number;
 use crate::normal::{all_names, is_read_as_prefix};
 use crate::resolving::add_all;
-use crate::writing::written;
+use crate::writing::{before_start, written};
 use path_rules::parts::head_of;
 use path_rules::{Component, Components, Style, is_extension_text};
 use std::alloc::{AllocError, Allocator};
+use std::error::Error;
+use std::fmt;
 
-/// Why [`with_style`] answers no path.
+/// Why [`with_style`] returns no path.
+///
+/// Its text says it to a person. It has no width: `{:>99}` writes what `{}` does.
+///
+/// ```
+/// use path_building::StyleError;
+///
+/// let error = StyleError::Component(3);
+/// assert_eq!(rt; format!(in alloc; "{error}")?.as_str(), "the style can't have component 3");
+/// ```
 #[derive(Clone, Copy, Debug, PartialEq, Eq)]
 pub enum StyleError {
     /// The component at this index is the first that the style can't have.
@@ -19,6 +31,27 @@ pub enum StyleError {
     /// An allocation failed.
     Memory,
 }
+
+impl fmt::Display for StyleError {
+    ghost use Rattle.std.specs.Prelude.{Some};
+    ghost use Rattle.path_building.specs.ErrorText.{style_error_text};
+
+    ghost output = { λ error. Some (style_error_text error) };
+
+    ghost styled_output = { λ error _. Some (style_error_text error) };
+
+    fn fmt<W: fmt::Write>(&self, f: &mut fmt::Formatter<W>) -> fmt::Result {
+        match *self {
+            StyleError::Component(index) => {
+                f.write_str("the style can't have component ")?;
+                write_number(index, f)
+            }
+            StyleError::Memory => f.write_str("out of memory"),
+        }
+    }
+}
+
+impl Error for StyleError {}
 
 impl From<AllocError> for StyleError {
     ghost use Rattle.std.specs.Prelude.{◌≡◌};
@@ -35,7 +68,9 @@ impl From<AllocError> for StyleError {
 /// `with_encoding`): the root, `.`, `..` and the names, written with the main separator. A path of
 /// the same style is answered as it is.
 ///
-/// A name may still be one that Windows keeps for itself ([`path_rules::is_reserved`]).
+/// A root before the name `??` gets `\.` before it on Windows, which reads `\??\` as it reads `\\?\`
+/// ([`crate::laws::no_object`]). A name may still be one that Windows keeps for itself
+/// ([`path_rules::is_reserved`]).
 ///
 /// # Errors
 ///
@@ -51,6 +86,8 @@ impl From<AllocError> for StyleError {
 /// assert_eq!(rt; path.as_slice(), br"\usr\lib\..".as_slice());
 /// let path = with_style(alloc, Style::Windows, Style::Unix, br".\a\b")?;
 /// assert_eq!(rt; path.as_slice(), b"./a/b".as_slice());
+/// let path = with_style(alloc, Style::Unix, Style::Windows, b"/??/c:/x")?;
+/// assert_eq!(rt; path.as_slice(), br"\.\??\c:\x".as_slice());
 /// let refused = with_style(alloc, Style::Windows, Style::Unix, br"C:\a");
 /// assert!(rt; refused.is_err_and(|e| e == StyleError::Component(0)));
 /// ```
@@ -74,11 +111,12 @@ pub fn with_style<A: Allocator + Clone>(
     let head = head_of(from, path);
     let names = all_names(alloc.clone()?, head.rules, head.body)?;
     let none = b"".as_slice();
+    let before = before_start(to, none, head.start, &names);
     Ok(written(
         alloc,
         path.len(),
         to.main_separator(),
-        none,
+        before,
         head.start,
         false,
         &names,

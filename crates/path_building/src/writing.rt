@@ -1,12 +1,15 @@
 //! Paths written from their parts.
 ghost use Rattle.std.specs.Prelude.{◌≡◌, ◌++◌, ◌∷◌, [], ◌↔◌, IsTrue, IfOk, OnOk, map};
+ghost use Rattle.path_rules.specs.declared.rules.Style.TheVariants as whose;
+ghost use Rattle.path_rules.specs.declared.head.Start.TheVariants.{Root};
+ghost use Rattle.path_rules.specs.StyleRules.{main_separator};
 ghost use Rattle.path_rules.specs.PrefixViews.{kind_of};
 ghost use Rattle.path_rules.specs.Views.{item_of};
-ghost use Rattle.path_building.specs.Written.{spelling, more_names, joined_names, LacksShare, HasEmptyShare};
-ghost use Rattle.path_building.specs.Spelled.{root_bytes, start_bytes, after_bytes};
+ghost use Rattle.path_building.specs.Written.{spelling, more_names, joined_names, LacksShare, HasEmptyShare, object_dir};
+ghost use Rattle.path_building.specs.Spelled.{root_bytes, start_bytes, after_bytes, ObjectNext};
 
 use path_rules::parts::Start;
-use path_rules::{Component, Prefix, windows_prefix};
+use path_rules::{Component, Prefix, Style, windows_prefix};
 use std::alloc::{AllocError, Allocator};
 
 /// A path of a prefix, a start and names, in memory for so many bytes, or for more if it has more.
@@ -121,6 +124,64 @@ fn push_more<A: Allocator>(
         path.extend_from_slice(spelling(*name))?;
     }
     Ok(())
+}
+
+/// What is written before the start: the prefix, or `\.` before a root after which the name `??` comes.
+pub(crate) fn before_start<'a>(
+    style: Style,
+    prefix: &'a [u8],
+    start: Start,
+    names: &[Component<&[u8]>],
+) -> &'a [u8]
+    ensures kept { ¬ (ObjectNext style prefix.entry.now start (map item_of names.now))
+        → result.now ≡ prefix.entry.now }
+    ensures apart { ObjectNext style prefix.entry.now start (map item_of names.now)
+        → result.now ≡ main_separator style ∷ 0x2E ∷ [] }
+{
+    if is_object_next(style, prefix, start, names) {
+        return br"\.".as_slice();
+    }
+    prefix
+}
+
+/// Whether a root without a prefix comes before the name `??`.
+fn is_object_next(style: Style, prefix: &[u8], start: Start, names: &[Component<&[u8]>]) -> bool
+    ensures { IsTrue result ↔ ObjectNext style prefix.now start (map item_of names.now) }
+{
+    match style {
+        Style::Unix => false,
+        Style::Windows => match prefix {
+            [] => is_object_at(start, names),
+            _ => false,
+        },
+    }
+}
+
+fn is_object_at(start: Start, names: &[Component<&[u8]>]) -> bool
+    ensures { IsTrue result ↔ ObjectNext whose.Windows [] start (map item_of names.now) }
+{
+    match start {
+        Start::Root => begins_with_object(names),
+        _ => false,
+    }
+}
+
+fn begins_with_object(names: &[Component<&[u8]>]) -> bool
+    ensures { IsTrue result ↔ ObjectNext whose.Windows [] Root (map item_of names.now) }
+{
+    match names {
+        [Component::Normal(name), ..] => is_object_dir(name),
+        _ => false,
+    }
+}
+
+fn is_object_dir(name: &[u8]) -> bool
+    ensures { IsTrue result ↔ (name.now ≡ object_dir) }
+{
+    match name {
+        [a, b] => *a == b'?' && *b == b'?',
+        _ => false,
+    }
 }
 
 /// Whether a path begins with a prefix `\\?\UNC\server` without a share: a name that follows it

@@ -28,3 +28,5 @@ pub mod Simple
 pub mod Divides
 pub mod Lefts
 pub mod AsPath
+pub mod FirstParts
+pub mod OwnRules

@@ -35,11 +35,20 @@ pub record EndsTight (w : whose.Style) (s : List ℕ) : Type 0 where
   pub has : HasBody w s rules body
   pub named : EndsNamed rules body
 
+-- the path's body is the front's and what comes after it, so that the front has the separator of its root: that of `\\server\share\a` before `a` is `\\server\share\`
+pub record HasBodyAfter (style : whose.Style) (path front after : List ℕ) : Type 0 where
+  pub rules : Rules
+  pub body : List ℕ
+  pub left : List ℕ
+  pub has : HasBody style path rules body
+  pub has_left : HasBody style front rules left
+  pub joined : body ≡ left ++ after
+
 -- the first part of s names a component, unless s is empty
 abbrev pub BeginsNamed : Rules → List ℕ → Type 0
 BeginsNamed r s = (part rest : List ℕ) → s ≢ [] → IsField r s part rest → named r part ≢ None
 
--- t is the path up to the end of its last component
+-- t is the path up to the end of its last component, or of its root
 pub record IsEndTrimmed (w : whose.Style) (path t : List ℕ) : Type 0 where
   pub after : List ℕ
   pub joined : path ≡ t ++ after
@@ -48,3 +57,4 @@ pub record IsEndTrimmed (w : whose.Style) (path t : List ℕ) : Type 0 where
   pub are : AreComponents w t items
   pub whole : AreComponents w path items
   pub tight : EndsTight w t
+  pub within : HasBodyAfter w path t after

@@ -1,5 +1,5 @@
 -- The components of a path.
-use Rattle.std.specs.Prelude.{◌≡◌, ℕ, true, nat_eq, ◌&&◌, if◌then◌else◌, List, [], ◌∷◌, ◌++◌}
+use Rattle.std.specs.Prelude.{◌≡◌, ℕ, nat_eq, ◌&&◌, if◌then◌else◌, List, [], ◌∷◌, ◌++◌}
 use denote.Ref.{Bor}
 use Rattle.path_rules.specs.declared.rules.Rules.{Rules}
 use Rattle.path_rules.specs.declared.rules.Rules.TheVariants as rules
@@ -8,24 +8,11 @@ use Rattle.path_rules.specs.declared.rules.Style.TheVariants as style
 use Rattle.path_rules.specs.declared.head.Start.{Start}
 use Rattle.path_rules.specs.declared.head.Start.TheVariants.{Root, Dot, Nothing}
 use Rattle.path_rules.specs.declared.prefix.Prefix as held
-use Rattle.path_rules.specs.Separators.{separates, Edge}
+use Rattle.path_rules.specs.Separators.{separates}
 use Rattle.path_rules.specs.Component.{Item, Prefix, components_in}
 use Rattle.path_rules.specs.Heads.{start_items}
 use Rattle.path_rules.specs.Prefix.{Kind, Verbatim, VerbatimUnc, VerbatimDisk, Device, Unc, Disk, IsPrefixOf, rules_of}
 use Rattle.path_rules.specs.PrefixViews.{kind_of}
-
--- the path without a prefix is a separator, the root, before the body
-pub record HasRoot (r : Rules) (s : List ℕ) (start : Start) (body : List ℕ) : Type 0 where
-  pub separator : ℕ
-  pub joined : s ≡ separator ∷ body
-  pub separates : separates r separator ≡ true
-  pub is : start ≡ Root
-
--- or `.` before an edge
-pub record HasDot (r : Rules) (s : List ℕ) (start : Start) (body : List ℕ) : Type 0 where
-  pub joined : s ≡ 0x2E ∷ body
-  pub edge : Edge r body
-  pub is : start ≡ Dot
 
 -- with what a path without a prefix starts, by its first bytes
 abbrev pub start_of : Rules → List ℕ → Start

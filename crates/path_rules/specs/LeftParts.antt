@@ -1,11 +1,12 @@
 -- What of a path's parts an iterator has left. Step words: no public contract names them.
-use Rattle.std.specs.Prelude.{◌≡◌, ◌≢◌, ◌⊎◌, ℕ, Bool, true, false, List, [], ◌++◌}
+use Rattle.std.specs.Prelude.{◌≡◌, ◌≢◌, ◌⊎◌, ◌≤◌, ◌+◌, ℕ, Bool, true, false, List, [], ◌∷◌, ◌++◌, length}
 use Rattle.path_rules.specs.declared.rules.Rules.{Rules}
 use Rattle.path_rules.specs.declared.rules.Style as whose
 use Rattle.path_rules.specs.declared.head.Start.TheVariants.{Nothing}
 use Rattle.path_rules.specs.declared.head.Head.{Head}
-use Rattle.path_rules.specs.Separators.{IsUpTo}
-use Rattle.path_rules.specs.Component.{Item, components_in}
+use Rattle.path_rules.specs.Separators.{Edge, IsUpTo}
+use Rattle.path_rules.specs.Component.{Item, Prefix, components_in}
+use Rattle.path_rules.specs.Heads.{items_of}
 use Rattle.path_rules.specs.HeadParts.{IsHead}
 use Rattle.path_rules.specs.Cut.{IsAsciiCut}
 
@@ -17,24 +18,35 @@ pub record IsInside (s t : List ℕ) : Type 0 where
   pub begins : IsAsciiCut before t
   pub ends : IsAsciiCut (before ++ t) after
 
--- the body without its last components
-pub record IsBodyLeft (r : Rules) (body left : List ℕ) : Type 0 where
+-- t is inside the body, and what comes after it has the components behind; it begins with a separator, unless t is empty
+pub record IsInBody (r : Rules) (body t : List ℕ) (behind : List Item) : Type 0 where
+  pub at : IsInside body t
+  pub items : components_in r at.after ≡ behind
+  pub edge : Edge r at.after ⊎ (t ≡ [])
+
+-- the body without its last components, which are those behind
+pub record IsBodyLeft (r : Rules) (body left : List ℕ) (behind : List Item) : Type 0 where
   pub ends : (left ≡ []) ⊎ IsUpTo r body left
-  pub taken : List Item
-  pub items : components_in r body ≡ components_in r left ++ taken
+  pub items : components_in r body ≡ components_in r left ++ behind
 
--- what is left before and in the body: all that is before it; the start; a prefix alone, or nothing; or a part of the body, once it is begun
-pub data ArePartsLeft (path : List ℕ) (h left : Head) (begun : Bool) : Type 0 where
-  all_before : begun ≡ false → left.prefix.now ≡ h.prefix.now → left.start ≡ h.start → IsBodyLeft h.rules h.body.now left.body.now → ArePartsLeft path h left begun
-  start_before : begun ≡ false → h.prefix.now ≢ [] → left.prefix.now ≡ [] → left.start ≡ h.start → h.start ≢ Nothing → IsBodyLeft h.rules h.body.now left.body.now → ArePartsLeft path h left begun
-  no_body : begun ≡ false → (left.prefix.now ≡ []) ⊎ (left.prefix.now ≡ h.prefix.now) → left.start ≡ Nothing → left.body.now ≡ [] → ArePartsLeft path h left begun
-  body_alone : begun ≡ true → left.prefix.now ≡ [] → left.start ≡ Nothing → IsInside path left.body.now → ArePartsLeft path h left begun
+-- what is left before and in the body: all that is before it; the start; a prefix alone; nothing; or a part of the body, once it is begun
+pub data ArePartsLeft (h left : Head) (begun : Bool) (front behind : List Item) : Type 0 where
+  all_before : begun ≡ false → front ≡ [] → left.prefix.now ≡ h.prefix.now → left.start ≡ h.start → IsBodyLeft h.rules h.body.now left.body.now behind → ArePartsLeft h left begun front behind
+  start_before : begun ≡ false → front ≡ Prefix h.prefix.now ∷ [] → h.prefix.now ≢ [] → left.prefix.now ≡ [] → left.start ≡ h.start → h.start ≢ Nothing → IsBodyLeft h.rules h.body.now left.body.now behind → ArePartsLeft h left begun front behind
+  prefix_left : begun ≡ false → front ≡ [] → h.prefix.now ≢ [] → left.prefix.now ≡ h.prefix.now → left.start ≡ Nothing → left.body.now ≡ [] → ArePartsLeft h left begun front behind
+  none_left : left.prefix.now ≡ [] → left.start ≡ Nothing → left.body.now ≡ [] → ArePartsLeft h left begun front behind
+  body_alone : begun ≡ true → left.prefix.now ≡ [] → left.start ≡ Nothing → IsInBody h.rules h.body.now left.body.now behind → ArePartsLeft h left begun front behind
 
--- left of these parts of the path
-pub record AreLeftIn (path : List ℕ) (h left : Head) (begun : Bool) : Type 0 where
+-- left of these parts, after so many components
+pub record AreLeftIn (h left : Head) (begun : Bool) (count : ℕ) : Type 0 where
   pub rules : left.rules ≡ h.rules
-  pub parts : ArePartsLeft path h left begun
+  pub front : List Item
+  pub behind : List Item
+  pub taken : length front ≡ count
+  pub whole : items_of h ≡ front ++ (items_of left ++ behind)
+  pub parts : ArePartsLeft h left begun front behind
 
 -- left of the path's parts
-abbrev pub AreLeftOf : whose.Style → List ℕ → Head → Bool → Type 0
-AreLeftOf w path left begun = (h : Head) → IsHead w path h → AreLeftIn path h left begun
+pub record AreLeftOf (w : whose.Style) (path : List ℕ) (left : Head) (begun : Bool) (count : ℕ) : Type 0 where
+  pub in_each : (h : Head) → IsHead w path h → AreLeftIn h left begun count
+  pub fits : count + length (items_of left) ≤ length path + 2

@@ -15,6 +15,7 @@ pub mod Compare
 pub mod Root
 pub mod Trailing
 pub mod Body
+pub mod FirstPart
 pub mod Strip
 pub mod Taken
 pub mod Keys

@@ -1,11 +1,10 @@
 -- A path without its last component, and its last name (std's `Path::parent` and `Path::file_name`).
 use Rattle.std.specs.Prelude.{◌≡◌, ◌⊎◌, ℕ, List, [], ◌∷◌, ◌++◌}
-use Rattle.path_rules.specs.declared.rules.Rules.{Rules}
 use Rattle.path_rules.specs.declared.rules.Style.{Style}
 use Rattle.path_rules.specs.Component.{Item, Prefix, RootDir, CurDir, ParentDir, Normal}
 use Rattle.path_rules.specs.Components.{AreComponents}
 use Rattle.path_rules.specs.Cut.{IsAsciiCut}
-use Rattle.path_rules.specs.Body.{EndsTight, HasBody}
+use Rattle.path_rules.specs.Body.{EndsTight, HasBodyAfter}
 
 -- a prefix or a root
 abbrev pub IsTop : Item → Type 0
@@ -22,15 +21,6 @@ IsBelow RootDir = ⊥
 IsBelow CurDir = Unit {0}
 IsBelow ParentDir = Unit {0}
 IsBelow (Normal s) = Unit {0}
-
--- the path's body is the parent's and what comes after it, so that the parent has the separator of its root: that of `\\server\share\a` is `\\server\share\`
-pub record HasBodyAfter (style : Style) (path parent after : List ℕ) : Type 0 where
-  pub rules : Rules
-  pub body : List ℕ
-  pub left : List ℕ
-  pub has : HasBody style path rules body
-  pub has_left : HasBody style parent rules left
-  pub joined : body ≡ left ++ after
 
 -- the path goes on where the parent ends, with its own last component, and has one component more, which is neither a prefix nor a root; unless that is `.` at the start, what comes after the parent is in the path's body
 pub record IsParent (style : Style) (path parent : List ℕ) : Type 0 where

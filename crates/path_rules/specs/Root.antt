@@ -29,6 +29,7 @@ HasPrefixAndRoot s = (kind : Kind) × ((rest : List ℕ) × (IsPrefixOf s kind r
 abbrev pub HasBareRoot : List ℕ → Type 0
 HasBareRoot s = ((kind : Kind) (rest : List ℕ) → ¬ (IsPrefixOf s kind rest)) × BeginsWithSeparator rules.Either s
 
+-- a separator first, or on Windows after the prefix; each prefix but a drive's has a root without one
 abbrev pub HasRoot : Style → List ℕ → Type 0
 HasRoot style.Unix s = BeginsWithSeparator rules.Slash s
 HasRoot style.Windows s = HasPrefixAndRoot s ⊎ HasBareRoot s

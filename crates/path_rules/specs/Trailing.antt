@@ -4,7 +4,7 @@ use Rattle.std.specs.List.{All}
 use Rattle.path_rules.specs.declared.rules.Rules.{Rules}
 use Rattle.path_rules.specs.declared.rules.Style.{Style}
 use Rattle.path_rules.specs.Separators.{separates}
-use Rattle.path_rules.specs.StyleRules.{rules_of_style}
+use Rattle.path_rules.specs.StyleRules.{rules_of_path}
 use Rattle.path_rules.specs.Root.{HasRoot}
 use Rattle.path_rules.specs.Parent.{HasNoParent}
 use Rattle.path_rules.specs.Cut.{IsAsciiCut}
@@ -28,6 +28,6 @@ pub record IsTrimmed (r : Rules) (s t : List ℕ) : Type 0 where
 abbrev pub IsRootAlone : Style → List ℕ → Type 0
 IsRootAlone style path = HasRoot style path × HasNoParent style path
 
--- a root alone is kept, and any other path loses the separators at its end
+-- a root alone is kept, and any other path loses the separators at its end; after `\\?\` a `/` is part of a name
 abbrev pub TrimsTrailing : Style → List ℕ → List ℕ → Type 0
-TrimsTrailing style path t = (IsRootAlone style path × (t ≡ path)) ⊎ (¬ (IsRootAlone style path) × IsTrimmed (rules_of_style style) path t)
+TrimsTrailing style path t = (IsRootAlone style path × (t ≡ path)) ⊎ (¬ (IsRootAlone style path) × IsTrimmed (rules_of_path style path) path t)

@@ -6,11 +6,12 @@ ghost use Rattle.path_rules.specs.Views.{item_of};
 ghost use Rattle.path_rules.specs.Parent.{IsBelow};
 ghost use Rattle.path_rules.specs.HeadParts.{IsLastPart};
 ghost use Rattle.path_rules.specs.Taken.{IsTail};
+ghost use Rattle.path_rules.specs.FirstPart.{IsFirstPart};
 
 use crate::component::{Component, component_of};
 use crate::rules::Rules;
 
-/// The first component, and what follows it.
+/// The first component, and what follows the separator after it.
 ///
 /// ```
 /// use path_rules::parts::next_in;
@@ -18,12 +19,15 @@ use crate::rules::Rules;
 ///
 /// let first = next_in(Rules::Slash, b"a/b");
 /// assert!(rt; first == Some((Component::Normal(b"a".as_slice()), b"b".as_slice())));
+/// let first = next_in(Rules::Slash, b"./a//b");
+/// assert!(rt; first == Some((Component::Normal(b"a".as_slice()), b"/b".as_slice())));
 /// ```
 #[inline(always)]
 pub fn next_in(rules: Rules, body: &[u8]) -> Option<(Component<&[u8]>, &[u8])>
     ensures items { MatchOption result (components_in rules body.now ≡ [])
         (λ first. components_in rules body.now ≡ item_of first.0 ∷ components_in rules first.1.now) }
     ensures after { IfSome result (λ first. IsTail body.now first.1.now) }
+    ensures first { IfSome result (λ first. IsFirstPart rules body.now (item_of first.0) first.1.now) }
 {
     let mut left = body;
     loop {

@@ -20,6 +20,8 @@ use std::marker::Model;
 pub struct Components<'a> {
     style: Style,
     path: &'a [u8],
+    /// How many components were taken from the front.
+    taken: usize,
     /// Whether what comes before the body was taken from the front.
     begun: bool,
     left: Head<'a>,
@@ -32,9 +34,14 @@ impl<'a> Model for Components<'a> {
 
     ghost Value = { Left };
 
-    ghost view = { λ it. record { style = it.style; path = it.path.now; items = items_of it.left } };
+    ghost view = { λ it. record {
+      style = it.style;
+      path = it.path.now;
+      taken = it.taken;
+      items = items_of it.left;
+    } };
 
-    ghost invariant = { λ it. AreLeftOf it.style it.path.now it.left it.begun };
+    ghost invariant = { λ it. AreLeftOf it.style it.path.now it.left it.begun it.taken };
 }
 
 impl<'a> Components<'a> {
@@ -54,19 +61,21 @@ impl<'a> Components<'a> {
         ensures items { AreComponents style path.entry.now result.items }
         ensures style { result.style ≡ style }
         ensures path { result.path ≡ path.entry.now }
+        ensures taken { result.taken ≡ 0 }
     {
         Components {
             style,
             path,
+            taken: 0,
             begun: false,
             left: head_of(style, path),
         }
     }
 
-    /// The part of the path that has the components that are left (std's `Components::as_path`).
+    /// The part of the path where the components are that are left (std's `Components::as_path`).
     ///
     /// It begins where the first of them does and ends where the last does, without the separators
-    /// and dots at its ends that name nothing. On Unix it has these components by itself. So it has
+    /// and dots at its ends that name nothing; a root at its end stays. On Unix it has these components by itself. So it has
     /// on Windows unless it is a prefix without the root that is always there (`\\server\share`), or
     /// what is left begins after the prefix: then it has them in the path.
     ///
@@ -77,9 +86,13 @@ impl<'a> Components<'a> {
     /// assert_eq!(rt; left.as_path(), b"/usr//lib/./a".as_slice());
     /// let _ = (left.next(), left.next(), left.next_back());
     /// assert_eq!(rt; left.as_path(), b"lib".as_slice());
+    ///
+    /// let mut left = Components::new(Style::Unix, b"x//y/x/y");
+    /// let _ = (left.next(), left.next());
+    /// assert_eq!(rt; left.as_path(), b"x/y".as_slice());
     /// ```
     pub fn as_path(&self) -> &'a [u8]
-        ensures { IsLeft self.now.style self.now.path self.now.items result.now }
+        ensures { IsLeft self.now.style self.now.path self.now.taken self.now.items result.now }
     {
         let whole = head_of(self.style, self.path);
         let left = self.left;
@@ -124,17 +137,20 @@ impl<'a> Iterator for Components<'a> {
             let prefix = self.left.prefix;
             self.left.prefix = b"".as_slice();
             self.begun = self.left.start.is_nothing();
+            self.taken += 1;
             return Some(Component::Prefix(prefix));
         }
         match self.left.start {
             Start::Root => {
                 self.left.start = Start::Nothing;
                 self.begun = true;
+                self.taken += 1;
                 Some(Component::RootDir)
             }
             Start::Dot => {
                 self.left.start = Start::Nothing;
                 self.begun = true;
+                self.taken += 1;
                 Some(Component::CurDir)
             }
             Start::Nothing => {
@@ -143,6 +159,7 @@ impl<'a> Iterator for Components<'a> {
                 };
                 self.left.body = rest;
                 self.begun = true;
+                self.taken += 1;
                 Some(item)
             }
         }

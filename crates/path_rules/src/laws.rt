@@ -7,8 +7,10 @@ ghost use Rattle.path_rules.specs.Prefix.{Kind, IsPrefixOf};
 ghost use Rattle.path_rules.specs.Components.{AreComponents, AreUnixComponents};
 ghost use Rattle.path_rules.specs.declared.rules.Rules.TheVariants as rules;
 ghost use Rattle.path_rules.specs.Separators.{Edge};
-ghost use Rattle.path_rules.specs.Divided.{IsDivided};
+ghost use Rattle.path_rules.specs.Divided.{AtStart, IsDivided};
+ghost use Rattle.path_rules.specs.StyleRules.{rules_of_path};
 ghost use Rattle.path_rules.specs.Left.{IsLeft};
+ghost use Rattle.path_rules.specs.Simplified.{IsSimplified, KeepsPlace};
 ghost use Rattle.path_rules.specs.Name.{IsExtension, IsStem};
 ghost use Rattle.path_rules.specs.Parent.{IsParent, HasFileName};
 ghost use Rattle.path_rules.specs.declared.rules.Style.TheVariants.{Unix};
@@ -28,10 +30,12 @@ pub fn one_list()
 {}
 
 /// The bytes of a path are its components and, by turns with these, what is between them: separators,
-/// and dots that name nothing. Each cut is at an end of the path or beside an ASCII byte.
+/// and dots that name nothing. Between two names, and between a root and a name, a separator comes
+/// first and one comes last. Each cut is at an end of the path or beside an ASCII byte.
 pub fn divided()
     ensures { (style : whose.Style) → (path : List ℕ) → (items : List Item)
-        → AreComponents style path items → IsDivided [] items path }
+        → AreComponents style path items
+        → IsDivided style (rules_of_path style path) AtStart [] items path }
 {}
 
 /// What follows a prefix is empty or begins with a separator, unless the prefix is a drive.
@@ -119,6 +123,14 @@ pub fn starts_and_ends()
 /// On Unix the part of a path that is left ([`crate::Components::as_path`]) has the components that
 /// are left by itself.
 pub fn left_on_unix()
-    ensures { (path : List ℕ) → (items : List Item) → (part : List ℕ)
-        → IsLeft Unix path items part → AreUnixComponents part items }
+    ensures { (path : List ℕ) → (taken : ℕ) → (items : List Item) → (part : List ℕ)
+        → IsLeft Unix path taken items part → AreUnixComponents part items }
+{}
+
+/// A path that was simplified ([`crate::simplified`]) is absolute, has a root and has the same
+/// components below its prefix exactly as the path.
+pub fn simplified_place()
+    ensures { (style : whose.Style) → (path : List ℕ) → (items : List Item) → (t : List ℕ)
+        → AreComponents style path items → IsSimplified style path t
+        → KeepsPlace style path t }
 {}

@@ -3,9 +3,10 @@ ghost use Rattle.std.specs.Prelude.{◌≡◌, ◌≢◌, ◌++◌, ◌<◌, ◌
 ghost use Rattle.std.specs.Option.{option_map};
 ghost use Rattle.path_rules.specs.Separators.{IsField};
 ghost use Rattle.path_rules.specs.Prefix.{Kind, is_letter, upper, lead_of, verbatim_lead, double_lead, begins_verbatim, IsPrefixOf, IsUnc, IsVerbatim, IsVerbatimUnc};
+ghost use Rattle.path_rules.specs.StyleRules.{rules_of_path};
 ghost use Rattle.path_rules.specs.PrefixViews.{kind_of, rules_after, lead_view, verbatim_lead_view};
 
-use crate::rules::Rules;
+use crate::rules::{Rules, Style};
 
 /// The prefix of a Windows path (std's `Prefix`). Its strings are of type `S`, such as `&[u8]`.
 ///
@@ -223,5 +224,21 @@ pub fn is_verbatim(prefix: &[u8]) -> bool
     match prefix {
         [a, b, c, d, ..] => *a == b'\\' && *b == b'\\' && *c == b'?' && *d == b'\\',
         _ => false,
+    }
+}
+
+/// What separates in a path.
+pub(crate) fn rules_of(style: Style, path: &[u8]) -> Rules
+    ensures { result ≡ rules_of_path style path.now }
+{
+    match style {
+        Style::Unix => Rules::Slash,
+        Style::Windows => {
+            if is_verbatim(path) {
+                Rules::Verbatim
+            } else {
+                Rules::Either
+            }
+        }
     }
 }

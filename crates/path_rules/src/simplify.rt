@@ -10,14 +10,18 @@ use crate::component::Component;
 use crate::components::Components;
 use crate::prefix::{Prefix, is_verbatim, windows_prefix};
 use crate::reserved::is_reserved;
+use crate::root::is_absolute;
 use crate::rules::Style;
 
 /// The path without `\\?\`, if that names the same path (the crate dunce's `simplified`); any other
-/// path is answered as it is, and so is each path of Unix.
+/// path is returned as it is, and so is each path of Unix.
 ///
-/// It is taken off before a drive, if no component is `.` or `..`, none is reserved
+/// `\\?\` is taken off before a drive and its root, if no component is `.` or `..`, none is reserved
 /// ([`crate::is_reserved`]) or longer than 255 UTF-16 code units, and the path isn't longer than
-/// 260. A name with a lone surrogate may be among them.
+/// 260. A name with a lone surrogate may be among them. The path that is returned is absolute, has a
+/// root and has the same components below its prefix exactly as the path
+/// ([`crate::laws::simplified_place`]). So `\\?\C:`, which is absolute, stays: `C:` is the current
+/// directory of the drive.
 ///
 /// ```
 /// use path_rules::{Style, simplified};
@@ -25,6 +29,7 @@ use crate::rules::Style;
 /// assert_eq!(rt; simplified(Style::Windows, br"\\?\C:\a\b"), br"C:\a\b".as_slice());
 /// assert_eq!(rt; simplified(Style::Windows, br"\\?\C:\a\.."), br"\\?\C:\a\..".as_slice());
 /// assert_eq!(rt; simplified(Style::Windows, br"\\?\C:\con"), br"\\?\C:\con".as_slice());
+/// assert_eq!(rt; simplified(Style::Windows, br"\\?\C:"), br"\\?\C:".as_slice());
 /// ```
 pub fn simplified(style: Style, path: &[u8]) -> &[u8]
     ensures { IsSimplified style path.now result.now }
@@ -52,6 +57,9 @@ fn windows_simplified(path: &[u8]) -> &[u8]
         return path;
     }
     let (_, rest) = path.split_at(4);
+    if !is_absolute(Style::Windows, rest) {
+        return path;
+    }
     rest
 }
 

@@ -4,6 +4,7 @@ ghost use Rattle.path_rules.specs.StyleRules.{rules_of_style};
 ghost use Rattle.path_rules.specs.Trailing.{EndsWithSeparator, IsTrimmed, IsRootAlone, TrimsTrailing};
 
 use crate::parents::parent;
+use crate::prefix::rules_of;
 use crate::root::has_root;
 use crate::rules::{Rules, Style};
 
@@ -28,11 +29,15 @@ pub fn has_trailing_sep(style: Style, path: &[u8]) -> bool
 /// The path without the separators at its end (std's `Path::trim_trailing_sep`). A path that has a
 /// root and no parent is kept as it is.
 ///
+/// The path's own rules say what separates: after `\\?\` a `/` is part of a name and stays, where std
+/// takes it off.
+///
 /// ```
 /// use path_rules::{Style, trim_trailing_sep};
 ///
 /// assert_eq!(rt; trim_trailing_sep(Style::Unix, b"a//"), b"a".as_slice());
 /// assert_eq!(rt; trim_trailing_sep(Style::Unix, b"//"), b"//".as_slice());
+/// assert_eq!(rt; trim_trailing_sep(Style::Windows, br"\\?\C:\a/"), br"\\?\C:\a/".as_slice());
 /// ```
 pub fn trim_trailing_sep(style: Style, path: &[u8]) -> &[u8]
     ensures { TrimsTrailing style path.now result.now }
@@ -40,7 +45,7 @@ pub fn trim_trailing_sep(style: Style, path: &[u8]) -> &[u8]
     if is_root_alone(style, path) {
         return path;
     }
-    trimmed_of(style.rules(), path)
+    trimmed_of(rules_of(style, path), path)
 }
 
 /// Whether the path has a root and no parent.

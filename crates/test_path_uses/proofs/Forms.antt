@@ -12,7 +12,7 @@ use Rattle.test_path_uses.specs.declared.form.Form.{Form}
 use Rattle.test_path_uses.specs.declared.form.Form.TheVariants as which
 use Rattle.test_path_uses.specs.Forms.{IsForm}
 use Rattle.test_path_uses.proofs.Joins.{OneList}
-use Rattle.test_path_uses.proofs.Writings.{one_writing, normal_form, clean_form}
+use Rattle.test_path_uses.proofs.Writings.{one_writing, normal_form, clean_form, normal_object, clean_object}
 
 shown_same : (w : whose.Style) (form one other : List Item) → IsShielded w form one → IsShielded w form other → one ≡ other
 shown_same w form one other (inl h) (inl k) = h.1 ∙ sym k.1
@@ -62,3 +62,8 @@ own_form normal clean which.Clean w path answer h = clean w path answer h
 pub form_of_slashes : (form : Form) → IsForm form style.Windows (codes "C:/a/../b") (codes "C:\\b")
 form_of_slashes which.Normal = normal_form
 form_of_slashes which.Clean = clean_form
+
+-- and that of `\a\..\??\c:\x`
+pub form_of_object : (form : Form) → IsForm form style.Windows (codes "\\a\\..\\??\\c:\\x") (codes "\\.\\??\\c:\\x")
+form_of_object which.Normal = normal_object
+form_of_object which.Clean = clean_object

@@ -7,6 +7,7 @@ pub mod Joins
 pub mod Names
 pub mod PathEnds
 pub mod PathParts
+pub mod ReadParts
 pub mod ParentRoots
 pub mod LastNames
 pub mod KnownPrefix
@@ -16,3 +17,5 @@ pub mod Stripped
 pub mod Ways
 pub mod MainSeparators
 pub mod OneFile
+pub mod PrefixEnds
+pub mod PathStrings

@@ -8,11 +8,12 @@ use Rattle.path_rules.specs.declared.rules.Style.TheVariants as style
 use Rattle.path_rules.specs.Separators.{separates}
 use Rattle.path_rules.specs.Component.{Item}
 use Rattle.path_rules.specs.Root.{IsAbsolute}
+use Rattle.path_building.specs.Base.{own_root}
 use Rattle.path_building.specs.Checked.{IsCheckedJoin}
 use Rattle.path_building.specs.Join.{IsVerbatimPath}
 use Rattle.path_building.specs.Relative.{IsRelativeFrom}
 use Rattle.path_building.specs.Restyled.{IsRestyled}
-use Rattle.path_building.specs.Written.{IsPathOf}
+use Rattle.path_building.specs.Written.{BeginsAsObject, IsPathOf}
 use Rattle.path_building.specs.MainSeparators.{SeparatesBy, HasMainSeparators}
 use Rattle.test_path_uses.specs.declared.form.Form.{Form}
 use Rattle.test_path_uses.specs.declared.form.Form.TheVariants as which
@@ -26,11 +27,21 @@ module _ (written : (w : whose.Style) (items : List Item) (path : List ℕ) → 
   of_form which.Clean w path answer h = written w h.shown answer h.answers
 
   pub of_joined : (w : whose.Style) (base path joined : List ℕ) → IsCheckedJoin w base path joined → HasMainSeparators w joined
-  of_joined w base path joined h = written w (h.base_items ++ h.names) joined h.answers
+  of_joined w base path joined h = written w (h.base_items ++ (own_root h.base_items ++ h.names)) joined h.answers
 
   pub of_restyled : (from to : whose.Style) (path made : List ℕ) → IsRestyled from to path made → from ≢ to → HasMainSeparators to made
   of_restyled from to path made (inl h) n = absurd (n h.0)
   of_restyled from to path made (inr h) n = written to h.1.0 made h.1.1.1
+
+-- no path begins as one of the object manager
+module _ (law : (items : List Item) (path : List ℕ) → IsPathOf style.Windows items path → ¬ (BeginsAsObject path)) where
+  pub form_no_object : (f : Form) (path answer : List ℕ) → IsForm f style.Windows path answer → ¬ (BeginsAsObject answer)
+  form_no_object which.Normal path answer h = law h.shown answer h.answers
+  form_no_object which.Clean path answer h = law h.shown answer h.answers
+
+  pub restyled_no_object : (path made : List ℕ) → IsRestyled style.Unix style.Windows path made → ¬ (BeginsAsObject made)
+  restyled_no_object path made (inl h) = let never : style.Unix ≡ style.Windows = h.0 in cc
+  restyled_no_object path made (inr h) = law h.1.0 made h.1.1.1
 
 -- of a way
 module _ (law : (w : whose.Style) (path base way : List ℕ) → IsRelativeFrom w path base (Some way) → ¬ (IsVerbatimPath w path) → (IsAbsolute w path → IsAbsolute w base) → HasMainSeparators w way) where

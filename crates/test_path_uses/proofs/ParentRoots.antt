@@ -5,12 +5,12 @@ use Rattle.std.proofs.lemmas.List.{append_cancel_right}
 use Rattle.path_rules.specs.declared.rules.Rules.TheVariants as rules
 use Rattle.path_rules.specs.declared.rules.Style.TheVariants as style
 use Rattle.path_rules.specs.Separators.{separates}
-use Rattle.path_rules.specs.Body.{HasBody}
+use Rattle.path_rules.specs.Body.{HasBody, HasBodyAfter}
 use Rattle.path_rules.specs.Component.{Item, Prefix, CurDir, components_in}
 use Rattle.path_rules.specs.Components.{AreComponents, prefixed, bare, root_of, after_root}
 use Rattle.path_rules.specs.Heads.{start_items}
 use Rattle.path_rules.specs.Prefix.{Kind, IsPrefixOf, rules_of}
-use Rattle.path_rules.specs.Parent.{IsParent, HasNoParent, HasBodyAfter}
+use Rattle.path_rules.specs.Parent.{IsParent, HasNoParent}
 
 module _ (path prefix body : List ℕ) (separator : ℕ) (kind : Kind) (joined : path ≡ prefix ++ separator ∷ body) (is : IsPrefixOf path kind (separator ∷ body)) (root : separates rules.Either separator ≡ true)
     (one : (a b : Kind) (x y : List ℕ) → IsPrefixOf path a x → IsPrefixOf path b y → (a ≡ b) × (x ≡ y)) where

@@ -131,13 +131,11 @@ module _ {E : Type 0} {P : Ghosts E} (w : Style) (s : List ℕ) where
       let is : path_bytes p ≡ s = cc in
       subst (λ x. IsParent w x (path_bytes q)) is (subst (IsNextParent w (path_bytes p)) k.0 h.1)
 
--- the units around the name of a path that is a name alone
-pub around_name : (units : List ℕ → List ℕ) (path name : List ℕ) → (parts : List (List ℕ)) × AreParts units path (Normal name ∷ []) parts
-    → (before : List ℕ) × ((after : List ℕ) × (units path ≡ units before ++ (units name ++ units after)))
-around_name units path name (parts, h) =
+-- the units of a path that is a name alone, and what comes after the name
+pub around_name : (w : Style) (units : List ℕ → List ℕ) (path name : List ℕ) → (parts : List (List ℕ)) × AreParts w units path (Normal name ∷ []) parts → (after : List ℕ) × (units path ≡ units [] ++ (units name ++ units after))
+around_name w units path name (parts, h) =
     let turns = h.turns in
-    let gap = turns.0 in
-    let more = turns.1.0 in
-    let last = turns.1.1.1.1.0 in
-    let are : parts ≡ gap ∷ name ∷ last ∷ [] = turns.1.1.1.0 ∙ ap (λ x. gap ∷ name ∷ x) turns.1.1.1.1.1.1 in
-    (gap, (last, h.in_units ∙ ap (flat_map units) are ∙ ap (λ x. units gap ++ (units name ++ x)) (append-nil (units last))))
+    let later = turns.1.1.1.1.1 in
+    let last = later.0 in
+    let are : parts ≡ [] ∷ name ∷ last ∷ [] = turns.1.1.1.1.0 ∙ ap (λ x. x ∷ name ∷ turns.1.0) turns.1.1.1.0 ∙ ap (λ x. [] ∷ name ∷ x) later.1.1.1 in
+    (last, h.in_units ∙ ap (flat_map units) are ∙ ap (λ x. units [] ++ (units name ++ x)) (append-nil (units last)))

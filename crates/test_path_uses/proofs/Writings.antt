@@ -3,20 +3,26 @@ use Rattle.std.proofs.Common.{◌≡◌, ◌≢◌, inl, inr, ℕ, true, false, 
 use Rattle.path_rules.specs.declared.rules.Style as whose
 use Rattle.path_rules.specs.declared.rules.Style.TheVariants as style
 use Rattle.path_rules.specs.Component.{Item, Prefix, RootDir, CurDir, ParentDir, Normal}
-use Rattle.path_rules.specs.Components.{AreComponents, prefixed}
+use Rattle.path_rules.specs.Components.{AreComponents, prefixed, bare}
 use Rattle.path_rules.specs.Prefix.{Disk, IsPrefixOf}
-use Rattle.path_building.specs.Normal.{AreNormalOf, root, name, up}
+use Rattle.path_building.specs.Normal.{AreNormalOf, bare_root, root, name, up}
 use Rattle.path_building.specs.Normalized.{IsNormalized}
 use Rattle.path_building.specs.Cleaned as clean
 use Rattle.path_building.specs.Cleaned.{IsCleaned}
-use Rattle.path_building.specs.Written.{LacksShare, HasEmptyShare, IsWritten, IsPathOf}
+use Rattle.path_building.specs.Written.{LacksShare, HasEmptyShare, IsWrittenOut, IsWritten, IsPathOf}
 
 -- components are written in one way
+one_out : (w : whose.Style) (items : List Item) (one other : List ℕ) → IsWrittenOut w items one → IsWrittenOut w items other → one ≡ other
+one_out w items one other (inl h) (inl k) = h.1 ∙ sym k.1
+one_out w items one other (inl h) (inr k) = absurd (k.0 h.0)
+one_out w items one other (inr h) (inl k) = absurd (h.0 k.0)
+one_out w items one other (inr h) (inr k) = h.1 ∙ sym k.1
+
 pub one_writing : (w : whose.Style) (items : List Item) (one other : List ℕ) → IsWritten w items one → IsWritten w items other → one ≡ other
 one_writing w items one other (inl h) (inl k) = h.1 ∙ sym k.1
 one_writing w items one other (inl h) (inr k) = absurd (k.0 h.0)
 one_writing w items one other (inr h) (inl k) = absurd (h.0 k.0)
-one_writing w items one other (inr h) (inr k) = h.1 ∙ sym k.1
+one_writing w items one other (inr h) (inr k) = one_out w items one other h.1 k.1
 
 -- a drive has no share
 no_share : ¬ (HasEmptyShare (codes "C:"))
@@ -33,7 +39,7 @@ before_are : AreComponents style.Windows (codes "C:/a/../b") before
 before_are = prefixed (record { kind = Disk 0x43; raw = codes "C:"; rest = codes "/a/../b"; joined = refl; prefix = (refl, refl); are = refl })
 
 after_are : IsPathOf style.Windows after (codes "C:\\b")
-after_are = (prefixed (record { kind = Disk 0x43; raw = codes "C:"; rest = codes "\\b"; joined = refl; prefix = (refl, refl); are = refl }), inr (no_share, refl))
+after_are = (prefixed (record { kind = Disk 0x43; raw = codes "C:"; rest = codes "\\b"; joined = refl; prefix = (refl, refl); are = refl }), inr (λ o. o, inr (no_share, refl)))
 
 pub normal_form : IsNormalized style.Windows (codes "C:/a/../b") (codes "C:\\b")
 normal_form = record {
@@ -62,11 +68,46 @@ pub base_are : AreComponents style.Windows (codes "C:/a") (Prefix (codes "C:") �
 base_are = prefixed (record { kind = Disk 0x43; raw = codes "C:"; rest = codes "/a"; joined = refl; prefix = (refl, refl); are = refl })
 
 pub below_written : IsWritten style.Windows (Prefix (codes "C:") ∷ RootDir ∷ Normal (codes "a") ∷ Normal (codes "b") ∷ Normal (codes "c") ∷ []) (codes "C:\\a\\b\\c")
-below_written = inr (no_share, refl)
+below_written = inr (λ o. o, inr (no_share, refl))
 
 -- `/a//b` on Windows
 pub unix_are : AreComponents style.Unix (codes "/a//b") (RootDir ∷ Normal (codes "a") ∷ Normal (codes "b") ∷ [])
 unix_are = refl
 
 pub restyled_written : IsWritten style.Windows (RootDir ∷ Normal (codes "a") ∷ Normal (codes "b") ∷ []) (codes "\\a\\b")
-restyled_written = inr (λ h. h, refl)
+restyled_written = inr (λ o. let never : codes "a" ≡ codes "??" = o in cc, inr (λ h. h, refl))
+
+-- `\a\..\??\c:\x`, which is no path of the object manager, and what is written for it
+abbrev hidden : List Item
+hidden = RootDir ∷ Normal (codes "a") ∷ ParentDir ∷ Normal (codes "??") ∷ Normal (codes "c:") ∷ Normal (codes "x") ∷ []
+
+abbrev shown : List Item
+shown = RootDir ∷ Normal (codes "??") ∷ Normal (codes "c:") ∷ Normal (codes "x") ∷ []
+
+hidden_are : AreComponents style.Windows (codes "\\a\\..\\??\\c:\\x") hidden
+hidden_are = bare (record { none = λ k rest h. h; are = refl })
+
+shown_are : IsPathOf style.Windows shown (codes "\\.\\??\\c:\\x")
+shown_are = (bare (record { none = λ k rest h. h; are = refl }), inl (refl, refl))
+
+pub normal_object : IsNormalized style.Windows (codes "\\a\\..\\??\\c:\\x") (codes "\\.\\??\\c:\\x")
+normal_object = record {
+  items = hidden;
+  normal = shown;
+  shown = shown;
+  are = hidden_are;
+  form = inr (λ v. v, name (name (name (up (name bare_root)))));
+  shielded = inr (λ b. b, refl);
+  answers = shown_are;
+}
+
+pub clean_object : IsCleaned style.Windows (codes "\\a\\..\\??\\c:\\x") (codes "\\.\\??\\c:\\x")
+clean_object = record {
+  items = hidden;
+  clean = shown;
+  shown = shown;
+  are = hidden_are;
+  form = inr (λ v. v, (shown, (clean.name (clean.name (clean.name (clean.up (clean.name clean.bare_root)))), refl)));
+  shielded = inr (λ b. b, refl);
+  answers = shown_are;
+}

@@ -1,5 +1,5 @@
 //! Paths joined and checked: nothing that is let through leaves the base.
-ghost use Rattle.std.specs.Prelude.{◌≡◌, ◌++◌, List, IfErr, IfOk, IsErr};
+ghost use Rattle.std.specs.Prelude.{◌≡◌, ◌++◌, ℕ, List, IfErr, IfOk, IfSome, IsErr};
 ghost use Rattle.platform_str.specs.Strings.{path_bytes, path_vec_of};
 ghost use Rattle.path_rules.specs.Component.{Item};
 ghost use Rattle.path_rules.specs.Components.{AreComponents};
@@ -7,14 +7,52 @@ ghost use Rattle.path_building.specs.Normalized.{IsNormalForm};
 ghost use Rattle.path_rules.specs.Prefix.{IsPrefixed};
 ghost use Rattle.path_rules.specs.Root.{BeginsWithSeparator};
 ghost use Rattle.path_rules.specs.StyleRules.{rules_of_style};
+ghost use Rattle.path_rules.specs.declared.rules.Style.TheVariants as style;
 ghost use Rattle.path_building.specs.Written.{IsPathOf};
-ghost use Rattle.path_building.specs.Checked.{AreCheckedNames, BeginsBelow, IsVerbatimAlone, LeadsOut, NamesReserved, NamesStream};
+ghost use Rattle.path_building.specs.Base.{HasNoNul, IsBase, IsFirstNul, LacksPart, own_root};
+ghost use Rattle.path_building.specs.Checked.{AreCheckedNames, BeginsBelow, IsBelowBase, LeadsOut, NamesReserved, NamesStream};
 
 use os_path::{JoinError, PathExt, PathStyle};
 use path_building::laws as building;
 use path_rules::laws;
-use platform_str::{Path, PathBuf};
+use platform_str::{Path, PathBuf, Unix, Windows};
 use std::alloc::Allocator;
+
+/// A file of an archive below a folder: it has the folder's components, and after them names alone.
+pub fn unpacked<'a, E: PathStyle + 'a, A: Allocator + Copy>(
+    alloc: A,
+    folder: Path<'a, E>,
+    name: Path<'a, E>,
+) -> Result<PathBuf<E, A>, JoinError>
+    ensures { IfOk result (λ file. IsBelowBase E.follows (path_bytes folder.entry)
+        (path_vec_of file).items) }
+{
+    folder.join_checked(alloc, name)
+}
+
+/// The same on Windows.
+pub fn unpacked_on_windows<A: Allocator + Copy>(
+    alloc: A,
+    folder: Path<'_, Windows>,
+    name: Path<'_, Windows>,
+) -> Result<PathBuf<Windows, A>, JoinError>
+    ensures { IfOk result (λ file. IsBelowBase style.Windows (path_bytes folder.entry)
+        (path_vec_of file).items) }
+{
+    folder.join_checked(alloc, name)
+}
+
+/// The same on Unix.
+pub fn unpacked_on_unix<A: Allocator + Copy>(
+    alloc: A,
+    folder: Path<'_, Unix>,
+    name: Path<'_, Unix>,
+) -> Result<PathBuf<Unix, A>, JoinError>
+    ensures { IfOk result (λ file. IsBelowBase style.Unix (path_bytes folder.entry)
+        (path_vec_of file).items) }
+{
+    folder.join_checked(alloc, name)
+}
 
 /// A path below a base: normalized, it begins with the base's normal form, and it has a normal form
 /// wherever the base has one.
@@ -36,9 +74,21 @@ pub fn below<'a, E: PathStyle + 'a, A: Allocator + Copy>(
     base.join_checked(alloc, path)
 }
 
-/// A path whose names are checked, below a base to whose prefix none of them would belong: it is let
-/// through unless memory is refused, and is the base's components and then these names, written with
-/// the main separator.
+/// A path below a base has no NUL: what takes it as a string of C takes all of it.
+pub fn whole_below<'a, E: PathStyle + 'a, A: Allocator + Copy>(
+    alloc: A,
+    base: Path<'a, E>,
+    path: Path<'a, E>,
+) -> Result<PathBuf<E, A>, JoinError>
+    ensures { IfOk result (λ joined. HasNoNul (path_vec_of joined).items) }
+{
+    building::joined_below();
+    base.join_checked(alloc, path)
+}
+
+/// A path whose names are checked, below a base that is a place of its own: it is let through unless
+/// memory is refused, and is the base's components and then these names, written with the main
+/// separator.
 pub fn let_through<'a, E: PathStyle + 'a, A: Allocator + Copy>(
     alloc: A,
     base: Path<'a, E>,
@@ -47,23 +97,27 @@ pub fn let_through<'a, E: PathStyle + 'a, A: Allocator + Copy>(
     ensures ok { IfOk result (λ joined. (items : List Item) → (names : List Item)
         → AreComponents E.follows (path_bytes base.entry) items
         → AreCheckedNames E.follows (path_bytes path.entry) names
-        → IsPathOf E.follows (items ++ names) (path_vec_of joined).items) }
+        → IsPathOf E.follows (items ++ (own_root items ++ names)) (path_vec_of joined).items) }
     ensures err { IfErr result (λ error. (names : List Item)
         → AreCheckedNames E.follows (path_bytes path.entry) names
-        → ¬ (IsVerbatimAlone E.follows (path_bytes base.entry)) → error ≡ JoinError.Memory) }
+        → IsBase E.follows (path_bytes base.entry) → error ≡ JoinError.Memory) }
 {
     laws::one_list();
     building::normal_forms();
     base.join_checked(alloc, path)
 }
 
-/// Whether a path is refused that has a prefix or a root, leads out of the base, or has a stream's
-/// colon or a reserved name: always.
+/// Whether a path is rejected that has a NUL, a prefix or a root, leads out of the base, or has a
+/// stream's colon or a reserved name, and any path below a base that has a NUL or is no place of its
+/// own: always.
 pub fn refused<'a, E: PathStyle + 'a, A: Allocator + Copy>(
     alloc: A,
     base: Path<'a, E>,
     path: Path<'a, E>,
 ) -> Result<PathBuf<E, A>, JoinError>
+    ensures nul { (index : ℕ) → IsFirstNul (path_bytes path.entry) index → IsErr result }
+    ensures base_nul { (index : ℕ) → IsFirstNul (path_bytes base.entry) index → IsErr result }
+    ensures base { LacksPart E.follows (path_bytes base.entry) → IsErr result }
     ensures prefix { IsPrefixed E.follows (path_bytes path.entry) → IsErr result }
     ensures root { BeginsWithSeparator (rules_of_style E.follows) (path_bytes path.entry)
         → IsErr result }
@@ -73,4 +127,18 @@ pub fn refused<'a, E: PathStyle + 'a, A: Allocator + Copy>(
 {
     laws::one_list();
     base.join_checked(alloc, path)
+}
+
+/// The index at which a path is rejected for its NUL: of its first NUL.
+pub fn nul_index<'a, E: PathStyle + 'a, A: Allocator + Copy>(
+    alloc: A,
+    base: Path<'a, E>,
+    path: Path<'a, E>,
+) -> Option<usize>
+    ensures { IfSome result (λ index. IsFirstNul (path_bytes path.entry) index) }
+{
+    match base.join_checked(alloc, path) {
+        Err(JoinError::Nul(index)) => Some(index),
+        _ => None,
+    }
 }

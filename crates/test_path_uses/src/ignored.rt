@@ -4,8 +4,9 @@ ghost use Rattle.os_ignore.specs.declared.file.File.{File};
 ghost use Rattle.os_ignore.specs.declared.verdict.Verdict.{Verdict};
 ghost use Rattle.os_ignore.specs.Ignores.{IsFileAt, files_of};
 ghost use Rattle.os_ignore.specs.Verdicts.{IsVerdict, is_ignored};
+ghost use Rattle.os_ignore.specs.Walks.{files_of_walk};
 
-use os_ignore::{Ignore, Verdict, laws};
+use os_ignore::{Ignore, Verdict, Walk, laws};
 use std::alloc::{AllocError, Allocator};
 
 /// What one file of a tree says of a path: what its lines say, as they are written.
@@ -92,4 +93,20 @@ pub fn is_undecided<A: Allocator + Copy>(alloc: A, path: &[u8], is_dir: bool) ->
 {
     laws::one_verdict::<A>();
     Ignore::empty(alloc).matched(path, is_dir) == Verdict::Neither
+}
+
+/// What a walk says of a path, and what the files say of it by itself: the same.
+pub fn walked<A: Allocator + Copy>(
+    alloc: A,
+    ignore: &Ignore<A>,
+    walk: &mut Walk<'_, A>,
+    path: &[u8],
+    is_dir: bool,
+) -> Result<(Verdict, Verdict), AllocError>
+    requires { files_of_walk walk.old ≡ files_of ignore.now }
+    ensures { IfOk result (λ said. said.0 ≡ said.1) }
+{
+    laws::walked_verdict::<A>();
+    let walked = walk.matched(alloc, path, is_dir)?;
+    Ok((walked, ignore.matched(path, is_dir)))
 }

@@ -109,11 +109,11 @@ pub fn prefix_of_units<'a, E: PathStyle + 'a>(path: Path<'a, E>) -> Option<Path<
     path.parent()
 }
 
-/// The bytes of a path, whose units, if it has a name alone, are the name's with others around.
+/// The bytes of a path, whose units, if it has a name alone, are the name's and those of what follows.
 pub fn around_name<'a, E: PathStyle + 'a>(path: Path<'a, E>) -> &'a [u8]
     ensures { (name : List ℕ) → AreComponents E.follows result.now (Normal name ∷ [])
-        → (before : List ℕ) × ((after : List ℕ)
-        × (E.units result.now ≡ E.units before ++ (E.units name ++ E.units after))) }
+        → (after : List ℕ)
+        × (E.units result.now ≡ E.units [] ++ (E.units name ++ E.units after)) }
 {
     os_path::laws::component_units::<E>();
     path.path_bytes()

@@ -6,6 +6,7 @@ ghost use Rattle.path_rules.specs.declared.rules.Style.TheVariants as style;
 ghost use Rattle.path_rules.specs.Root.{IsAbsolute};
 ghost use Rattle.path_building.specs.Checked.{AreCheckedNames};
 ghost use Rattle.path_building.specs.Join.{IsVerbatimPath};
+ghost use Rattle.path_building.specs.Written.{BeginsAsObject};
 ghost use Rattle.path_building.specs.MainSeparators.{HasMainSeparators};
 ghost use Rattle.test_path_uses.specs.Slashes.{HasNoSlash};
 
@@ -80,7 +81,42 @@ pub fn form_without_slash<A: Allocator + Copy>(
     separators_of_form(alloc, form, path)
 }
 
-/// The same of a path below a base.
+/// A Windows path in a form never begins with `\??\`, which Windows reads as it reads `\\?\`.
+pub fn no_object_of_form<A: Allocator + Copy>(
+    alloc: A,
+    form: Form,
+    path: Path<'_, Windows>,
+) -> Result<PathBuf<Windows, A>, NormalizeError>
+    ensures { IfOk result (λ made. ¬ (BeginsAsObject (path_vec_of made).items)) }
+{
+    building::no_object();
+    in_form(alloc, form, path)
+}
+
+/// A Unix path on Windows doesn't either.
+pub fn no_object_on_windows<A: Allocator + Copy>(
+    alloc: A,
+    path: Path<'_, Unix>,
+) -> Result<PathBuf<Windows, A>, ConvertError>
+    ensures { IfOk result (λ made. ¬ (BeginsAsObject (path_vec_of made).items)) }
+{
+    building::no_object();
+    path.with_style::<Windows, A>(alloc)
+}
+
+/// `\a\..\??\c:\x` in each form is `\.\??\c:\x`.
+pub fn form_of_object<A: Allocator + Copy>(
+    alloc: A,
+    form: Form,
+    path: Path<'_, Windows>,
+) -> Result<PathBuf<Windows, A>, NormalizeError>
+    ensures { IfOk result (λ made. path_bytes path.entry ≡ codes "\\a\\..\\??\\c:\\x"
+        → (path_vec_of made).items ≡ codes "\\.\\??\\c:\\x") }
+{
+    formed(alloc, form, path)
+}
+
+/// The main separator alone separates in a path below a base.
 pub fn separators_below<'a, E: PathStyle + 'a, A: Allocator + Copy>(
     alloc: A,
     base: Path<'a, E>,

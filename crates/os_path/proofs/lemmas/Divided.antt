@@ -8,7 +8,10 @@ use Rattle.wtf8_core.specs.Boundary.{IsBoundary}
 use Rattle.wtf8_core.specs.OccurrenceLaws.{OccurrenceLaws}
 use Rattle.path_rules.specs.Component.{Item, Prefix, RootDir, CurDir, ParentDir, Normal}
 use Rattle.path_rules.specs.Cut.{IsAsciiCut, at_start, at_end}
-use Rattle.path_rules.specs.Divided.{part_of, is_between, IsGap, IsDivided}
+use Rattle.path_rules.specs.Divided.{part_of, is_between, IsGap, Place, AtStart, place_after, IsDivided}
+use Rattle.path_rules.specs.declared.rules.Rules.{Rules}
+use Rattle.path_rules.specs.declared.rules.Style.{Style}
+use Rattle.path_rules.specs.StyleRules.{rules_of_path}
 use Rattle.os_path.specs.Divided.{AreByTurns, AreParts}
 use Rattle.os_path.specs.Formed.{IsFormed, AreFormed}
 use Rattle.os_path.proofs.lemmas.Cuts.{cut_boundary}
@@ -42,11 +45,11 @@ nothing_after : (front back : List (List ℕ)) → [] ≡ front ++ back → back
 nothing_after [] back e = sym e
 nothing_after (p ∷ front) back e = cc
 
-module _ (formed : List ℕ → Type 0) (units : List ℕ → List ℕ) (laws : OccurrenceLaws formed units) where
+module _ (formed : List ℕ → Type 0) (units : List ℕ → List ℕ) (laws : OccurrenceLaws formed units) (w : Style) (r : Rules) where
   -- what follows these bytes, divided
-  record Found (before : List ℕ) (items : List Item) (s : List ℕ) : Type 0 where
+  record Found (place : Place) (before : List ℕ) (items : List Item) (s : List ℕ) : Type 0 where
     parts : List (List ℕ)
-    turns : AreByTurns items parts
+    turns : AreByTurns w r place items parts
     in_bytes : s ≡ all parts
     in_units : units s ≡ flat_map units parts
     cuts : (front back : List (List ℕ)) → parts ≡ front ++ back → (front ≡ []) ⊎ IsAsciiCut (before ++ all front) (all back)
@@ -82,32 +85,33 @@ module _ (formed : List ℕ → Type 0) (units : List ℕ → List ℕ) (laws : 
         let two = same_first part q others (front ++ back) one.1 in
         inr (subst (λ x. IsAsciiCut (before ++ (x ++ (q ++ all front))) (all back)) one.0 (subst (λ x. IsAsciiCut (before ++ (gap ++ (x ++ all front))) (all back)) two.0 (after_both front back two.1 (later front back two.1))))
 
-  found : (items : List Item) (before s : List ℕ) → AreFormed formed items → formed s → IsDivided before items s → Found before items s
-  found [] before s fs f d = record {
+  found : (items : List Item) (place : Place) (before s : List ℕ) → AreFormed formed items → formed s → IsDivided w r place before items s → Found place before items s
+  found [] place before s fs f d = record {
     parts = s ∷ [];
-    turns = (s, (d, refl));
+    turns = (s, (d.0, (d.1, refl)));
     in_bytes = sym (append-nil s);
     in_units = sym (append-nil (units s));
     cuts = last_cut before s;
   }
-  found (x ∷ xs) before s fs f d =
+  found (x ∷ xs) place before s fs f d =
       let part = part_of x in
       let one = laws.prefixes d.gap (part ++ d.rest) (laws.texts d.gap (gap_text d.gap d.is_gap)) (subst formed d.joined f) in
       let two = laws.prefixes part d.rest (part_formed x fs.0) one.0 in
-      let more = found xs (before ++ (d.gap ++ part)) d.rest fs.1 two.0 d.then in
+      let more = found xs (place_after w r x) (before ++ (d.gap ++ part)) d.rest fs.1 two.0 d.then in
       record {
         parts = d.gap ∷ part ∷ more.parts;
-        turns = (d.gap, (more.parts, (d.is_gap, (refl, more.turns))));
+        turns = (d.gap, (more.parts, (d.is_gap, (d.stands, (refl, more.turns)))));
         in_bytes = d.joined ∙ ap (λ z. d.gap ++ (part ++ z)) more.in_bytes;
         in_units = ap units d.joined ∙ one.1 ∙ ap (λ z. units d.gap ++ z) (two.1 ∙ ap (λ z. units part ++ z) more.in_units);
         cuts = each_cut before d.gap part d.rest more.parts more.in_bytes d.begins d.ends more.cuts;
       }
 
-  pub parts_of : (path : List ℕ) (items : List Item) → AreFormed formed items → formed path → IsDivided [] items path → (parts : List (List ℕ)) × AreParts units path items parts
-  parts_of path items fs f d =
-      let h = found items [] path fs f d in
-      (h.parts, record { turns = h.turns; in_bytes = h.in_bytes; in_units = h.in_units; cuts = λ front back e. boundary h front back e (h.cuts front back e) })
-    where
-      boundary : (h : Found [] items path) (front back : List (List ℕ)) → h.parts ≡ front ++ back → (front ≡ []) ⊎ IsAsciiCut (all front) (all back) → IsBoundary path (length (all front))
-      boundary h front back e (inl n) = subst (λ x. IsBoundary path (length (all x))) (sym n) (cut_boundary path [] path refl (at_start refl))
-      boundary h front back e (inr c) = cut_boundary path (all front) (all back) (h.in_bytes ∙ ap all e ∙ flat_map-append (λ part. part) front back) c
+  each_boundary : (path : List ℕ) (items : List Item) (h : Found AtStart [] items path) (front back : List (List ℕ)) → h.parts ≡ front ++ back → (front ≡ []) ⊎ IsAsciiCut (all front) (all back) → IsBoundary path (length (all front))
+  each_boundary path items h front back e (inl n) = subst (λ x. IsBoundary path (length (all x))) (sym n) (cut_boundary path [] path refl (at_start refl))
+  each_boundary path items h front back e (inr c) = cut_boundary path (all front) (all back) (h.in_bytes ∙ ap all e ∙ flat_map-append (λ part. part) front back) c
+
+pub parts_of : (formed : List ℕ → Type 0) (units : List ℕ → List ℕ) (laws : OccurrenceLaws formed units) (w : Style) (path : List ℕ) (items : List Item) → AreFormed formed items → formed path → IsDivided w (rules_of_path w path) AtStart [] items path → (parts : List (List ℕ)) × AreParts w units path items parts
+parts_of formed units laws w path items fs f d =
+    let r = rules_of_path w path in
+    let h = found formed units laws w r items AtStart [] path fs f d in
+    (h.parts, record { turns = h.turns; in_bytes = h.in_bytes; in_units = h.in_units; cuts = λ front back e. each_boundary formed units laws w r path items h front back e (h.cuts front back e) })

@@ -6,9 +6,9 @@ use Rattle.path_rules.specs.declared.rules.Style.{Style}
 use Rattle.path_rules.specs.declared.rules.Style.TheVariants as style
 use Rattle.path_rules.specs.StyleRules.{main_separator}
 use Rattle.path_rules.specs.Component.{Item, Prefix, RootDir, CurDir, ParentDir, Normal}
-use Rattle.path_building.specs.Written.{spelling, more_names, joined_names, IsWritten}
+use Rattle.path_building.specs.Written.{spelling, more_names, joined_names, IsWrittenOut, IsWritten}
 use Rattle.path_building.specs.Relative.{AreApart, up_from, BeginsAtTop, AreWritten, IsWhole, IsCandidate}
-use Rattle.path_building.proofs.lemmas.Places.{below_top, bare_names}
+use Rattle.path_building.proofs.lemmas.Places.{below_top, bare_names, object_none}
 use Rattle.os_path.specs.Formed.{IsFormed, AreFormed}
 use Rattle.os_path.proofs.lemmas.Cuts.{cuts}
 use Rattle.os_path.proofs.lemmas.Whole.{joined_formed}
@@ -50,7 +50,8 @@ module _ (formed : List ℕ → Type 0) (units : List ℕ → List ℕ) (laws : 
   written_formed w names r n h f =
       let c = main_separator w in
       let is = bare_names c names n in
-      let bytes : r ≡ joined_names c names = elim h as (λ z. r ≡ joined_names c names) [ inl a ↦ a.1 ∙ is.1 | inr a ↦ a.1 ∙ is.0 ] in
+      let out : IsWrittenOut w names r = elim h [ inl a ↦ absurd (object_none w names n a.0) | inr a ↦ a.1 ] in
+      let bytes : r ≡ joined_names c names = elim out as (λ z. r ≡ joined_names c names) [ inl a ↦ a.1 ∙ is.1 | inr a ↦ a.1 ∙ is.0 ] in
       subst formed (sym bytes) (names_formed c (ascii w) names f)
 
   shown_formed : (w : Style) (names : List Item) (r : List ℕ) → ¬ (BeginsAtTop names) → AreWritten w names r → AreFormed formed names → formed r

@@ -1,5 +1,5 @@
 -- What is written of a prefix, a start and names is these components as they are written.
-use Rattle.std.proofs.Common.{◌≡◌, inl, inr, ℕ, Bool, true, false, List, [], ◌∷◌, ◌++◌, refl, sym, ap, ◌∙◌, subst, append-nil}
+use Rattle.std.proofs.Common.{◌≡◌, inl, inr, ℕ, Bool, true, false, List, [], ◌∷◌, ◌++◌, refl, sym, ◌∙◌, subst, append-nil}
 use Rattle.std.proofs.lemmas.List.{append_cancel_right}
 use Rattle.path_rules.specs.declared.rules.Rules.{Rules}
 use Rattle.path_rules.specs.declared.rules.Style as whose
@@ -12,7 +12,7 @@ use Rattle.path_rules.specs.Component.{Item, Prefix, RootDir, CurDir, ParentDir,
 use Rattle.path_rules.specs.Prefix.{Kind, IsPrefixOf}
 use Rattle.path_rules.specs.Heads.{prefix_items, start_items}
 use Rattle.path_rules.specs.HeadParts.{IsHead, bare_head, prefixed_head}
-use Rattle.path_building.specs.Written.{LacksShare, HasEmptyShare, NamesAShare, written, written_apart, IsWritten}
+use Rattle.path_building.specs.Written.{LacksShare, HasEmptyShare, NamesAShare, written, IsWrittenOut}
 use Rattle.path_building.specs.Spelled.{after_bytes, DoublesRoot, AreSpelled}
 use Rattle.path_rules.proofs.lemmas.OneList.{one_prefix}
 use Rattle.path_building.proofs.lemmas.Moves.{prefix_moves}
@@ -20,7 +20,7 @@ use Rattle.path_building.proofs.lemmas.Resolving.{no_prefix, no_root}
 use Rattle.path_building.proofs.lemmas.Written.{fits_nothing}
 
 -- a prefix is the prefix of itself alone, and has a share there as before
-prefix_alone : (s raw : List ℕ) (kind : Kind) (rest : List ℕ) → s ≡ raw ++ rest → IsPrefixOf s kind rest → IsPrefixOf raw kind []
+pub prefix_alone : (s raw : List ℕ) (kind : Kind) (rest : List ℕ) → s ≡ raw ++ rest → IsPrefixOf s kind rest → IsPrefixOf raw kind []
 prefix_alone s raw kind rest j h =
     let m = prefix_moves s kind rest [] (fits_nothing kind rest) h in
     let same : m.before ≡ raw = append_cancel_right m.before raw rest (sym m.joined ∙ j) in
@@ -97,7 +97,7 @@ share_after r p Nothing (ParentDir ∷ xs) sp h = absurd h
 share_after r p Nothing (Normal s ∷ xs) sp h = absurd h
 
 -- twice after a prefix without a share
-twice : (r : Rules) (b : ℕ) (p : List ℕ) (st : Start) (names : List Item) → AreSpelled r names → HasEmptyShare (b ∷ p) → IsWritten style.Windows (Prefix (b ∷ p) ∷ (start_items st ++ names)) ((b ∷ p) ++ after_bytes 0x5C st true names)
+twice : (r : Rules) (b : ℕ) (p : List ℕ) (st : Start) (names : List Item) → AreSpelled r names → HasEmptyShare (b ∷ p) → IsWrittenOut style.Windows (Prefix (b ∷ p) ∷ (start_items st ++ names)) ((b ∷ p) ++ after_bytes 0x5C st true names)
 twice r b p Root [] sp h = inr (λ z. z, refl)
 twice r b p Root (x ∷ xs) sp h = inl (h, refl)
 twice r b p Dot [] sp h = inr (λ z. z, refl)
@@ -109,7 +109,7 @@ twice r b p Nothing (CurDir ∷ xs) sp h = inr (λ z. z, refl)
 twice r b p Nothing (ParentDir ∷ xs) sp h = inr (λ z. z, refl)
 twice r b p Nothing (Normal s ∷ xs) sp h = inr (λ z. z, refl)
 
-windows_written : (r : Rules) (p : List ℕ) (st : Start) (doubled : Bool) (names : List Item) → AreSpelled r names → (doubled ≡ true → HasEmptyShare p) → (HasEmptyShare p → doubled ≡ true) → IsWritten style.Windows (prefix_items p ++ (start_items st ++ names)) (p ++ after_bytes 0x5C st doubled names)
+windows_written : (r : Rules) (p : List ℕ) (st : Start) (doubled : Bool) (names : List Item) → AreSpelled r names → (doubled ≡ true → HasEmptyShare p) → (HasEmptyShare p → doubled ≡ true) → IsWrittenOut style.Windows (prefix_items p ++ (start_items st ++ names)) (p ++ after_bytes 0x5C st doubled names)
 windows_written r [] st true names sp has back = absurd (no_share (has refl))
 windows_written r [] st false names sp has back = inr (no_share_bare r st names sp, bare_once r 0x5C st names sp)
 windows_written r (b ∷ p) st true names sp has back = twice r b p st names sp (has refl)
@@ -118,6 +118,6 @@ windows_written r (b ∷ p) st false names sp has back = inr (
   after_once r 0x5C b p st names sp,
 )
 
-pub as_written : (w : whose.Style) (r : Rules) (p : List ℕ) (st : Start) (doubled : Bool) (names : List Item) → AreSpelled r names → DoublesRoot w p doubled → IsWritten w (prefix_items p ++ (start_items st ++ names)) (p ++ after_bytes (main_separator w) st doubled names)
+pub as_written : (w : whose.Style) (r : Rules) (p : List ℕ) (st : Start) (doubled : Bool) (names : List Item) → AreSpelled r names → DoublesRoot w p doubled → IsWrittenOut w (prefix_items p ++ (start_items st ++ names)) (p ++ after_bytes (main_separator w) st doubled names)
 as_written style.Unix r p st doubled names sp d = inr (λ h. h, subst (λ z. p ++ after_bytes 0x2F st z names ≡ written 0x2F (prefix_items p ++ (start_items st ++ names))) (sym d) (once r 0x2F p st names sp))
 as_written style.Windows r p st doubled names sp d = windows_written r p st doubled names sp d.0 d.1

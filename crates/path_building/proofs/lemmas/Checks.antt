@@ -13,7 +13,7 @@ use Rattle.path_rules.specs.declared.head.Head.{Head}
 use Rattle.path_rules.specs.Separators.{separates, Edge, IsPlain, IsCut, IsField}
 use Rattle.path_rules.specs.StyleRules.{rules_of_style}
 use Rattle.path_rules.specs.Component.{Item, Prefix, RootDir, CurDir, ParentDir, Normal, dot, named, components_in}
-use Rattle.path_rules.specs.Components.{start_of, after_start, root_of, AreComponents}
+use Rattle.path_rules.specs.Components.{start_of, after_start, AreComponents}
 use Rattle.path_rules.specs.Prefix.{Kind, Verbatim, VerbatimUnc, VerbatimDisk, Device, Unc, Disk, DriveLead, NoLead, is_letter, lead_of, IsPrefixOf, rules_of, IsPrefixed}
 use Rattle.path_rules.specs.Heads.{prefix_items, start_items, items_of}
 use Rattle.path_rules.specs.HeadParts.{IsHead, bare_head, prefixed_head}
@@ -22,14 +22,18 @@ use Rattle.path_building.specs.Join.{IsRelativeTo, without_dot}
 use Rattle.path_building.specs.Normal.{AreNames}
 use Rattle.path_building.specs.Normalized.{BeginsAsPrefix}
 use Rattle.path_building.specs.Written.{spelling, IsPathOf}
-use Rattle.path_building.specs.Spelled.{resolve, AreSpelled, MayStart}
-use Rattle.path_building.specs.Checked.{has_colon, NamesNoStream, IsFree, NameNoStream, AreFree, LeadsInside, AreCheckedNames, IsVerbatimAlone, IsCheckedJoin, LeadsOut}
+use Rattle.path_building.specs.Spelled.{resolve, AreSpelled, MayStart, IsNamesAfter}
+use Rattle.path_building.specs.declared.checked.JoinError.{JoinError}
+use Rattle.path_building.specs.declared.checked.JoinError.TheVariants as error
+use Rattle.path_building.specs.Base.{HasNoNul, IsBase, IsVerbatimAlone}
+use Rattle.path_building.specs.Checked.{has_colon, NamesNoStream, IsFree, NameNoStream, AreFree, LeadsInside, AreCheckedNames, IsNameFault, IsBaseFault, IsCheckedJoin, IsBelowBase, IsJoinFault, LeadsOut}
 use Rattle.path_rules.proofs.lemmas.Bodies.{one_item, no_item, first_item}
 use Rattle.path_rules.proofs.lemmas.Edges.{edge_or_disk}
 use Rattle.path_rules.proofs.lemmas.AfterPrefix.{some_of}
 use Rattle.path_building.proofs.lemmas.Forms.{dots_left, empty_rest, resolved_form, leads_nowhere, names_spelled}
 use Rattle.path_building.proofs.lemmas.Joins.{refuted}
-use Rattle.path_rules.proofs.lemmas.OneList.{one_prefix}
+use Rattle.path_rules.proofs.lemmas.OneList.{one_components}
+use Rattle.path_building.proofs.lemmas.Bases.{alone_items, root_items, root_open, root_of_alone, no_own_root}
 use Rattle.path_building.proofs.lemmas.Resolving.{onto, onto_is}
 use Rattle.path_building.proofs.lemmas.Spelling.{named_spelled}
 use Rattle.path_rules.proofs.lemmas.Starts.{with_root, is_root}
@@ -336,33 +340,69 @@ alone_from style.Windows base head (prefixed_head h) v n =
     let none : h.rest ≡ [] = empty_rest h.kind h.rest (sym h.rules ∙ v) (edge_or_disk base h.kind h.rest h.is) (sym h.start ∙ n) in
     (h.kind, (subst (IsPrefixOf base h.kind) none h.is, sym h.rules ∙ v))
 
-verbatim_start : (kind : Kind) → rules_of kind ≡ rules.Verbatim → root_of kind [] ≡ Nothing
-verbatim_start (Verbatim n) e = refl
-verbatim_start (VerbatimUnc s n) e = refl
-verbatim_start (VerbatimDisk l) e = refl
-verbatim_start (Device n) e = let never : rules.Either ≡ rules.Verbatim = e in cc
-verbatim_start (Unc s n) e = let never : rules.Either ≡ rules.Verbatim = e in cc
-verbatim_start (Disk l) e = let never : rules.Either ≡ rules.Verbatim = e in cc
-
-pub alone_parts : (w : whose.Style) (base : List ℕ) (head : Head) → IsHead w base head → IsVerbatimAlone w base → (head.rules ≡ rules.Verbatim) × (head.start ≡ Nothing)
-alone_parts style.Unix base head h a = absurd a
-alone_parts style.Windows base head (bare_head h) a = absurd (h.none a.0 [] a.1.0)
-alone_parts style.Windows base head (prefixed_head h) a =
-    let same = one_prefix base h.kind a.0 h.rest [] h.is a.1.0 in
-    (h.rules ∙ ap rules_of same.0 ∙ a.1.1, h.start ∙ ap (λ k. root_of k h.rest) same.0 ∙ ap (root_of a.0) same.1 ∙ verbatim_start a.0 a.1.1)
-
--- the joined path
-pub checked_join : (w : whose.Style) (base path joined : List ℕ) (head : Head) → AreComponents w base (items_of head) → IsHead w base head → (names all : List Item) → AreCheckedNames w path names → (head.rules ≡ rules.Verbatim → head.start ≡ Nothing → names ≡ []) → all ≡ components_in head.rules head.body.now ++ names
-    → IsPathOf w (prefix_items head.prefix.now ++ (start_items head.start ++ all)) joined → IsCheckedJoin w base path joined
-checked_join w base path joined head are parts names all checked follows e answers = record {
-  base_items = items_of head;
-  names = names;
-  base_are = are;
-  checked = checked;
-  separable = λ a. let p = alone_parts w base head parts a in follows p.0 p.1;
+-- names after a path's components, as they are written
+pub names_joined : (w : whose.Style) (path joined : List ℕ) (head : Head) → AreComponents w path (items_of head) → (names all : List Item) → all ≡ components_in head.rules head.body.now ++ names
+    → IsPathOf w (prefix_items head.prefix.now ++ (start_items head.start ++ all)) joined → IsNamesAfter w path names joined
+names_joined w path joined head are names all e answers = record {
+  items = items_of head;
+  are = are;
   answers =
       let p = prefix_items head.prefix.now in
       let s = start_items head.start in
       let xs = components_in head.rules head.body.now in
       subst (λ z. IsPathOf w z joined) (ap (λ z. p ++ (s ++ z)) e ∙ ap (λ z. p ++ z) (sym (append_assoc s xs names)) ∙ sym (append_assoc p (s ++ xs) names)) answers;
 }
+
+-- a joined path, where the base is no prefix alone, and where it is one
+pub joined_after : (w : whose.Style) (base path joined : List ℕ) (names : List Item) → IsBase w base → AreCheckedNames w path names → ¬ (IsVerbatimAlone w base) → IsNamesAfter w base names joined → IsCheckedJoin w base path joined
+joined_after w base path joined names place checked alone h = record {
+  base_items = h.items;
+  names = names;
+  place = place;
+  base_are = h.are;
+  checked = checked;
+  answers = subst (λ z. IsPathOf w (h.items ++ (z ++ names)) joined) (sym (no_own_root w base h.items alone h.are)) h.answers;
+}
+
+pub root_still_open : (w : whose.Style) (base : List ℕ) → IsBase w base → IsVerbatimAlone w base → ¬ (IsVerbatimAlone w (base ++ 0x5C ∷ []))
+root_still_open style.Unix base place a = absurd a
+root_still_open style.Windows base place a = root_open base place.1 a
+
+pub joined_at_root : (w : whose.Style) (base root path joined : List ℕ) (names : List Item) → root ≡ base ++ 0x5C ∷ [] → IsBase w base → AreCheckedNames w path names → IsVerbatimAlone w base → IsNamesAfter w root names joined → IsCheckedJoin w base path joined
+joined_at_root style.Unix base root path joined names e place checked a h = absurd a
+joined_at_root style.Windows base root path joined names e place checked a h =
+    let items : h.items ≡ Prefix base ∷ RootDir ∷ [] = one_components style.Windows root h.items (Prefix base ∷ RootDir ∷ []) h.are (subst (λ z. AreComponents style.Windows z (Prefix base ∷ RootDir ∷ [])) (sym e) (root_items base place.1 a)) in
+    record {
+      base_items = Prefix base ∷ [];
+      names = names;
+      place = place;
+      base_are = alone_items base a;
+      checked = checked;
+      answers = subst (λ z. IsPathOf style.Windows (Prefix base ∷ (z ++ names)) joined) (sym (root_of_alone base a)) (subst (λ z. IsPathOf style.Windows (z ++ names) joined) items h.answers);
+    }
+
+pub is_below : (w : whose.Style) (base path joined : List ℕ) → IsCheckedJoin w base path joined → IsBelowBase w base joined
+is_below w base path joined h = record { base_items = h.base_items; names = h.names; base_are = h.base_are; are = h.answers.0; alone = h.checked.inside.alone }
+
+-- why a path isn't joined
+pub from_base : (w : whose.Style) (base path : List ℕ) (e : JoinError) → IsBaseFault w base e → IsJoinFault w base path e
+from_base w base path (error.BaseNul i) h = h
+from_base w base path error.Base h = h
+from_base w base path (error.Nul i) h = absurd h
+from_base w base path error.Prefix h = absurd h
+from_base w base path error.Root h = absurd h
+from_base w base path error.Leaves h = absurd h
+from_base w base path error.Stream h = absurd h
+from_base w base path error.Reserved h = absurd h
+from_base w base path error.Memory h = absurd h
+
+pub from_names : (w : whose.Style) (base path : List ℕ) (e : JoinError) → IsBase w base → HasNoNul path → IsNameFault w path e → IsJoinFault w base path e
+from_names w base path (error.BaseNul i) b n h = absurd h
+from_names w base path error.Base b n h = absurd h
+from_names w base path (error.Nul i) b n h = absurd h
+from_names w base path error.Prefix b n h = (b, (n, h))
+from_names w base path error.Root b n h = (b, (n, h))
+from_names w base path error.Leaves b n h = (b, (n, h))
+from_names w base path error.Stream b n h = (b, (n, h))
+from_names w base path error.Reserved b n h = (b, (n, h))
+from_names w base path error.Memory b n h = tt

@@ -1,5 +1,5 @@
 -- What separates in what is written.
-use Rattle.std.proofs.Common.{◌≡◌, inl, inr, ℕ, true, false, List, [], ◌∷◌, ◌++◌, refl, sym, ◌∙◌, subst, eqb-true}
+use Rattle.std.proofs.Common.{◌≡◌, inl, inr, ℕ, true, false, List, [], ◌∷◌, ◌++◌, refl, sym, ap, ◌∙◌, subst, eqb-true}
 use Rattle.std.specs.List.{AllByRecursion}
 use Rattle.std.proofs.lemmas.List.{append_cancel_left}
 use Rattle.std.proofs.lemmas.List.Elements.{All-head, All-tail}
@@ -20,7 +20,7 @@ use Rattle.path_rules.proofs.lemmas.AfterPrefix.{after_prefix}
 use Rattle.path_rules.proofs.lemmas.OneList.{one_prefix}
 use Rattle.path_building.specs.Join.{IsVerbatimPath}
 use Rattle.path_building.specs.Normalized.{IsShielded}
-use Rattle.path_building.specs.Written.{spelling, more_names, joined_names, rooted_names, written, written_apart, IsWritten, IsPathOf}
+use Rattle.path_building.specs.Written.{spelling, more_names, joined_names, rooted_names, written, written_apart, IsWrittenOut, IsWritten, IsPathOf}
 use Rattle.path_building.specs.Relative.{AreApart, up_from, BeginsAtTop, IsCandidate}
 use Rattle.path_building.specs.Spelled.{AreSpelled}
 use Rattle.path_building.specs.MainSeparators.{SeparatesBy, HasMainSeparators}
@@ -116,8 +116,18 @@ bare_by : (w : whose.Style) (xs : List Item) (path : List ℕ) → ArePlainItems
 bare_by w xs path h k =
     let r = rules_of_style w in
     let c = main_separator w in
-    let is : path ≡ rooted_names c xs = elim k as (λ z. path ≡ rooted_names c xs) [ inl a ↦ a.1 ∙ (bare_names r c xs h).1 | inr a ↦ a.1 ∙ (bare_names r c xs h).0 ] in
-    subst (SeparatesBy r c) (sym is) (rooted_by r c xs h)
+    let names = rooted_names c xs in
+    let by = rooted_by r c xs h in
+    elim k as (λ z. SeparatesBy r c path) [
+      | inl a ↦ subst (SeparatesBy r c) (sym (a.1 ∙ ap (λ z. c ∷ 0x2E ∷ z) (bare_names r c xs h).0)) (λ e. refl, (λ e. let never : false ≡ true = sym (dot_plain w) ∙ e in cc, by))
+      | inr b ↦
+          let is : path ≡ names = elim b.1 as (λ z. path ≡ names) [ inl a ↦ a.1 ∙ (bare_names r c xs h).1 | inr a ↦ a.1 ∙ (bare_names r c xs h).0 ] in
+          subst (SeparatesBy r c) (sym is) by
+    ]
+  where
+    dot_plain : (v : whose.Style) → separates (rules_of_style v) 0x2E ≡ false
+    dot_plain style.Unix = refl
+    dot_plain style.Windows = refl
 
 -- by those of any prefix
 verbatim_by : (s : List ℕ) → SeparatesBy rules.Verbatim 0x5C s
@@ -146,7 +156,7 @@ everywhere style.Windows path h = (
 )
 
 -- after a prefix
-rest_by : (path raw rest : List ℕ) (kind : Kind) (xs : List Item) → path ≡ raw ++ rest → ArePlainItems (rules_of kind) xs → IsWritten style.Windows (Prefix raw ∷ xs) path → SeparatesBy (rules_of kind) 0x5C rest
+rest_by : (path raw rest : List ℕ) (kind : Kind) (xs : List Item) → path ≡ raw ++ rest → ArePlainItems (rules_of kind) xs → IsWrittenOut style.Windows (Prefix raw ∷ xs) path → SeparatesBy (rules_of kind) 0x5C rest
 rest_by path raw rest kind xs j h k =
     let r = rules_of kind in
     let names = rooted_names 0x5C xs in
@@ -160,7 +170,8 @@ pub main_separators : (w : whose.Style) (items : List Item) (path : List ℕ) �
 main_separators style.Unix items path h = slash_by path
 main_separators style.Windows items path (prefixed a, k) =
     let tail = start_items (root_of a.kind a.rest) ++ components_in (rules_of a.kind) (after_root a.rest) in
-    let by = rest_by path a.raw a.rest a.kind tail a.joined (body_plain (rules_of a.kind) (root_of a.kind a.rest) (after_root a.rest)) (subst (λ z. IsWritten style.Windows z path) a.are k) in (
+    let out : IsWrittenOut style.Windows (Prefix a.raw ∷ tail) path = elim (subst (λ z. IsWritten style.Windows z path) a.are k) [ inl o ↦ absurd o.0 | inr o ↦ o.1 ] in
+    let by = rest_by path a.raw a.rest a.kind tail a.joined (body_plain (rules_of a.kind) (root_of a.kind a.rest) (after_root a.rest)) out in (
       λ kind rest p.
           let same = one_prefix path a.kind kind a.rest rest a.prefix p in
           subst (λ z. SeparatesBy (rules_of z) 0x5C rest) same.0 (subst (SeparatesBy (rules_of a.kind) 0x5C) same.1 by),

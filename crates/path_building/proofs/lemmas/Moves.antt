@@ -1,9 +1,10 @@
 -- A prefix stays before anything that begins with a separator, unless it is a share that grows.
-use Rattle.std.proofs.Common.{◌≡◌, ℕ, List, [], ◌∷◌, ◌++◌, refl, sym, ap, ◌∙◌, subst, append_assoc}
+use Rattle.std.proofs.Common.{◌≡◌, ◌≢◌, ◌⊎◌, inl, inr, ℕ, Bool, true, false, ◌&&◌, nat_eq, if◌then◌else◌, List, [], ◌∷◌, ◌++◌, refl, sym, ap, ◌∙◌, subst, append_assoc, append-nil, eqb-true}
 use Rattle.path_rules.specs.declared.rules.Rules.{Rules}
 use Rattle.path_rules.specs.declared.rules.Rules.TheVariants as rules
 use Rattle.path_rules.specs.Separators.{Edge, IsField}
-use Rattle.path_rules.specs.Prefix.{Kind, Verbatim, VerbatimUnc, VerbatimDisk, Device, Unc, Disk, Lead, VerbatimLead, DeviceLead, DoubleLead, DriveLead, NoLead, VerbatimLeads, UncLead, DiskLead, NameLead, upper, lead_of, verbatim_lead, IsUnc, IsShare, IsVerbatimUnc, IsNamed, IsVerbatim, IsVerbatimBy, IsPrefixBy, IsPrefixOf}
+use Rattle.path_rules.specs.Prefix.{Kind, Verbatim, VerbatimUnc, VerbatimDisk, Device, Unc, Disk, Lead, VerbatimLead, DeviceLead, DoubleLead, DriveLead, NoLead, VerbatimLeads, UncLead, DiskLead, NameLead, is_letter, upper, lead_of, verbatim_lead, IsUnc, IsShare, IsVerbatimUnc, IsNamed, IsVerbatim, IsVerbatimBy, IsPrefixBy, IsPrefixOf}
+use Rattle.path_building.specs.Base.{unc}
 use Rattle.path_rules.proofs.lemmas.Edges.{either_edge}
 use Rattle.path_rules.proofs.lemmas.Keeps.{Kept, KeptShare, longer, name_stays, unc_stays, disk_stays, Shape, shape, Fixed, two_bytes}
 
@@ -12,15 +13,15 @@ abbrev pub IsDoubled : List ℕ → Type 0
 IsDoubled [] = Unit {0}
 IsDoubled (c ∷ t) = Edge rules.Verbatim t
 
--- what may come after a prefix in place of the rest
-pub record MayFollow (rest t : List ℕ) : Type 0 where
+-- what may come after a prefix in place of the rest; after one alone nothing, unless it is whole
+pub record MayFollow (Whole : Type 0) (rest t : List ℕ) : Type 0 where
   pub edge : Edge rules.Verbatim t
-  pub none : rest ≡ [] → t ≡ []
+  pub none : rest ≡ [] → (t ≡ []) ⊎ Whole
 
 abbrev pub Fits : Kind → List ℕ → List ℕ → Type 0
-Fits (Verbatim name) rest t = MayFollow rest t
-Fits (VerbatimUnc server share) rest t = MayFollow rest t × (share ≡ [] → IsDoubled t)
-Fits (VerbatimDisk letter) rest t = MayFollow rest t
+Fits (Verbatim name) rest t = MayFollow (name ≢ unc) rest t
+Fits (VerbatimUnc server share) rest t = MayFollow (share ≢ []) rest t × (share ≡ [] → IsDoubled t)
+Fits (VerbatimDisk letter) rest t = MayFollow (Unit {0}) rest t
 Fits (Device name) rest t = Edge rules.Verbatim t
 Fits (Unc server share) rest t = Edge rules.Verbatim t
 Fits (Disk letter) rest t = Unit {0}
@@ -49,9 +50,12 @@ move_unc u k rest t e h = record {
   };
 }
 
-move_share : (after share rest t : List ℕ) → MayFollow rest t → (share ≡ [] → IsDoubled t) → Edge rules.Verbatim after → IsShare after share rest → KeptShare after share rest t
+move_share : (after share rest t : List ℕ) → MayFollow (share ≢ []) rest t → (share ≡ [] → IsDoubled t) → Edge rules.Verbatim after → IsShare after share rest → KeptShare after share rest t
 move_share [] share rest [] m d edge h = record { before = []; joined = sym h.1; kept = (h.0, refl); edge = tt }
-move_share [] share rest (b ∷ t) m d edge h = let never : b ∷ t ≡ [] = m.none h.1 in cc
+move_share [] share rest (b ∷ t) m d edge h = elim (m.none h.1) [
+  | inl e ↦ cc
+  | inr n ↦ absurd (n h.0)
+]
 move_share (c ∷ after) [] rest [] m d edge h = record { before = []; joined = sym h.1.1; kept = (refl, refl); edge = tt }
 move_share (c ∷ after) [] rest (b ∷ t) m d edge h = record {
   before = [];
@@ -83,6 +87,32 @@ move_verbatim_unc u k rest t fits h =
       };
     }
 
+-- a name that isn't `UNC` alone stays one whatever follows
+name_whole : (part other : List ℕ) → part ≢ unc → verbatim_lead part [] ≡ NameLead → verbatim_lead part other ≡ NameLead
+name_whole [] other n e = refl
+name_whole (a ∷ []) other n e = refl
+name_whole (a ∷ b ∷ []) other n e = cases (is_letter a && nat_eq b 0x3A) e
+  where
+    cases : (v : Bool) → (if v then DiskLead a [] else NameLead) ≡ NameLead → (if v then DiskLead a other else NameLead) ≡ NameLead
+    cases true f = let never : DiskLead a [] ≡ NameLead = f in cc
+    cases false f = refl
+name_whole (a ∷ b ∷ c ∷ []) [] n e = refl
+name_whole (a ∷ b ∷ c ∷ []) (d ∷ other) n e = cases (nat_eq a 0x55) (nat_eq b 0x4E) (nat_eq c 0x43) refl refl refl
+  where
+    cases : (p q v : Bool) → nat_eq a 0x55 ≡ p → nat_eq b 0x4E ≡ q → nat_eq c 0x43 ≡ v → (if p && q && v then UncLead other else NameLead) ≡ NameLead
+    cases true true true f g h = absurd (n (ap (λ z. z ∷ b ∷ c ∷ []) (eqb-true a 0x55 f) ∙ ap (λ z. 0x55 ∷ z ∷ c ∷ []) (eqb-true b 0x4E g) ∙ ap (λ z. 0x55 ∷ 0x4E ∷ z ∷ []) (eqb-true c 0x43 h)))
+    cases true true false f g h = refl
+    cases true false v f g h = refl
+    cases false q v f g h = refl
+name_whole (a ∷ b ∷ c ∷ d ∷ part) other n e = refl
+
+name_stays_or : (part after other : List ℕ) → (after ≡ [] → (other ≡ []) ⊎ (part ≢ unc)) → verbatim_lead part after ≡ NameLead → verbatim_lead part other ≡ NameLead
+name_stays_or part (d ∷ after) other f e = name_stays part (d ∷ after) other (λ z. cc) e
+name_stays_or part [] other f e = elim (f refl) [
+  | inl z ↦ name_stays part [] other (λ k. z) e
+  | inr n ↦ name_whole part other n e
+]
+
 move_verbatim : (v : VerbatimLeads) (u part after : List ℕ) (k : Kind) (rest t : List ℕ) → Fits k rest t → IsField rules.Either u part after → verbatim_lead part after ≡ v → IsVerbatimBy v u k rest → Kept IsVerbatim u k rest t
 move_verbatim (UncLead m) u part after k rest t fits f l h =
     let s = unc_stays part after m [] l in
@@ -100,7 +130,7 @@ move_verbatim (UncLead m) u part after k rest t fits f l h =
     }
 move_verbatim (DiskLead letter m) u part after k rest t fits f l h =
     let s = disk_stays part after m letter l in
-    let may : MayFollow rest t = subst (λ x. Fits x rest t) h.0 fits in
+    let may : MayFollow (Unit {0}) rest t = subst (λ x. Fits x rest t) h.0 fits in
     record {
       before = part;
       joined = f.joined ∙ ap (λ x. part ++ x) (s.0 ∙ sym h.1);
@@ -112,10 +142,10 @@ move_verbatim (DiskLead letter m) u part after k rest t fits f l h =
       };
     }
 move_verbatim NameLead u part after k rest t fits f l h =
-    let may : MayFollow rest t = subst (λ x. Fits x rest t) h.is fits in
+    let may : MayFollow (h.name ≢ unc) rest t = subst (λ x. Fits x rest t) h.is fits in
     let n = longer part after h.name rest (sym f.joined ∙ h.field.joined) f.plain h.field.edge in
     let whole : h.name ++ t ≡ part ++ (n.between ++ t) = ap (λ x. x ++ t) n.longer ∙ append_assoc part n.between t in
-    let empty : after ≡ [] → n.between ++ t ≡ [] = λ z. both_empty n.between may (sym n.remains ∙ z) in
+    let empty : after ≡ [] → (n.between ++ t ≡ []) ⊎ (part ≢ unc) = λ z. both_empty h.name n.between may n.longer (sym n.remains ∙ z) in
     record {
       before = h.name;
       joined = h.field.joined;
@@ -123,13 +153,16 @@ move_verbatim NameLead u part after k rest t fits f l h =
         part = part;
         after = n.between ++ t;
         first = record { joined = whole; plain = f.plain; edge = edge_between n.between n.remains f.edge may.edge };
-        is = subst (λ x. IsVerbatimBy x (h.name ++ t) k t) (sym (name_stays part after (n.between ++ t) empty l)) (record { name = h.name; is = h.is; field = record { joined = refl; plain = h.field.plain; edge = may.edge } });
+        is = subst (λ x. IsVerbatimBy x (h.name ++ t) k t) (sym (name_stays_or part after (n.between ++ t) empty l)) (record { name = h.name; is = h.is; field = record { joined = refl; plain = h.field.plain; edge = may.edge } });
       };
     }
   where
-    both_empty : (b : List ℕ) → MayFollow rest t → b ++ rest ≡ [] → b ++ t ≡ []
-    both_empty [] m z = m.none z
-    both_empty (c ∷ b) m z = cc
+    both_empty : (name b : List ℕ) → MayFollow (name ≢ unc) rest t → name ≡ part ++ b → b ++ rest ≡ [] → (b ++ t ≡ []) ⊎ (part ≢ unc)
+    both_empty name [] m j z = elim (m.none z) [
+      | inl e ↦ inl e
+      | inr n ↦ inr (λ u. n (j ∙ append-nil part ∙ u))
+    ]
+    both_empty name (c ∷ b) m j z = cc
 
     edge_between : (b : List ℕ) → after ≡ b ++ rest → Edge rules.Either after → Edge rules.Verbatim t → Edge rules.Either (b ++ t)
     edge_between [] z h v = either_edge t v

@@ -16,7 +16,7 @@ use Rattle.path_rules.specs.Prefix.{begins_verbatim}
 use Rattle.path_rules.specs.Compare.{AreAlike, AreAllAlike}
 use Rattle.path_building.specs.Cleaned.{CleansTo}
 use Rattle.path_building.specs.Normalized.{BeginsAsPrefix}
-use Rattle.path_building.specs.Written.{joined_names, written, written_apart, NamesAShare, IsPathOf}
+use Rattle.path_building.specs.Written.{joined_names, written, written_apart, NamesAShare, NamesAnObject, IsPathOf}
 use Rattle.path_building.specs.Spelled.{cleaned, cleaned_start, after_bytes}
 use Rattle.path_building.specs.Relative.{IsPlace, AreOnePlace, AreApart, up_from, BeginsAtTop, AreWritten, IsWhole}
 use Rattle.path_building.proofs.lemmas.Again.{one_clean}
@@ -87,6 +87,15 @@ share_none style.Windows (CurDir ∷ xs) n h = h
 share_none style.Windows (ParentDir ∷ xs) n h = h
 share_none style.Windows (Normal s ∷ xs) n h = h
 
+pub object_none : (w : whose.Style) (names : List Item) → ¬ (BeginsAtTop names) → ¬ (NamesAnObject w names)
+object_none style.Unix names n h = h
+object_none style.Windows [] n h = h
+object_none style.Windows (Prefix s ∷ xs) n h = n tt
+object_none style.Windows (RootDir ∷ xs) n h = n tt
+object_none style.Windows (CurDir ∷ xs) n h = h
+object_none style.Windows (ParentDir ∷ xs) n h = h
+object_none style.Windows (Normal s ∷ xs) n h = h
+
 after_dot : (c : ℕ) (names : List Item) → after_bytes c Dot false names ≡ written c (CurDir ∷ names)
 after_dot c [] = refl
 after_dot c (x ∷ xs) = refl
@@ -96,10 +105,10 @@ module _ (w : whose.Style) (names : List Item) (none path : List ℕ) (c : ℕ) 
   same_bytes st k = k ∙ ap (λ z. z ++ after_bytes c st false names) e ∙ ap (λ z. after_bytes z st false names) f
 
   pub names_alone : ¬ (BeginsAtTop names) → ¬ (BeginsAsPrefix w names) → path ≡ none ++ after_bytes c Nothing false names → AreWritten w names path
-  names_alone n b k = (names, (inr (b, refl), inr (share_none w names n, same_bytes Nothing k ∙ sym (bare_names (main_separator w) names n).0)))
+  names_alone n b k = (names, (inr (b, refl), inr (object_none w names n, inr (share_none w names n, same_bytes Nothing k ∙ sym (bare_names (main_separator w) names n).0))))
 
   pub names_dotted : BeginsAsPrefix w names → path ≡ none ++ after_bytes c Dot false names → AreWritten w names path
-  names_dotted b k = (CurDir ∷ names, (inl (b, refl), inr (share_none w (CurDir ∷ names) (λ h. h), same_bytes Dot k ∙ after_dot (main_separator w) names)))
+  names_dotted b k = (CurDir ∷ names, (inl (b, refl), inr (object_none w (CurDir ∷ names) (λ h. h), inr (share_none w (CurDir ∷ names) (λ h. h), same_bytes Dot k ∙ after_dot (main_separator w) names))))
 
 -- what is left of lists whose first components aren't alike
 pub unlike_heads : {X Y : Type 0} (f : X → Item) (g : Y → Item) (xs : List X) (ys : List Y) (d : X) (e : Y) → 1 ≤ length xs → 1 ≤ length ys → ¬ (AreAlike (f (get_or xs 0 d)) (g (get_or ys 0 e))) → AreApart (map f xs) (map g ys) (map f xs) (map g ys)

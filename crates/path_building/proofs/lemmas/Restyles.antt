@@ -17,13 +17,14 @@ use Rattle.path_rules.specs.Heads.{prefix_items, start_items, items_of}
 use Rattle.path_rules.specs.HeadParts.{IsHead, bare_head, prefixed_head}
 use Rattle.path_building.specs.Normalized.{BeginsAsPrefix}
 use Rattle.path_building.specs.Written.{IsPathOf}
-use Rattle.path_building.specs.Spelled.{after_bytes, AreSpelled, DoublesRoot}
+use Rattle.path_building.specs.Spelled.{after_bytes, AreSpelled, DoublesRoot, ObjectNext}
 use Rattle.path_building.specs.Restyled.{IsHad, AreHad, IsFirstUnlike, IsRestyled}
 use Rattle.path_rules.proofs.lemmas.AfterPrefix.{some_of}
 use Rattle.path_building.proofs.lemmas.Resolving.{no_prefix, no_root, no_dot}
 use Rattle.path_building.proofs.lemmas.Spelling.{body_spelled}
 use Rattle.path_building.proofs.lemmas.Written.{slash_written, bare_written}
 use Rattle.path_building.proofs.lemmas.AsWritten.{no_share, as_written}
+use Rattle.path_building.proofs.lemmas.Objects.{path_by, no_prefix_before}
 
 -- so far each component is had, and what is found in the rest is found in all
 abbrev pub Searched : whose.Style → ℕ → Bool → List Item → List Item → Type 0
@@ -113,17 +114,23 @@ module _ (from to : whose.Style) (path : List ℕ) (head : Head) (are : AreCompo
   style_rules style.Windows (bare_head h) e = h.rules
   style_rules style.Windows (prefixed_head h) e = absurd (some_of path head h e)
 
-  pub restyled : from ≢ to → (names : List Item) (none made : List ℕ) (c : ℕ) → names ≡ components_in head.rules head.body.now → none ≡ [] → c ≡ main_separator to → made ≡ none ++ after_bytes c head.start false names → IsRestyled from to path made
-  restyled other names none made c e n s m =
+  pub restyled : from ≢ to → (names : List Item) (none before made : List ℕ) (c : ℕ) → names ≡ components_in head.rules head.body.now → none ≡ [] → c ≡ main_separator to
+      → (¬ (ObjectNext to none head.start names) → before ≡ none) → (ObjectNext to none head.start names → before ≡ main_separator to ∷ 0x2E ∷ []) → made ≡ before ++ after_bytes c head.start false names → IsRestyled from to path made
+  restyled other names none before made c e n s kept apart m =
       let st = head.start in
       let p = no_top head.prefix.now (start_items st ++ components_in head.rules head.body.now) had in
       let items : items_of head ≡ start_items st ++ names = ap (λ z. prefix_items z ++ (start_items st ++ components_in head.rules head.body.now)) p ∙ ap (λ z. start_items st ++ z) (sym e) in
       let sp = subst (λ z. AreSpelled (rules_of_style from) z) (sym e) (subst (λ r. AreSpelled r (components_in head.rules head.body.now)) (style_rules from parts p) (body_spelled head.rules head.body.now)) in
       let h = after_top to st names (subst (AreHad to true) items had) in
-      let same : after_bytes (main_separator to) st false names ≡ made = sym (m ∙ ap (λ z. z ++ after_bytes c st false names) n ∙ ap (λ z. after_bytes z st false names) s) in
+      let same : before ++ after_bytes (main_separator to) st false names ≡ made = sym (m ∙ ap (λ z. before ++ after_bytes z st false names) s) in
       let spelled = had_spelled from to (is_first st) names sp h in
-      inr (other, (start_items st ++ names, (subst (AreComponents from path) items are, subst (IsPathOf to (start_items st ++ names)) same (written_had to st names spelled h, as_written to (rules_of_style to) [] st false names spelled (once to)))))
+      let is = path_by to (rules_of_style to) [] st false names spelled before (λ o. (windows to (no_prefix_before to [] st names o).0, refl)) (written_had to st names spelled h)
+      (as_written to (rules_of_style to) [] st false names spelled (once to)) (λ o. kept (λ k. o (subst (λ z. ObjectNext to z st names) n k)) ∙ n) (λ o. apart (subst (λ z. ObjectNext to z st names) (sym n) o)) in
+      inr (other, (start_items st ++ names, (subst (AreComponents from path) items are, subst (IsPathOf to (start_items st ++ names)) same is)))
     where
       once : (w : whose.Style) → DoublesRoot w [] false
       once style.Unix = refl
       once style.Windows = (λ e. let never : false ≡ true = e in cc, λ h. absurd (no_share h))
+
+      windows : (w : whose.Style) → w ≡ style.Windows → rules_of_style w ≡ rules.Either
+      windows w e = ap rules_of_style e

@@ -14,7 +14,7 @@ use Rattle.path_rules.specs.Components.{root_of, after_root, AreComponents, pref
 use Rattle.path_rules.specs.Trailing.{EndsWithSeparator}
 use Rattle.path_rules.proofs.lemmas.Bodies.{cut_items}
 use Rattle.path_rules.proofs.lemmas.OneList.{one_prefix, one_components}
-use Rattle.path_building.specs.Checked.{IsVerbatimAlone}
+use Rattle.path_building.specs.Base.{IsVerbatimAlone}
 use Rattle.path_building.specs.Join.{IsVerbatimPath, IsDriveAlone, IsBetween, IsJoin, replacing, resolving, at_root, after, ShareAPrefix, HaveTheSamePrefix, IsRelativeTo}
 use Rattle.path_building.specs.Trailing.{IsWithTrailingSep}
 use Rattle.path_building.proofs.lemmas.Joins.{join_items, join_to_empty, main_separates}

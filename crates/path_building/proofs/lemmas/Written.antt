@@ -120,9 +120,9 @@ fits_root (Unc n m) rest u e l = refl
 fits_root (Disk n) rest u e l = tt
 
 pub fits_nothing : (kind : Kind) (rest : List ℕ) → Fits kind rest []
-fits_nothing (Verbatim n) rest = record { edge = tt; none = λ z. refl }
-fits_nothing (VerbatimUnc n m) rest = (record { edge = tt; none = λ z. refl }, λ z. tt)
-fits_nothing (VerbatimDisk l) rest = record { edge = tt; none = λ z. refl }
+fits_nothing (Verbatim n) rest = record { edge = tt; none = λ z. inl refl }
+fits_nothing (VerbatimUnc n m) rest = (record { edge = tt; none = λ z. inl refl }, λ z. tt)
+fits_nothing (VerbatimDisk l) rest = record { edge = tt; none = λ z. inl refl }
 fits_nothing (Device n) rest = tt
 fits_nothing (Unc n m) rest = tt
 fits_nothing (Disk l) rest = tt
@@ -188,7 +188,7 @@ prefixed_written s raw kind rest doubled names j h share sp none =
       are = ap (λ z. Prefix raw ∷ (start_items z ++ names)) (sym q.root) ∙ ap (λ z. Prefix raw ∷ (start_items (root_of kind t) ++ z)) (sym q.body);
     }
 
-not_doubled : (v : Bool) → (v ≡ true → ⊥) → v ≡ false
+pub not_doubled : (v : Bool) → (v ≡ true → ⊥) → v ≡ false
 not_doubled true h = absurd (h refl)
 not_doubled false h = refl
 

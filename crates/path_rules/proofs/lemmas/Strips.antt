@@ -1,5 +1,5 @@
 -- The path after the components of a base.
-use Rattle.std.proofs.Common.{◌≡◌, ◌≢◌, ◌⊎◌, inl, inr, ◌-◌, ◌+◌, ◌≤◌, ℕ, Bool, true, false, if◌then◌else◌, List, [], ◌∷◌, ◌++◌, length, take, drop, refl, sym, ap, ◌∙◌, subst, arith, append-nil, append_assoc, length-append, lit<}
+use Rattle.std.proofs.Common.{◌≡◌, ◌≢◌, ◌⊎◌, inl, inr, ◌≤◌, ℕ, Bool, true, false, if◌then◌else◌, List, [], ◌∷◌, ◌++◌, length, take, drop, refl, sym, ap, ◌∙◌, subst, arith, append-nil, append_assoc, length-append, lit<}
 use Rattle.std.proofs.lemmas.List.{take_at, append_cancel_left}
 use Rattle.std.proofs.Math.Seq.{drop-append_seam}
 use Rattle.path_rules.specs.declared.rules.Rules.TheVariants as rules
@@ -9,13 +9,13 @@ use Rattle.path_rules.specs.declared.head.Start.{Start}
 use Rattle.path_rules.specs.declared.head.Start.TheVariants.{Root, Dot, Nothing}
 use Rattle.path_rules.specs.declared.head.Head.{Head}
 use Rattle.path_rules.specs.Separators.{separates, Edge}
-use Rattle.path_rules.specs.Component.{Item, Prefix, RootDir, components_in, EndsNamed}
+use Rattle.path_rules.specs.Component.{Item, Prefix, RootDir, components_in}
 use Rattle.path_rules.specs.Heads.{prefix_items, start_items, items_of}
 use Rattle.path_rules.specs.Components.{AreComponents, after_start, after_root}
 use Rattle.path_rules.specs.HeadParts.{IsHead, bare_head, prefixed_head}
 use Rattle.path_rules.specs.Prefix.{IsPrefixed, IsRawPrefix}
 use Rattle.path_rules.specs.Compare.{AreAlike, StartsAlike, StartsWith, AreAllAlike}
-use Rattle.path_rules.specs.Body.{HasBody, EndsTight, BeginsNamed, IsEndTrimmed}
+use Rattle.path_rules.specs.Body.{HasBody, BeginsNamed, IsEndTrimmed}
 use Rattle.path_rules.specs.Strip.{IsStripped, IsRestAfter, at_start, at_root, inside}
 use Rattle.path_rules.specs.Taken.{IsTail, Takes, takes_prefix, takes_later, HaveTaken, taken_none, taken_prefix, taken_more, AreTaken, AreTakenSoFar}
 use Rattle.path_rules.specs.Cut.{IsAsciiCut}
@@ -25,7 +25,6 @@ use Rattle.path_rules.proofs.lemmas.Alike.{step, starts_from, and_then}
 use Rattle.path_rules.proofs.lemmas.Edges.{edge_after}
 use Rattle.path_rules.proofs.lemmas.OneList.{one_components}
 use Rattle.path_rules.proofs.lemmas.Parents.{shorter_of, no_dot, raw_drive}
-use Rattle.path_rules.proofs.lemmas.Starts.{Ends}
 use Rattle.path_rules.proofs.lemmas.Tails.{whole_tail, tail_again}
 
 pub all_alike_push : (xs ys : List Item) (x y : Item) → AreAllAlike xs ys → AreAlike x y → AreAllAlike (xs ++ x ∷ []) (ys ++ y ∷ [])
@@ -62,24 +61,6 @@ taken_on h base g wanted k left x y a e f t like =
 
 pub taken_all : (h : Head) (base : List Item) (g : Head) (wanted : List Item) → AreTakenSoFar h base g wanted → wanted ≡ [] → AreTaken h base g
 taken_all h base g wanted a e = subst (λ z. AreTaken h z g) (sym (a.joined ∙ ap (λ z. a.seen ++ z) e ∙ append-nil a.seen)) a.so_far
-
--- the path up to the end of its last component
-pub is_end_trimmed : (path : List ℕ) (head : Head) (rest : List ℕ) (ends : Ends head.rules head.body.now rest) (named : components_in head.rules head.body.now ≡ components_in head.rules rest) (w : whose.Style) → IsHead w path head → EndsNamed head.rules rest
-    → IsEndTrimmed w path (take (length path - length head.body.now + length rest) path)
-is_end_trimmed path head rest ends named w h tight =
-    let f = shorter_of path head rest [] ends (named ∙ sym (append-nil (components_in head.rules rest))) w h in
-    let n = length path - length head.body.now + length rest in
-    let long : length f.before ≡ n = let l = f.long in let s = f.short in omega arith in
-    let before : take n path ≡ f.before = ap (take n) f.joined ∙ take_at f.before f.more n long in
-    record {
-      after = f.more;
-      joined = f.joined ∙ ap (λ y. y ++ f.more) (sym before);
-      cut = subst (λ y. IsAsciiCut y f.more) (sym before) f.beside;
-      items = f.items;
-      are = subst (λ y. AreComponents w y f.items) (sym before) f.are;
-      whole = subst (AreComponents w path) (append-nil f.items) f.whole;
-      tight = subst (EndsTight w) (sym before) (record { rules = head.rules; body = rest; has = f.has; named = tight });
-    }
 
 -- what follows the start, and the body
 after_tail : (st : Start) (s : List ℕ) → (front : List ℕ) × (s ≡ front ++ after_start st s)

@@ -45,6 +45,11 @@ some_verbatim u =
     let q = some_by (verbatim_lead f.0 f.1.0) u in
     (q.0, (q.1.0, record { part = f.0; after = f.1.0; first = f.1.1; is = q.1.1 }))
 
+-- what begins with `\\?\` has a prefix
+pub verbatim_some : (u : List ℕ) → (k : Kind) × ((rest : List ℕ) × IsVerbatim u k rest)
+unfolding Some2
+verbatim_some u = some_verbatim u
+
 longer_edge : (rest more : List ℕ) → Edge rules.Either rest → Edge rules.Either more → Edge rules.Either (rest ++ more)
 longer_edge [] more h k = k
 longer_edge (c ∷ rest) more h k = h

@@ -47,7 +47,7 @@ returns-clause-ok g c =
     let leads = inside w path head c.head_of-head.ensures.items c.head_of-head.ensures.parts relative names (sym c.in_ok-names.ensures ∙ ap (option_map (λ v. reverse (map item_of v.items))) c.in-Some.is) in
     let first = streams w path head c.head_of-head.ensures.items c.head_of-head.ensures.parts relative in
     let same = free w path head c.head_of-head.ensures.items c.head_of-head.ensures.parts relative in
-    record { items = items_of head; inside = leads; streams = first.0 (c.name_no_stream.ensures.0 c.if-not-name_no_stream.false); free = same.0 (c.are_free.ensures.0 c.if-not-are_free.false) }
+    record { no_nul = c.requires; items = items_of head; inside = leads; streams = first.0 (c.name_no_stream.ensures.0 c.if-not-name_no_stream.false); free = same.0 (c.are_free.ensures.0 c.if-not-are_free.false) }
 
 pub returns-clause-spelled : goal.returns-clause-spelled
 returns-clause-spelled g c =

@@ -1,49 +1,33 @@
-use Rattle.std.proofs.Common.{◌≡◌, ◌≢◌, ◌++◌, [], map, sym, ap, ◌∙◌, subst}
-use Rattle.path_rules.specs.Component.{components_in}
+use Rattle.std.proofs.Common.{rules, ◌≡◌, ◌++◌, ◌∷◌, [], map, sym, ap, subst}
 use Rattle.path_rules.specs.Views.{item_of}
-use Rattle.path_building.specs.Spelled.{AreSpelled, MayStart}
-use Rattle.path_building.proofs.lemmas.Forms.{nothing_after}
-use Rattle.path_building.proofs.lemmas.Spelling.{body_spelled}
-use Rattle.path_building.proofs.lemmas.Checks.{alone_from, both_spelled, spelled_after, may_start, checked_join}
+use Rattle.path_building.specs.Base.{IsVerbatimAlone}
+use Rattle.path_building.specs.Spelled.{IsNamesAfter}
+use Rattle.path_building.proofs.lemmas.Joins.{refuted}
+use Rattle.path_building.proofs.lemmas.Checks.{root_still_open, joined_at_root, joined_after, is_below}
 use Rattle.path_building.proofs.checked.join_checked.Goals as goal
 
-pub returns-then-not-may_follow-clause-err : goal.returns-then-not-may_follow-clause-err
-returns-then-not-may_follow-clause-err g c =
-    let no = c.may_follow.ensures.no c.if-not-may_follow.true in
-    let names = map item_of c.in_ok-names.names.items in
-    let some : names ≢ [] = λ e. no.1.1 (ap (map item_of) c.deref.ensures.value ∙ e) in
-    (alone_from c.args.style c.args.base.now c.head_of-head.result c.head_of-head.ensures.parts no.0 no.1.0, (names, (c.in_ok-names.ensures.ok, some)))
+pub names_after-requires-clause-no_alone : goal.names_after-requires-clause-no_alone
+names_after-requires-clause-no_alone g c =
+    let root : c.deref.result.now ≡ c.args.base.now ++ 0x5C ∷ [] = Prim.search rules in
+    subst (λ z. ¬ (IsVerbatimAlone c.args.style z)) (sym root) (root_still_open c.args.style c.args.base.now c.in_ok-check_base.ensures.ok (c.is_verbatim_alone.ensures.0 c.if-is_verbatim_alone.true))
 
-pub written_as-requires-clause-spelled : goal.written_as-requires-clause-spelled
-written_as-requires-clause-spelled g c =
-    let head = c.head_of-head.result in
+pub returns-then-is_verbatim_alone-clause-ok : goal.returns-then-is_verbatim_alone-clause-ok
+returns-then-is_verbatim_alone-clause-ok g c =
+    let root : c.deref.result.now ≡ c.args.base.now ++ 0x5C ∷ [] = Prim.search rules in
     let names = map item_of c.in_ok-names.names.items in
-    let items = components_in head.rules head.body.now in
-    let all : map item_of c.deref-3.result.now ≡ items ++ names = ap (map item_of) c.deref-3.ensures.value ∙ c.in_ok-add_names.ensures ∙ ap (λ z. z ++ map item_of c.deref-2.result.now) c.in_ok-all.ensures ∙ ap (λ z. items ++ map item_of z) c.deref-2.ensures.value in
-    subst (AreSpelled head.rules) (sym all) (both_spelled head.rules items names (body_spelled head.rules head.body.now) (spelled_after c.args.style c.args.base.now head c.head_of-head.ensures.parts names c.in_ok-names.ensures.spelled))
+    let after = subst (λ z. IsNamesAfter c.args.style c.deref.result.now z c.in_ok-names_after.field-0.items) (ap (map item_of) c.deref-then-is_verbatim_alone.ensures.value) c.in_ok-names_after.ensures in
+    joined_at_root c.args.style c.args.base.now c.deref.result.now c.args.path.now c.in_ok-names_after.field-0.items names root c.in_ok-check_base.ensures.ok c.in_ok-names.ensures.ok (c.is_verbatim_alone.ensures.0 c.if-is_verbatim_alone.true) after
 
-pub written_as-requires-clause-none : goal.written_as-requires-clause-none
-written_as-requires-clause-none g c = λ v n.
-    let head = c.head_of-head.result in
-    let names = map item_of c.in_ok-names.names.items in
-    let items = components_in head.rules head.body.now in
-    let all : map item_of c.deref-3.result.now ≡ items ++ names = ap (map item_of) c.deref-3.ensures.value ∙ c.in_ok-add_names.ensures ∙ ap (λ z. z ++ map item_of c.deref-2.result.now) c.in_ok-all.ensures ∙ ap (λ z. items ++ map item_of z) c.deref-2.ensures.value in
-    let left : names ≡ [] = ap (map item_of) (sym c.deref.ensures.value) ∙ c.may_follow.ensures.yes c.if-not-may_follow.false v n in
-    all ∙ ap (λ z. items ++ z) left ∙ ap (λ z. z ++ []) (nothing_after c.args.style c.args.base.now head c.head_of-head.ensures.parts v n)
-
-pub written_as-requires-clause-may_start : goal.written_as-requires-clause-may_start
-written_as-requires-clause-may_start g c =
-    let head = c.head_of-head.result in
-    let names = map item_of c.in_ok-names.names.items in
-    let items = components_in head.rules head.body.now in
-    let all : map item_of c.deref-3.result.now ≡ map item_of c.in_ok-all.all.items ++ names = ap (map item_of) c.deref-3.ensures.value ∙ c.in_ok-add_names.ensures ∙ ap (λ z. map item_of c.in_ok-all.all.items ++ map item_of z) c.deref-2.ensures.value in
-    subst (MayStart c.args.style head head.start) (sym all) (may_start c.args.style c.args.base.now head c.head_of-head.ensures.parts (map item_of c.in_ok-all.all.items) names c.in_ok-all.ensures c.in_ok-names.ensures.spelled c.in_ok-names.ensures.streams)
+pub returns-then-is_verbatim_alone-clause-below : goal.returns-then-is_verbatim_alone-clause-below
+returns-then-is_verbatim_alone-clause-below g c =
+    is_below c.args.style c.args.base.now c.args.path.now c.in_ok-names_after.field-0.items (returns-then-is_verbatim_alone-clause-ok g c)
 
 pub returns-clause-ok : goal.returns-clause-ok
 returns-clause-ok g c =
-    let head = c.head_of-head.result in
     let names = map item_of c.in_ok-names.names.items in
-    let items = components_in head.rules head.body.now in
-    let all : map item_of c.deref-3.result.now ≡ items ++ names = ap (map item_of) c.deref-3.ensures.value ∙ c.in_ok-add_names.ensures ∙ ap (λ z. z ++ map item_of c.deref-2.result.now) c.in_ok-all.ensures ∙ ap (λ z. items ++ map item_of z) c.deref-2.ensures.value in
-    checked_join c.args.style c.args.base.now c.args.path.now c.in_ok-written_as.field-0.items head c.head_of-head.ensures.items c.head_of-head.ensures.parts names (map item_of c.deref-3.result.now) c.in_ok-names.ensures.ok
-    (λ v n. ap (map item_of) (sym c.deref.ensures.value) ∙ c.may_follow.ensures.yes c.if-not-may_follow.false v n) all c.in_ok-written_as.ensures
+    let after = subst (λ z. IsNamesAfter c.args.style c.args.base.now z c.in_ok-names_after-2.field-0.items) (ap (map item_of) c.deref-2.ensures.value) c.in_ok-names_after-2.ensures in
+    joined_after c.args.style c.args.base.now c.args.path.now c.in_ok-names_after-2.field-0.items names c.in_ok-check_base.ensures.ok c.in_ok-names.ensures.ok (refuted _ c.is_verbatim_alone.result c.is_verbatim_alone.ensures c.if-is_verbatim_alone.false) after
+
+pub returns-clause-below : goal.returns-clause-below
+returns-clause-below g c =
+    is_below c.args.style c.args.base.now c.args.path.now c.in_ok-names_after-2.field-0.items (returns-clause-ok g c)

@@ -1,4 +1,4 @@
-use Rattle.std.proofs.Common.{[], subst}
+use Rattle.std.proofs.Common.{subst}
 use Rattle.path_building.specs.Join.{IsJoin}
 use Rattle.path_building.specs.Trailing.{IsWithTrailingSep}
 use Rattle.path_building.proofs.lemmas.Joins.{if_ok}

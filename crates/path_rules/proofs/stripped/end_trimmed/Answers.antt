@@ -2,7 +2,7 @@ use Rattle.std.proofs.Common.{[], sym, ◌∙◌, append-nil, subst}
 use Rattle.path_rules.specs.Component.{components_in}
 use Rattle.path_rules.specs.Body.{IsEndTrimmed}
 use Rattle.path_rules.proofs.lemmas.Parents.{inside, body_inside}
-use Rattle.path_rules.proofs.lemmas.Strips.{is_end_trimmed}
+use Rattle.path_rules.proofs.lemmas.ParentBodies.{is_end_trimmed}
 use Rattle.path_rules.proofs.stripped.end_trimmed.Goals as goal
 
 pub overflow_sub-path : goal.overflow_sub-path

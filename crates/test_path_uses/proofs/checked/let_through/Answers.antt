@@ -10,5 +10,5 @@ returns-clause-ok g c =
 
 pub returns-clause-err : goal.returns-clause-err
 returns-clause-err g c =
-    with_err c.join_checked.result c.join_checked.ensures.err (λ error h names checked alone.
-    only_memory c.one_list.ensures.items c.normal_forms.ensures.one g.E.PathStyle.follows (path_bytes c.args.base) (path_bytes c.args.path) error h names checked alone)
+    with_err c.join_checked.result c.join_checked.ensures.err (λ error h names checked place.
+    only_memory c.one_list.ensures.items c.normal_forms.ensures.one g.E.PathStyle.follows (path_bytes c.args.base) (path_bytes c.args.path) error h names checked place)

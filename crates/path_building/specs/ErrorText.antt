@@ -1,0 +1,34 @@
+-- What errors print.
+use Rattle.std.specs.Prelude.{ℕ, List, ◌++◌, codes, decimal}
+use Rattle.path_building.specs.declared.checked.JoinError.{JoinError}
+use Rattle.path_building.specs.declared.checked.JoinError.TheVariants as join
+use Rattle.path_building.specs.declared.normal.NormalizeError.{NormalizeError}
+use Rattle.path_building.specs.declared.normal.NormalizeError.TheVariants as normalize
+use Rattle.path_building.specs.declared.styles.StyleError.{StyleError}
+use Rattle.path_building.specs.declared.styles.StyleError.TheVariants as restyle
+
+-- what is there, its index, and in what
+abbrev pub at_byte : List ℕ → ℕ → List ℕ → List ℕ
+at_byte what index of = what ++ (codes " at byte " ++ (decimal index ++ of))
+
+-- why a path isn't joined to a base
+abbrev pub join_error_text : JoinError → List ℕ
+join_error_text (join.BaseNul index) = at_byte (codes "NUL") index (codes " of the base")
+join_error_text join.Base = codes "the base has an incomplete prefix"
+join_error_text (join.Nul index) = at_byte (codes "NUL") index (codes " of the path")
+join_error_text join.Prefix = codes "the path has a prefix"
+join_error_text join.Root = codes "the path has a root"
+join_error_text join.Leaves = codes "the path leaves the base"
+join_error_text join.Stream = codes "the path has a colon in a name"
+join_error_text join.Reserved = codes "the path has a reserved name"
+join_error_text join.Memory = codes "out of memory"
+
+-- why a path has no normal form
+abbrev pub normalize_error_text : NormalizeError → List ℕ
+normalize_error_text normalize.NoName = codes "a `..` has no name before it"
+normalize_error_text normalize.Memory = codes "out of memory"
+
+-- why a path has no spelling in a style
+abbrev pub style_error_text : StyleError → List ℕ
+style_error_text (restyle.Component index) = codes "the style can't have component " ++ decimal index
+style_error_text restyle.Memory = codes "out of memory"

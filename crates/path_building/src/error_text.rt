@@ -1,0 +1,31 @@
+//! What errors print.
+ghost use Rattle.std.specs.Prelude.{decimal};
+ghost use Rattle.std.specs.Fmt.{WritesStyledOnOk};
+ghost use Rattle.path_building.specs.ErrorText.{at_byte};
+
+use std::fmt;
+use std::fmt::{InlineText, Write as _};
+
+/// Writes what is at a byte index, and of what.
+pub(crate) fn write_at_byte<W: fmt::Write>(
+    what: &str,
+    index: usize,
+    of: &str,
+    f: &mut fmt::Formatter<W>,
+) -> fmt::Result
+    ensures { WritesStyledOnOk W.write_str_gives f.old result (at_byte what.now index of.now) f.new }
+{
+    f.write_str(what)?;
+    f.write_str(" at byte ")?;
+    write_number(index, f)?;
+    f.write_str(of)
+}
+
+/// Writes the decimal digits of a number, whatever width is asked for.
+pub(crate) fn write_number<W: fmt::Write>(number: usize, f: &mut fmt::Formatter<W>) -> fmt::Result
+    ensures { WritesStyledOnOk W.write_str_gives f.old result (decimal number) f.new }
+{
+    let mut digits = InlineText::<20>::new();
+    write!(digits, "{number}")?;
+    f.write_str(digits.as_str())
+}
