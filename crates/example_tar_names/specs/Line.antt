@@ -3,7 +3,7 @@ use Rattle.std.specs.Prelude.{◌≡◌, ◌⊎◌, ℕ, Bool, true, false, ◌|
 use Rattle.os_quote.specs.Escape.{IsLineEscape}
 use Rattle.path_rules.specs.declared.rules.Style.TheVariants.{Unix}
 use Rattle.path_building.specs.declared.checked.JoinError.{JoinError}
-use Rattle.path_building.specs.declared.checked.JoinError.TheVariants.{Prefix, Root, Leaves, Stream, Reserved, Base, Memory}
+use Rattle.path_building.specs.declared.checked.JoinError.TheVariants.{BaseNul, Base, Nul, Prefix, Root, Leaves, Stream, Reserved, Memory}
 use Rattle.path_building.specs.Checked.{IsCheckedJoin, IsJoinFault}
 use Rattle.tar_names.specs.declared.fault.TarFault.{TarFault}
 use Rattle.tar_names.specs.Names.{AreNames}
@@ -12,14 +12,16 @@ use Rattle.tar_names.specs.Names.{AreNames}
 abbrev pub folder : List ℕ
 folder = codes "."
 
--- what follows a name that is refused; on Unix it is for its root, or since it leaves the folder
+-- what follows a name that is refused; on Unix it is for a NUL, its root, or since it leaves the folder
 abbrev pub reason_of : JoinError → List ℕ
+reason_of (BaseNul index) = codes ": refused, the folder has a NUL\n"
+reason_of Base = codes ": refused, the folder is no place of its own\n"
+reason_of (Nul index) = codes ": refused, it has a NUL\n"
 reason_of Prefix = codes ": refused, it has a prefix\n"
 reason_of Root = codes ": refused, it has a root\n"
 reason_of Leaves = codes ": refused, it leaves the folder\n"
 reason_of Stream = codes ": refused, it has a stream\n"
 reason_of Reserved = codes ": refused, it is reserved\n"
-reason_of Base = codes ": refused, it would be a part of a prefix\n"
 reason_of Memory = codes ": refused\n"
 
 -- what follows the name on its line, and whether it is refused: nothing where it stays below the folder
@@ -44,5 +46,5 @@ pub data AreLines : List (List ℕ) → List ℕ → Bool → Type 0 where
 -- what is printed of an archive up to its end or its first fault, and whether a name is refused
 pub record IsReport (archive output : List ℕ) (refused : Bool) (end : Option TarFault) : Type 0 where
   pub names : List (List ℕ)
-  pub are : AreNames None None archive names end
+  pub are : AreNames None None false archive names end
   pub lines : AreLines names output refused

@@ -31,9 +31,23 @@ impl fmt::Display for Fault {
         match *self {
             Fault::Refused => f.write_str("a name is refused"),
             Fault::Archive(TarFault::CutOff) => f.write_str("the archive is cut off"),
-            Fault::Archive(TarFault::Sum) => f.write_str("the sum in a header is wrong"),
-            Fault::Archive(TarFault::Size) => f.write_str("the size in a header is no number"),
-            Fault::Archive(TarFault::Record) => f.write_str("a record of pax is none"),
+            Fault::Archive(TarFault::Sum) => f.write_str("a checksum is wrong"),
+            Fault::Archive(TarFault::Kind) => f.write_str(
+                "the type of a member is unknown or not read",
+            ),
+            Fault::Archive(TarFault::Size) => f.write_str("a size is no number that is read"),
+            Fault::Archive(TarFault::Padding) => f.write_str(
+                "an extended header is not filled up with zeros",
+            ),
+            Fault::Archive(TarFault::Record) => f.write_str("a record of pax is damaged"),
+            Fault::Archive(TarFault::GnuRecord) => f.write_str("a record of pax is one of GNU tar"),
+            Fault::Archive(TarFault::Global) => f.write_str(
+                "a global header of pax has a path or a size",
+            ),
+            Fault::Archive(TarFault::Twice) => f.write_str("two headers name one entry"),
+            Fault::Archive(TarFault::Prefix) => f.write_str(
+                "a header that is not of POSIX has a prefix",
+            ),
             Fault::Archive(TarFault::TooLong) => f.write_str("a name is too long"),
             Fault::Stopped(failure) => failure.fmt(f),
         }

@@ -71,12 +71,14 @@ fn reason_of(error: JoinError) -> &'static str
     ensures { result.now ≡ reason_of error }
 {
     match error {
+        JoinError::BaseNul(_) => ": refused, the folder has a NUL\n",
+        JoinError::Base => ": refused, the folder is no place of its own\n",
+        JoinError::Nul(_) => ": refused, it has a NUL\n",
         JoinError::Prefix => ": refused, it has a prefix\n",
         JoinError::Root => ": refused, it has a root\n",
         JoinError::Leaves => ": refused, it leaves the folder\n",
         JoinError::Stream => ": refused, it has a stream\n",
         JoinError::Reserved => ": refused, it is reserved\n",
-        JoinError::Base => ": refused, it would be a part of a prefix\n",
         JoinError::Memory => ": refused\n",
     }
 }
