@@ -1,4 +1,11 @@
 pub mod CharacterForms
+pub mod CharsetBytes
+pub mod CharsetCuts
+pub mod CharsetDollars
+pub mod CharsetLines
+pub mod CharsetOneReading
+pub mod CharsetQuotes
+pub mod CharsetSymbols
 pub mod Fish
 pub mod FishOneReading
 pub mod Lists
@@ -7,11 +14,13 @@ pub mod PowerShell
 pub mod ShellBare
 pub mod ShellDollar
 pub mod ShellEachLine
+pub mod ShellFirst
 pub mod ShellForms
 pub mod ShellGaps
 pub mod ShellItems
 pub mod ShellJoining
 pub mod ShellMeaning
+pub mod ShellOctal
 pub mod ShellOneReading
 pub mod ShellOnLine
 pub mod ShellOwnText

@@ -1,7 +1,7 @@
--- Names as words of fish (fish's documentation, "The fish language", "Quotes"). Lists are of bytes.
-use Rattle.std.specs.Prelude.{◌≡◌, ◌≢◌, ℕ, nat_eq, Bool, true, false, ◌||◌, if◌then◌else◌, Option, List, [], ◌∷◌, ◌++◌}
-use Rattle.std.specs.List.{flat_map}
+-- Names as words of fish (fish's documentation, "The fish language", "Quotes" and "Escaping Characters"). Names and texts are lists of bytes; fish reads characters, in each charset that keeps the bytes of `Charset`.
+use Rattle.std.specs.Prelude.{◌≡◌, ◌≢◌, ℕ, nat_eq, nat_lt, Bool, true, false, ◌||◌, if◌then◌else◌, Option, List, [], ◌∷◌, ◌++◌}
 use Rattle.wtf8_core.specs.Utf8.{IsUtf8Fault}
+use Rattle.os_command_line.specs.Charset.{is_one, AreCharacters}
 use Rattle.os_command_line.specs.ShellWriting.{is_plain, is_plain_name, HasNoNul, IsFirstNul}
 use Rattle.os_command_line.specs.declared.shell.fish.FishError.{FishError}
 use Rattle.os_command_line.specs.declared.shell.fish.FishError.TheVariants as error
@@ -11,34 +11,50 @@ use Rattle.os_command_line.specs.declared.shell.fish.FishQuoted.{FishQuoted}
 abbrev pub is_escaped : ℕ → Bool
 is_escaped b = nat_eq b 0x27 || nat_eq b 0x5C
 
--- a word ends before this: at the end, or before a space, a tab or a newline
-abbrev pub EndsWord : List ℕ → Type 0
+-- a space, a tab or a newline
+abbrev pub is_gap : ℕ → Bool
+is_gap b = nat_eq b 0x20 || (nat_eq b 0x09 || nat_eq b 0x0A)
+
+-- a word ends before these characters: at the end, or before a space, a tab or a newline
+abbrev pub EndsWord : List (List ℕ) → Type 0
 EndsWord [] = Unit {0}
-EndsWord (b ∷ bs) = nat_eq b 0x20 || (nat_eq b 0x09 || nat_eq b 0x0A) ≡ true
+EndsWord (c ∷ cs) = is_one is_gap c ≡ true
 
--- From here, in single quotes or not, the text is read as the rest of this word, up to `after`:
--- outside quotes a plain byte means itself, and a single quote opens a quoted part;
--- in one a single quote closes it, a backslash before a single quote or a backslash escapes that, before any other byte it means itself, and so does any other byte.
-pub data ReadsWord (after : List ℕ) : Bool → List ℕ → List ℕ → Type 0 where
+-- From here, in single quotes or not, the characters are read as the rest of this word, up to `after`:
+-- outside quotes a plain byte means itself, a backslash escapes a single quote or a backslash, and a single quote opens a quoted part;
+-- in one a single quote closes it, a backslash before a single quote or a backslash escapes that, before any other character it means itself, and so does any other character.
+pub data ReadsWord (after : List (List ℕ)) : Bool → List (List ℕ) → List ℕ → Type 0 where
   ends : EndsWord after → ReadsWord after false after []
-  bare : (b : ℕ) (text word : List ℕ) → is_plain b ≡ true → ReadsWord after false text word → ReadsWord after false (b ∷ text) (b ∷ word)
-  opens : (text word : List ℕ) → ReadsWord after true text word → ReadsWord after false (0x27 ∷ text) word
-  closes : (text word : List ℕ) → ReadsWord after false text word → ReadsWord after true (0x27 ∷ text) word
-  escaped : (b : ℕ) (text word : List ℕ) → is_escaped b ≡ true → ReadsWord after true text word → ReadsWord after true (0x5C ∷ b ∷ text) (b ∷ word)
-  kept : (b : ℕ) (text word : List ℕ) → is_escaped b ≡ false → ReadsWord after true text word → ReadsWord after true (0x5C ∷ b ∷ text) (0x5C ∷ b ∷ word)
-  itself : (b : ℕ) (text word : List ℕ) → is_escaped b ≡ false → ReadsWord after true text word → ReadsWord after true (b ∷ text) (b ∷ word)
+  bare : (c : List ℕ) (text : List (List ℕ)) (word : List ℕ) → is_one is_plain c ≡ true → ReadsWord after false text word → ReadsWord after false (c ∷ text) (c ++ word)
+  bare_escaped : (c : List ℕ) (text : List (List ℕ)) (word : List ℕ) → is_one is_escaped c ≡ true → ReadsWord after false text word → ReadsWord after false ((0x5C ∷ []) ∷ c ∷ text) (c ++ word)
+  opens : (text : List (List ℕ)) (word : List ℕ) → ReadsWord after true text word → ReadsWord after false ((0x27 ∷ []) ∷ text) word
+  closes : (text : List (List ℕ)) (word : List ℕ) → ReadsWord after false text word → ReadsWord after true ((0x27 ∷ []) ∷ text) word
+  escaped : (c : List ℕ) (text : List (List ℕ)) (word : List ℕ) → is_one is_escaped c ≡ true → ReadsWord after true text word → ReadsWord after true ((0x5C ∷ []) ∷ c ∷ text) (c ++ word)
+  kept : (c : List ℕ) (text : List (List ℕ)) (word : List ℕ) → is_one is_escaped c ≡ false → ReadsWord after true text word → ReadsWord after true ((0x5C ∷ []) ∷ c ∷ text) (0x5C ∷ (c ++ word))
+  itself : (c : List ℕ) (text : List (List ℕ)) (word : List ℕ) → is_one is_escaped c ≡ false → ReadsWord after true text word → ReadsWord after true (c ∷ text) (c ++ word)
 
--- the text isn't empty, and whatever ends the word it is read as this one
+-- a word ends before these bytes, in each charset
+abbrev pub EndsBefore : List ℕ → Type 0
+EndsBefore [] = Unit {0}
+EndsBefore (b ∷ bs) = is_gap b ≡ true
+
+-- the text isn't empty, and in each charset, whatever ends the word, its characters are read as this one
 abbrev pub IsFishText : List ℕ → List ℕ → Type 0
-IsFishText text word = (text ≢ []) × ((after : List ℕ) → EndsWord after → ReadsWord after false (text ++ after) word)
+IsFishText text word = (text ≢ []) × ((after : List ℕ) → (cs : List (List ℕ)) → EndsBefore after → AreCharacters (text ++ after) cs → (rest : List (List ℕ)) × AreCharacters after rest × ReadsWord rest false cs word)
 
--- a byte in single quotes
-abbrev pub fish_byte : ℕ → List ℕ
-fish_byte b = if is_escaped b then 0x5C ∷ b ∷ [] else b ∷ []
+-- A byte in single quotes, after one from 80 (hexadecimal) on or not. No backslash comes after such a byte, which may be one character with it: the quotes end before the backslash, and begin again after the byte that it escapes.
+abbrev pub fish_byte : Bool → ℕ → List ℕ
+fish_byte high b =
+    if is_escaped b then (if high then 0x27 ∷ 0x5C ∷ b ∷ 0x27 ∷ [] else 0x5C ∷ b ∷ []) else b ∷ []
+
+-- bytes in single quotes, after one from 80 on or not
+abbrev pub fish_bytes : Bool → List ℕ → List ℕ
+fish_bytes high [] = []
+fish_bytes high (b ∷ bs) = fish_byte high b ++ fish_bytes (nat_lt 0x7F b) bs
 
 -- a name in single quotes
 abbrev pub fish_quoted : List ℕ → List ℕ
-fish_quoted name = 0x27 ∷ (flat_map fish_byte name ++ 0x27 ∷ [])
+fish_quoted name = 0x27 ∷ (fish_bytes false name ++ 0x27 ∷ [])
 
 -- a name as a word
 abbrev pub fish_word : List ℕ → List ℕ

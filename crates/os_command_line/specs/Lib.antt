@@ -1,7 +1,10 @@
+pub mod Charset
 pub mod ErrorText
 pub mod Fish
 pub mod PowerShell
+pub mod ReservedWords
 pub mod Shell
+pub mod ShellCharacters
 pub mod ShellParts
 pub mod ShellReader
 pub mod ShellSteps

@@ -43,18 +43,36 @@ is_expansion b = nat_eq b dollar || nat_eq b 0x60
 abbrev pub is_pattern : ℕ → Bool
 is_pattern b = is_expansion b || (nat_eq b 0x2A || (nat_eq b 0x3F || (nat_eq b 0x5B || (nat_eq b 0x7B || (nat_eq b 0x7D || nat_eq b 0x7E)))))
 
--- what some shell gives a meaning of its own outside quotes; # and = where they are first in a word
+-- !, by which an interactive bash or zsh takes text of its history, also in double quotes
+abbrev pub is_history : ℕ → Bool
+is_history b = nat_eq b 0x21
+
+-- what some shell gives a meaning of its own in double quotes
+abbrev pub is_special_doubled : ℕ → Bool
+is_special_doubled b = is_expansion b || is_history b
+
+-- what some shell gives a meaning of its own outside quotes; a carriage return is a blank to fish, and ends a line that is typed; # = and ^ where they are first in a word
 abbrev pub is_special : Bool → ℕ → Bool
-is_special first b = is_operator b || (is_pattern b || (first && (nat_eq b 0x23 || nat_eq b 0x3D)))
+is_special first b = is_operator b || (is_pattern b || (is_history b || (nat_eq b 0x0D || (first && (nat_eq b 0x23 || (nat_eq b 0x3D || nat_eq b 0x5E))))))
 
 -- what a backslash escapes in double quotes: $ ` " \
 abbrev pub is_escapable : ℕ → Bool
 is_escapable b = is_expansion b || (nat_eq b double_quote || nat_eq b backslash)
 
+-- the text begins with a single quote; a backslash and a newline before it are left out first (2.2.1)
+abbrev pub begins_quote : List ℕ → Bool
+begins_quote [] = false
+begins_quote (b ∷ []) = nat_eq b single_quote
+begins_quote (b ∷ c ∷ text) = nat_eq b single_quote || (nat_eq b backslash && (nat_eq c newline && begins_quote text))
+
 -- whether dollar-single-quotes begin with this byte before this text, in a language that has them
 abbrev pub opens_dollar : Language → ℕ → List ℕ → Bool
-opens_dollar l b [] = false
-opens_dollar l b (c ∷ text) = l.dollar_quotes && (nat_eq b dollar && nat_eq c single_quote)
+opens_dollar l b text = l.dollar_quotes && (nat_eq b dollar && begins_quote text)
+
+-- what begins dollar-single-quotes after the `$`: a single quote, and before it a backslash and a newline any number of times
+pub data IsOpening : List ℕ → Type 0 where
+  quote : IsOpening (single_quote ∷ [])
+  line_joined : (opening : List ℕ) → IsOpening opening → IsOpening (backslash ∷ newline ∷ opening)
 
 -- a byte that means itself outside quotes, before this text, where it is first in a word or not
 pub record IsBare (l : Language) (first : Bool) (b : ℕ) (text : List ℕ) : Type 0 where
@@ -71,7 +89,7 @@ HasNoQuote bytes = AllByRecursion (λ b. nat_eq b single_quote ≡ false) bytes
 pub record IsItselfDoubled (l : Language) (b : ℕ) : Type 0 where
   pub no_quote : nat_eq b double_quote ≡ false
   pub no_backslash : nat_eq b backslash ≡ false
-  pub no_special : l.refuses_specials && is_expansion b ≡ false
+  pub no_special : l.refuses_specials && is_special_doubled b ≡ false
 
 -- In double quotes (2.2.3) a byte means itself; a backslash before $ ` " or \ escapes it; a backslash and a newline are left out; before any other byte a backslash means itself.
 pub data Doubled (l : Language) : List ℕ → List ℕ → Type 0 where
@@ -150,16 +168,17 @@ pub data Reads (l : Language) : Bool → List ℕ → Outcome → Type 0 where
   continued : (first : Bool) (text : List ℕ) (o : Outcome) → Reads l first text o → Reads l first (backslash ∷ newline ∷ text) o
   single : (first : Bool) (quoted text : List ℕ) (o : Outcome) → HasNoQuote quoted → Reads l false text o → Reads l first (single_quote ∷ (quoted ++ single_quote ∷ text)) (prepend quoted o)
   double : (first : Bool) (quoted word text : List ℕ) (o : Outcome) → Doubled l quoted word → Reads l false text o → Reads l first (double_quote ∷ (quoted ++ double_quote ∷ text)) (prepend word o)
-  dollared : (first : Bool) (quoted word text : List ℕ) (o : Outcome) → l.dollar_quotes ≡ true → Dollared quoted word → Reads l false text o → Reads l first (dollar ∷ single_quote ∷ (quoted ++ single_quote ∷ text)) (prepend word o)
+  dollared : (first : Bool) (opening quoted word text : List ℕ) (o : Outcome) → l.dollar_quotes ≡ true → IsOpening opening → Dollared quoted word → Reads l false text o → Reads l first (dollar ∷ (opening ++ (quoted ++ single_quote ∷ text))) (prepend word o)
   trailing : (first : Bool) → Reads l first (backslash ∷ []) (Fault TrailingBackslash (backslash ∷ []))
   unclosed : (first : Bool) (text : List ℕ) → HasNoQuote text → Reads l first (single_quote ∷ text) (Fault UnclosedSingle (single_quote ∷ text))
   undoubled : (first : Bool) (quoted word : List ℕ) → Doubled l quoted word → Reads l first (double_quote ∷ quoted) (Fault UnclosedDouble (double_quote ∷ quoted))
   unescaped : (first : Bool) (quoted word : List ℕ) → Doubled l quoted word → Reads l first (double_quote ∷ (quoted ++ backslash ∷ [])) (Fault UnclosedDouble (double_quote ∷ (quoted ++ backslash ∷ [])))
-  undollared : (first : Bool) (quoted word : List ℕ) → l.dollar_quotes ≡ true → Dollared quoted word → Reads l first (dollar ∷ single_quote ∷ quoted) (Fault UnclosedDollar (dollar ∷ single_quote ∷ quoted))
-  unfinished : (first : Bool) (quoted word : List ℕ) → l.dollar_quotes ≡ true → Dollared quoted word → Reads l first (dollar ∷ single_quote ∷ (quoted ++ backslash ∷ [])) (Fault UnclosedDollar (dollar ∷ single_quote ∷ (quoted ++ backslash ∷ [])))
-  unknown : (first : Bool) (quoted word text : List ℕ) → l.dollar_quotes ≡ true → Dollared quoted word → BeginsNoEscape text → Reads l first (dollar ∷ single_quote ∷ (quoted ++ backslash ∷ text)) (Fault UnknownEscape (backslash ∷ text))
+  undollared : (first : Bool) (opening quoted word : List ℕ) → l.dollar_quotes ≡ true → IsOpening opening → Dollared quoted word → Reads l first (dollar ∷ (opening ++ quoted)) (Fault UnclosedDollar (dollar ∷ (opening ++ quoted)))
+  unfinished : (first : Bool) (opening quoted word : List ℕ) → l.dollar_quotes ≡ true → IsOpening opening → Dollared quoted word → Reads l first (dollar ∷ (opening ++ (quoted ++ backslash ∷ []))) (Fault UnclosedDollar (dollar ∷ (opening ++ (quoted ++ backslash ∷ []))))
+  unknown : (first : Bool) (opening quoted word text : List ℕ) → l.dollar_quotes ≡ true → IsOpening opening → Dollared quoted word → BeginsNoEscape text → Reads l first (dollar ∷ (opening ++ (quoted ++ backslash ∷ text))) (Fault UnknownEscape (backslash ∷ text))
   special : (first : Bool) (b : ℕ) (text : List ℕ) → l.refuses_specials ≡ true → is_special first b ≡ true → opens_dollar l b text ≡ false → Reads l first (b ∷ text) (Fault Special (b ∷ text))
-  expands : (first : Bool) (quoted word : List ℕ) (b : ℕ) (text : List ℕ) → Doubled l quoted word → l.refuses_specials ≡ true → is_expansion b ≡ true → Reads l first (double_quote ∷ (quoted ++ b ∷ text)) (Fault Special (b ∷ text))
+  expands : (first : Bool) (quoted word : List ℕ) (b : ℕ) (text : List ℕ) → Doubled l quoted word → l.refuses_specials ≡ true → is_special_doubled b ≡ true → Reads l first (double_quote ∷ (quoted ++ b ∷ text)) (Fault Special (b ∷ text))
+  keeps : (first : Bool) (quoted word : List ℕ) (b : ℕ) (text : List ℕ) → Doubled l quoted word → l.refuses_specials ≡ true → is_history b ≡ true → Reads l first (double_quote ∷ (quoted ++ backslash ∷ b ∷ text)) (Fault Special (b ∷ text))
 
 -- between words: blanks, and newlines after a backslash, by which lines are joined before words are told apart (2.2.1)
 pub data IsGap : List ℕ → Type 0 where

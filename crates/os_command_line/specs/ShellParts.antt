@@ -1,12 +1,12 @@
 -- What each byte of a line is: one of a gap, of a mark, or of a word (POSIX.1-2024, Shell Command Language, 2.2). Lists are of bytes.
 use Rattle.std.specs.Prelude.{◌≡◌, ℕ, true, Some, Result, Ok, Err, List, [], ◌∷◌, ◌++◌}
 use Rattle.os_command_line.specs.declared.shell.fault.WordsFault.{WordsFault}
-use Rattle.os_command_line.specs.Shell.{single_quote, backslash, dollar, newline, is_mark, escape_meaning, IsGap}
+use Rattle.os_command_line.specs.Shell.{backslash, dollar, newline, is_mark, escape_meaning, IsGap, IsOpening}
 
--- what is no byte of a word: a quote or a backslash, `$'`, or a backslash and a newline
+-- what is no byte of a word: a quote or a backslash, `$` and what opens dollar-single-quotes after it, or a backslash and a newline
 pub data IsMark : List ℕ → Type 0 where
   one : (b : ℕ) → is_mark b ≡ true → IsMark (b ∷ [])
-  opens : IsMark (dollar ∷ single_quote ∷ [])
+  opens : (opening : List ℕ) → IsOpening opening → IsMark (dollar ∷ opening)
   joins : IsMark (backslash ∷ newline ∷ [])
 
 -- The text is the bytes of the word, one after the other:

@@ -7,7 +7,7 @@ use Rattle.os_command_line.specs.declared.shell.step.Step.{Step}
 use Rattle.os_command_line.specs.declared.shell.step.Step.TheVariants.{End, Go, Refuse}
 use Rattle.os_command_line.specs.declared.shell.fault.FaultKind.TheVariants.{UnclosedSingle, UnclosedDouble, UnclosedDollar, TrailingBackslash, Special, UnknownEscape}
 use Rattle.os_command_line.specs.declared.shell.fault.WordsFault.{WordsFault}
-use Rattle.os_command_line.specs.Shell.{single_quote, double_quote, backslash, newline, is_mark, is_blank, is_special, is_expansion, is_escapable, opens_dollar, letter_meaning, octal_meaning, Outcome, prepend}
+use Rattle.os_command_line.specs.Shell.{single_quote, double_quote, backslash, newline, is_mark, is_blank, is_special, is_special_doubled, is_escapable, opens_dollar, letter_meaning, octal_meaning, Outcome, prepend}
 use Rattle.os_command_line.specs.Shell.Outcome.{Word, Fault}
 
 abbrev pub is_start : State → Bool
@@ -30,10 +30,16 @@ abbrev pub escape_step : State → List ℕ → Step
 escape_step s [] = Refuse TrailingBackslash
 escape_step s (c ∷ text) = if nat_eq c newline then Go None s 1 else Go (Some c) Bare 1
 
+-- how many bytes open dollar-single-quotes after the `$`
+abbrev pub opening_len : List ℕ → ℕ
+opening_len [] = zero
+opening_len (b ∷ []) = 1
+opening_len (b ∷ c ∷ text) = if nat_eq b backslash then suc (suc (opening_len text)) else 1
+
 -- outside quotes, where the word goes on
 abbrev pub bare_step : Language → State → ℕ → List ℕ → Step
 bare_step l s b text =
-    if opens_dollar l b text then Go None Dollar 1
+    if opens_dollar l b text then Go None Dollar (opening_len text)
     else (if l.refuses_specials && is_special (is_start s) b then Refuse Special else Go (Some b) Bare 0)
 
 abbrev pub outside_step : Language → State → ℕ → List ℕ → Step
@@ -57,7 +63,7 @@ abbrev pub double_step : Language → ℕ → List ℕ → Step
 double_step l b text =
     if nat_eq b double_quote then Go None Bare 0
     else (if nat_eq b backslash then double_escape_step text
-    else (if l.refuses_specials && is_expansion b then Refuse Special else Go (Some b) Double 0))
+    else (if l.refuses_specials && is_special_doubled b then Refuse Special else Go (Some b) Double 0))
 
 -- after a backslash in dollar-single-quotes
 abbrev pub meaning_step : ℕ → Option ℕ → Step

@@ -1,5 +1,5 @@
 -- Words quoted for a shell (POSIX.1-2024, Shell Command Language, 2.2.2 and 2.2.4), and names that can't be. Lists are of bytes.
-use Rattle.std.specs.Prelude.{◌≡◌, ◌≢◌, ℕ, ◌+◌, ◌/◌, ◌%◌, ◌<◌, nat_eq, Bool, true, false, ◌||◌, ◌&&◌, if◌then◌else◌, Option, None, Some, List, [], ◌∷◌, ◌++◌, length}
+use Rattle.std.specs.Prelude.{◌≡◌, ◌≢◌, ℕ, ◌+◌, ◌/◌, ◌%◌, ◌<◌, nat_eq, nat_lt, Bool, true, false, not, ◌||◌, ◌&&◌, if◌then◌else◌, Option, None, Some, List, [], ◌∷◌, ◌++◌, length}
 use Rattle.std.specs.Char.{encode_utf8}
 use Rattle.std.specs.Int.{is_in_range}
 use Rattle.std.specs.List.{AllByRecursion, flat_map}
@@ -70,9 +70,29 @@ abbrev pub symbol_text : Symbol → List ℕ
 symbol_text (symbol.Character c) = character_text c (letter_for c)
 symbol_text (symbol.Unit u) = octal_text (unit_number u)
 
+-- whether a backslash begins what means a symbol there
+abbrev pub is_escape : Symbol → Bool
+is_escape (symbol.Character c) = nat_eq c single_quote || (nat_eq c backslash || not (stays_on_line c))
+is_escape (symbol.Unit u) = true
+
+-- whether a byte from 80 (hexadecimal) on ends what means a symbol there
+abbrev pub is_high : Symbol → Bool
+is_high (symbol.Character c) = nat_lt 0x7F c && stays_on_line c
+is_high (symbol.Unit u) = false
+
+-- What means a symbol there, after a byte from 80 on or not. No backslash comes after such a byte, which may be one character with it: the quotes end before the backslash, and begin again.
+abbrev pub text_after : Bool → Symbol → List ℕ
+text_after high s =
+    if high && is_escape s then single_quote ∷ dollar ∷ single_quote ∷ symbol_text s else symbol_text s
+
+-- what means symbols there, after a byte from 80 on or not
+abbrev pub dollar_text : Bool → List Symbol → List ℕ
+dollar_text high [] = []
+dollar_text high (s ∷ symbols) = text_after high s ++ dollar_text (is_high s) symbols
+
 -- symbols in dollar-single-quotes
 abbrev pub dollar_quoted : List Symbol → List ℕ
-dollar_quoted symbols = dollar ∷ single_quote ∷ (flat_map symbol_text symbols ++ single_quote ∷ [])
+dollar_quoted symbols = dollar ∷ single_quote ∷ (dollar_text false symbols ++ single_quote ∷ [])
 
 -- the text is the name in dollar-single-quotes
 pub record IsDollarWord (name text : List ℕ) : Type 0 where

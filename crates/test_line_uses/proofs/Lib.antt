@@ -2,3 +2,4 @@ pub mod CommandLines
 pub mod WrittenOut
 pub mod FirstHit
 pub mod LinesRead
+pub mod JoinedWords

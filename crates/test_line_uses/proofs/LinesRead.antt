@@ -12,7 +12,9 @@ use Rattle.os_command_line.specs.declared.shell.error.ShellError.TheVariants as 
 use Rattle.os_command_line.specs.Shell.{language, is_blank, Begins, IsRead}
 use Rattle.os_command_line.specs.Shell.IsGap.{no_gap, blank, line_joined}
 use Rattle.os_command_line.specs.Shell.Outcome.{Word}
-use Rattle.os_command_line.specs.Shell.Reads.{bare as word_bare, ends as word_ends, unclosed}
+use Rattle.os_command_line.specs.Shell.Dollared.{nothing as dollar_nothing, itself as dollar_itself}
+use Rattle.os_command_line.specs.Shell.IsOpening.{quote as opening_quote, line_joined as opening_joined}
+use Rattle.os_command_line.specs.Shell.Reads.{bare as word_bare, dollared as word_dollared, ends as word_ends, special as word_special, unclosed}
 use Rattle.os_command_line.specs.ShellWriting.{IsFirstNul, IsNameFault}
 use Rattle.os_command_line.specs.Windows.{IsLiteral, IsCommandLine}
 use Rattle.os_command_line.specs.Windows.Reads.{ends, literal, opens, closes, doubled}
@@ -20,7 +22,7 @@ use Rattle.os_command_line.specs.Windows.ReadsName.{name_ends, name_unit}
 use Rattle.os_command_line.specs.WindowsBatch.{IsBatchExtension, IsVerbatim, EndsAsBatch, NeedsCmd}
 use Rattle.os_command_line.specs.WindowsBatch.EndsAsBatch.{here, later}
 use Rattle.os_command_line.specs.WindowsWriting.{IsFirstAt, IsArgumentFault}
-use Rattle.test_line_uses.specs.Faults.{unclosed_at}
+use Rattle.test_line_uses.specs.Faults.{special_at, unclosed_at}
 
 heads : {x y : ℕ} {xs ys : List ℕ} → x ∷ xs ≡ y ∷ ys → x ≡ y
 heads e = cc
@@ -64,6 +66,46 @@ before_fault = (
 
 pub joined_line : (refuses : Bool) → IsRead (language refuses false) (codes "\\\n") []
 joined_line refuses = line_joined [] no_gap
+
+pub joined_dollar : (refuses : Bool) → IsRead (language refuses true) (codes "$\\\n'a'") (Ok (codes "a") ∷ [])
+joined_dollar refuses = (
+  [],
+  record {
+    gap = [];
+    text = codes "$\\\n'a'";
+    parts = refl;
+    is_gap = no_gap;
+    begins = begins_with 0x24 (codes "\\\n'a'") refl (λ e. omega (arith, e));
+    reads = word_dollared true (codes "\\\n'") (codes "a") (codes "a") [] (Word [] []) refl (opening_joined (0x27 ∷ []) opening_quote) (dollar_itself 0x61 [] [] refl refl dollar_nothing) (word_ends false [] tt);
+  },
+  no_gap,
+)
+
+pub before_history : IsRead (language true false) (codes "a !b") (Ok (codes "a") ∷ Err (special_at 2) ∷ [])
+before_history = (
+  codes " !b",
+  record {
+    gap = [];
+    text = codes "a !b";
+    parts = refl;
+    is_gap = no_gap;
+    begins = begins_with 0x61 (codes " !b") refl (λ e. omega (arith, e));
+    reads = word_bare true 0x61 (codes " !b") (Word [] (codes " !b")) (record { no_mark = refl; no_blank = refl; no_dollar = refl; no_special = refl }) (word_ends false (codes " !b") refl);
+  },
+  (
+    codes "!b",
+    record {
+      gap = 0x20 ∷ [];
+      text = codes "!b";
+      parts = refl;
+      is_gap = blank 0x20 [] refl no_gap;
+      begins = begins_with 0x21 (codes "b") refl (λ e. omega (arith, e));
+      reads = word_special true 0x21 (codes "b") refl refl refl;
+    },
+    refl,
+    refl,
+  ),
+)
 
 -- ---- two typographic marks, of which the first escapes the second
 

@@ -10,6 +10,8 @@ pub mod arguments;
 pub mod classes;
 pub mod command_lines;
 pub mod errors;
+pub mod joined_words;
 pub mod patterns;
 pub mod shell_words;
 pub mod windows_lines;
+pub mod written_out;

@@ -1,17 +1,21 @@
 //! Words of a shell: what was written of names is read as these names, and nothing else.
 ghost use Rattle.std.specs.Prelude.{◌≡◌, ◌≢◌, ◌⊎◌, ◌∷◌, ◌++◌, [], false, true, Ok, Err, ℕ, List, IfOk, MatchResult, codes, map, string_bytes};
 ghost use Rattle.std.specs.Char.{encode_utf8};
+ghost use Rattle.std.specs.Int.{is_in_range};
 ghost use Rattle.std.specs.List.{flat_map};
 ghost use Rattle.std.specs.Str.{chars};
 ghost use Rattle.platform_str.specs.Strings.{bytes, string_vec_of};
+ghost use Rattle.os_command_line.specs.Charset.{double_byte};
 ghost use Rattle.os_command_line.specs.Shell.{AreWords, IsTextOf, language};
+ghost use Rattle.os_command_line.specs.ShellCharacters.{Reads as ReadsCharacters};
 ghost use Rattle.os_command_line.specs.ShellViews.{is_refused};
 ghost use Rattle.os_command_line.specs.ShellWriting.{IsLineText};
 ghost use Rattle.os_command_line.specs.declared.shell.error.ShellError.TheVariants.{Nul, Memory};
-ghost use Rattle.test_line_uses.specs.Faults.{unclosed_at};
+ghost use Rattle.test_line_uses.specs.Faults.{special_at, unclosed_at};
 
 use os_command_line::shell::{
-    ShellError, Specials, Words, laws, quote, quote_line, quoted_powershell,
+    ShellError, Specials, Words, join, laws, push_word, quote, quote_line, quoted_fish,
+    quoted_powershell,
 };
 use platform_str::{OsStr, OsString, Unix, Windows};
 use std::alloc::{AllocError, Allocator, Global};
@@ -61,6 +65,65 @@ pub fn two_words<A: Allocator + Copy>(
     let one = quote(alloc, first)?;
     let other = quote(alloc, second)?;
     Ok((one, other))
+}
+
+/// The words of two names on one line, which are equal only if the names are.
+pub fn two_line_words<A: Allocator + Copy>(
+    alloc: A,
+    first: OsStr<'_, Unix>,
+    second: OsStr<'_, Unix>,
+) -> Result<(OsString<Unix, A>, OsString<Unix, A>), ShellError>
+    ensures { IfOk result (λ words. (string_vec_of words.0).items ≡ (string_vec_of words.1).items
+        → bytes first.entry ≡ bytes second.entry) }
+{
+    laws::line_words();
+    let one = quote_line(alloc, first)?;
+    let other = quote_line(alloc, second)?;
+    Ok((one, other))
+}
+
+/// A name's word on one line: what a shell reads from its characters in GBK, before a space, is the name.
+pub fn word_in_gbk<A: Allocator>(
+    alloc: A,
+    name: OsStr<'_, Unix>,
+) -> Result<OsString<Unix, A>, ShellError>
+    ensures { IfOk result (λ word. (read : List ℕ) → (rest : List (List ℕ))
+        → ReadsCharacters (language true true) true
+        (double_byte (is_in_range 0x81 0xFE) (is_in_range 0x40 0xFE)
+        ((string_vec_of word).items ++ 0x20 ∷ [])) read rest
+        → read ≡ bytes name.entry) }
+{
+    laws::charsets();
+    laws::charset_words();
+    quote_line(alloc, name)
+}
+
+/// The word in fish of a character past ASCII and a single quote: no backslash comes after the character.
+pub fn fish_word_after_wide(alloc: Global) -> Result<String, AllocError>
+    ensures { IfOk result (λ text. string_bytes text
+        ≡ 0x27 ∷ 0xC3 ∷ 0x81 ∷ 0x27 ∷ 0x5C ∷ 0x27 ∷ 0x27 ∷ 0x27 ∷ []) }
+{
+    match quoted_fish(OsStr::new("\u{C1}'")) {
+        Ok(quoted) => quoted.to_string(alloc),
+        Err(_) => Err(AllocError),
+    }
+}
+
+/// A line of a reserved word, twice: where it is first it is quoted.
+pub fn line_of_reserved<A: Allocator>(alloc: A) -> Result<OsString<Unix, A>, ShellError>
+    ensures { IfOk result (λ line. (string_vec_of line).items ≡ codes "'time' time") }
+{
+    join(alloc, &[OsStr::new("time"), OsStr::new("time")])
+}
+
+/// A line to which a reserved word was appended twice: only the first is quoted.
+pub fn line_pushed<A: Allocator>(alloc: A) -> Result<Vec<u8, A>, ShellError>
+    ensures { IfOk result (λ line. line.items ≡ codes "'if'if") }
+{
+    let mut line = Vec::new(alloc);
+    push_word(&mut line, OsStr::new("if"))?;
+    push_word(&mut line, OsStr::new("if"))?;
+    Ok(line)
 }
 
 /// A word on one line.
@@ -134,6 +197,23 @@ pub fn words_of_joined_line<'l>(line: OsStr<'l, Unix>, specials: Specials) -> Wo
 {
     laws::lines();
     Words::new(line, specials)
+}
+
+/// The words of a line of `$`, a backslash and a newline, and `a` in single quotes: `a`.
+pub fn words_of_joined_dollar<'l>(line: OsStr<'l, Unix>, specials: Specials) -> Words<'l>
+    ensures { bytes line.entry ≡ codes "$\\\n'a'" → result ≡ Ok (codes "a") ∷ [] }
+{
+    laws::lines();
+    Words::with_dollar_quotes(line, specials)
+}
+
+/// The words of a line with an exclamation mark: the one before it, and a fault at its index.
+pub fn words_before_history<'l>(line: OsStr<'l, Unix>) -> Words<'l>
+    ensures { bytes line.entry ≡ codes "a !b"
+        → result ≡ Ok (codes "a") ∷ Err (special_at 2) ∷ [] }
+{
+    laws::lines();
+    Words::new(line, Specials::Refused)
 }
 
 /// A string of PowerShell of a text with a single quotation mark, byte by byte.

@@ -1,8 +1,7 @@
 -- Words each byte of which means itself or that are one text in single quotes, and names that need no quotes.
-use Rattle.std.proofs.Common.{◌≡◌, ◌≢◌, ℕ, zero, ◌<◌, ◌≤◌, Bool, true, false, not, ◌||◌, ◌&&◌, eqb, leb, List, [], ◌∷◌, ◌++◌, length, refl, sym, ap, ◌∙◌, subst, arith, append_assoc, append-nil, Option, MatchOption, inl, inr}
-use Rattle.std.specs.Int.{is_in_range}
+use Rattle.std.proofs.Common.{◌≡◌, ◌≢◌, ℕ, zero, ◌<◌, ◌≤◌, Bool, true, false, not, ◌||◌, ◌&&◌, eqb, List, [], ◌∷◌, ◌++◌, length, refl, sym, ap, ◌∙◌, subst, arith, append_assoc, append-nil, Option, MatchOption, inl, inr}
 use Rattle.std.specs.List.{AllByRecursion}
-use Rattle.std.proofs.lemmas.Bool.{cases_Bool, true≢false, and_parts, eqb-true, leb-true}
+use Rattle.std.proofs.lemmas.Bool.{cases_Bool, true≢false, and_parts, eqb-true}
 use Rattle.wtf8_core.proofs.lemmas.vectors.ComputedTests.{all_below, each_below}
 use Rattle.os_quote.specs.Shown.{stays_on_line}
 use Rattle.os_command_line.specs.declared.shell.form.Form.{Form}
@@ -17,9 +16,9 @@ use Rattle.os_command_line.specs.ShellReader.{is_itself, raw_bytes, bytes_left, 
 use Rattle.os_command_line.specs.ShellSteps.{AreItself, BeginsBare, BeginsQuoted, is_bare_form, IsFormOf, IsLineFormOf, IsPlainIfBare}
 use Rattle.os_command_line.specs.ShellWriting.{is_plain, are_plain, is_plain_name, HasNoNul, IsLineText}
 use Rattle.os_command_line.proofs.lemmas.ShellMeaning.{meant_is, meant_short}
-use Rattle.os_command_line.proofs.lemmas.ShellOneReading.{complete, and_none, or_false, or_true}
+use Rattle.os_command_line.proofs.lemmas.ShellOneReading.{complete, and_none, or_false}
 use Rattle.os_command_line.proofs.lemmas.ShellOnLine.{IsShown, ascii}
-use Rattle.os_command_line.proofs.lemmas.ShellRoundTrip.{no_dollar}
+use Rattle.os_command_line.proofs.lemmas.ShellRoundTrip.{no_dollar, plain_low}
 
 -- ---- words
 
@@ -97,21 +96,6 @@ are_all (b ∷ name) h = h
 
 pub plain_has_no_nul : (name : List ℕ) → is_plain_name name ≡ true → HasNoNul name
 plain_has_no_nul name h = each_plain (λ b. b ≢ 0) plain_no_nul name (are_all name h)
-
-plain_low : (b : ℕ) → is_plain b ≡ true → b < 0x80
-plain_low b h = elim (or_true (is_in_range 0x2B 0x3A b) (is_in_range 0x40 0x5A b || (eqb b 0x5F || is_in_range 0x61 0x7A b)) h) [
-  | inl e ↦ at_most 0x2B 0x3A (omega arith) e
-  | inr r ↦ elim (or_true (is_in_range 0x40 0x5A b) (eqb b 0x5F || is_in_range 0x61 0x7A b) r) [
-    | inl e ↦ at_most 0x40 0x5A (omega arith) e
-    | inr q ↦ elim (or_true (eqb b 0x5F) (is_in_range 0x61 0x7A b) q) [
-      | inl e ↦ omega (arith, eqb-true b 0x5F e)
-      | inr e ↦ at_most 0x61 0x7A (omega arith) e
-    ]
-  ]
-]
-  where
-    at_most : (low high : ℕ) → high < 0x80 → is_in_range low high b ≡ true → b < 0x80
-    at_most low high lt e = omega (arith, lt, leb-true b high (and_parts (leb low b) (leb b high) e).1)
 
 abbrev stays_if_plain : ℕ → Bool
 stays_if_plain b = not (is_plain b && not (stays_on_line b))

@@ -6,14 +6,15 @@ use Rattle.os_command_line.specs.declared.shell.step.State.{State}
 use Rattle.os_command_line.specs.declared.shell.step.State.TheVariants.{Start, Bare, Single, Double, Dollar}
 use Rattle.os_command_line.specs.declared.shell.step.Step.TheVariants.{End}
 use Rattle.os_command_line.specs.declared.shell.fault.FaultKind.TheVariants.{UnclosedSingle, UnclosedDouble, UnclosedDollar, TrailingBackslash, Special, UnknownEscape}
-use Rattle.os_command_line.specs.Shell.{single_quote, double_quote, backslash, dollar, newline, is_mark, is_blank, is_expansion, is_special, is_escapable, opens_dollar, IsBare, HasNoQuote, IsItselfDoubled, Doubled, letter_meaning, octal_meaning, escape_meaning, BeginsNoEscape, Dollared, Outcome, prepend, Reads}
+use Rattle.os_command_line.specs.Shell.{single_quote, double_quote, backslash, dollar, newline, is_mark, is_blank, is_history, is_special, is_special_doubled, is_escapable, begins_quote, opens_dollar, IsOpening, IsBare, HasNoQuote, IsItselfDoubled, Doubled, letter_meaning, octal_meaning, escape_meaning, BeginsNoEscape, Dollared, Outcome, prepend, Reads}
+use Rattle.os_command_line.specs.Shell.IsOpening.{quote, line_joined}
 use Rattle.os_command_line.specs.Shell.Outcome.{Fault}
 use Rattle.os_command_line.specs.Shell.Doubled.{none, plain, escape, joined, kept}
 use Rattle.os_command_line.specs.Shell.Dollared.{nothing, itself, escape_of}
-use Rattle.os_command_line.specs.Shell.Reads.{ends, bare, escaped, continued, single, double, dollared, trailing, unclosed, undoubled, unescaped, undollared, unfinished, unknown, special, expands}
+use Rattle.os_command_line.specs.Shell.Reads.{ends, bare, escaped, continued, single, double, dollared, trailing, unclosed, undoubled, unescaped, undollared, unfinished, unknown, special, expands, keeps}
 use Rattle.os_command_line.specs.ShellReader.{outside_step, run, outcome}
 use Rattle.os_command_line.proofs.lemmas.Lists.{no_cons, one_more}
-use Rattle.os_command_line.proofs.lemmas.ShellOneReading.{outside, prepend_nothing, prepend_twice, of_blank, of_mark, no_text, go, refuse, pass, pass_all, ended, go_outside, refuse_outside, stop_outside, bare_go, special_refuse, itself_doubled, doubled_go, kept_go, escape_go, escape_meant, no_escape, single_closed, double_closed, dollar_closed, single_opened, double_opened, dollar_opened, escaped_at, joined_at}
+use Rattle.os_command_line.proofs.lemmas.ShellOneReading.{outside, prepend_nothing, prepend_twice, of_blank, of_mark, no_text, go, refuse, pass, pass_all, ended, go_outside, refuse_outside, stop_outside, bare_go, special_refuse, or_true, kept_refused, itself_doubled, doubled_go, kept_go, escape_go, escape_meant, no_escape, single_closed, double_closed, dollar_closed, single_opened, double_opened, dollar_opened, escaped_at, joined_at}
 
 -- a reading of equal texts, with equal outcomes
 pub same : {l : Language} {first : Bool} {a b : List ℕ} {o p : Outcome} → a ≡ b → o ≡ p → Reads l first a o → Reads l first b p
@@ -30,7 +31,7 @@ Sound l Bare from text o = Reads l false text o
 Sound l Single from text o = (first : Bool) (quoted : List ℕ) → HasNoQuote quoted → from ≡ single_quote ∷ (quoted ++ text) → Reads l first from (prepend quoted o)
 Sound l Double from text o = (first : Bool) (prefix meant : List ℕ) → Leads (Doubled l) prefix meant → from ≡ double_quote ∷ (prefix ++ text) → Reads l first from (prepend meant o)
 Sound l Dollar from text o =
-    l.dollar_quotes ≡ true → (first : Bool) (prefix meant : List ℕ) → Leads Dollared prefix meant → from ≡ dollar ∷ single_quote ∷ (prefix ++ text) → Reads l first from (prepend meant o)
+    l.dollar_quotes ≡ true → (first : Bool) (opening prefix meant : List ℕ) → IsOpening opening → Leads Dollared prefix meant → from ≡ dollar ∷ (opening ++ (prefix ++ text)) → Reads l first from (prepend meant o)
 
 abbrev IsSound : Language → State → List ℕ → List ℕ → Type 0
 IsSound l s from text = Sound l s from text (run l s from zero text)
@@ -52,9 +53,10 @@ module _ (l : Language) (first : Bool) (from text : List ℕ) where
   at_double : AllSound l (suc (length text)) → Reads l first (double_quote ∷ text) (run l (outside first) from zero (double_quote ∷ text))
   at_double ih = same refl (prepend_nothing (run l Double (double_quote ∷ text) zero text) ∙ sym (double_opened l first from text)) (ih Double (double_quote ∷ text) text (omega arith) first [] [] (λ quoted word r. r) refl)
 
-  at_dollar : AllSound l (suc (suc (length text))) → l.dollar_quotes ≡ true → Reads l first (dollar ∷ single_quote ∷ text) (run l (outside first) from zero (dollar ∷ single_quote ∷ text))
-  at_dollar ih d =
-      same refl (prepend_nothing (run l Dollar (dollar ∷ single_quote ∷ text) zero text) ∙ sym (dollar_opened l first from text d)) (ih Dollar (dollar ∷ single_quote ∷ text) text (omega arith) d first [] [] (λ quoted word r. r) refl)
+  at_dollar : (opening : List ℕ) → IsOpening opening → AllSound l (suc (length (opening ++ text))) → l.dollar_quotes ≡ true → Reads l first (dollar ∷ (opening ++ text)) (run l (outside first) from zero (dollar ∷ (opening ++ text)))
+  at_dollar opening i ih d =
+      let here = dollar ∷ (opening ++ text) in
+      same refl (prepend_nothing (run l Dollar here zero text) ∙ sym (dollar_opened l first from opening text d i)) (ih Dollar here text (omega (arith, length-append opening text)) d first opening [] [] i (λ quoted word r. r) refl)
 
 at_backslash : (l : Language) (first : Bool) (from text : List ℕ) → AllSound l (suc (length text)) → Reads l first (backslash ∷ text) (run l (outside first) from zero (backslash ∷ text))
 at_backslash l first from [] ih = same refl (sym (refuse_outside l first from backslash [] TrailingBackslash refl)) (trailing first)
@@ -64,13 +66,37 @@ at_backslash l first from (c ∷ text) ih = elim (cases_Bool (eqb c 0x0A)) [
   | inr e ↦ same refl (sym (escaped_at l first from c text e)) (escaped first c text _ e (ih Bare (backslash ∷ c ∷ text) text (omega arith)))
 ]
 
+-- what begins dollar-single-quotes is cut off
+record Opened (text : List ℕ) : Type 0 where
+  opening : List ℕ
+  rest : List ℕ
+  parts : text ≡ opening ++ rest
+  is : IsOpening opening
+
+opened_at : (text : List ℕ) → begins_quote text ≡ true → Opened text
+opened_at [] h = absurd (true≢false (sym h))
+opened_at (b ∷ []) h = record { opening = single_quote ∷ []; rest = []; parts = ap (λ x. x ∷ []) (eqb-true b 0x27 h); is = quote }
+opened_at (b ∷ c ∷ text) h = elim (or_true (eqb b 0x27) (eqb b 0x5C && (eqb c 0x0A && begins_quote text)) h) [
+  | inl e ↦ record { opening = single_quote ∷ []; rest = c ∷ text; parts = ap (λ x. x ∷ c ∷ text) (eqb-true b 0x27 e); is = quote }
+  | inr r ↦
+      let p = and_parts (eqb b 0x5C) (eqb c 0x0A && begins_quote text) r in
+      let q = and_parts (eqb c 0x0A) (begins_quote text) p.1 in
+      let o = opened_at text q.1 in
+      record {
+        opening = backslash ∷ newline ∷ o.opening;
+        rest = o.rest;
+        parts = ap (λ x. x ∷ c ∷ text) (eqb-true b 0x5C p.0) ∙ ap (λ x. backslash ∷ x ∷ text) (eqb-true c 0x0A q.0) ∙ ap (λ z. backslash ∷ newline ∷ z) o.parts;
+        is = line_joined o.opening o.is;
+      }
+]
+
 at_opening : (l : Language) (first : Bool) (from : List ℕ) (b : ℕ) (text : List ℕ) → AllSound l (suc (length text)) → opens_dollar l b text ≡ true → Reads l first (b ∷ text) (run l (outside first) from zero (b ∷ text))
-at_opening l first from b [] ih h = absurd (true≢false (sym h))
-at_opening l first from b (c ∷ text) ih h =
-    let p = and_parts l.dollar_quotes (eqb b 0x24 && eqb c 0x27) h in
-    let q = and_parts (eqb b 0x24) (eqb c 0x27) p.1 in
-    subst (λ x. Reads l first (x ∷ c ∷ text) (run l (outside first) from zero (x ∷ c ∷ text))) (sym (eqb-true b 0x24 q.0))
-    (subst (λ x. Reads l first (dollar ∷ x ∷ text) (run l (outside first) from zero (dollar ∷ x ∷ text))) (sym (eqb-true c 0x27 q.1)) (at_dollar l first from text ih p.0))
+at_opening l first from b text ih h =
+    let p = and_parts l.dollar_quotes (eqb b 0x24 && begins_quote text) h in
+    let q = and_parts (eqb b 0x24) (begins_quote text) p.1 in
+    let o = opened_at text q.1 in
+    subst (λ x. Reads l first (x ∷ text) (run l (outside first) from zero (x ∷ text))) (sym (eqb-true b 0x24 q.0))
+    (subst (λ z. Reads l first (dollar ∷ z) (run l (outside first) from zero (dollar ∷ z))) (sym o.parts) (at_dollar l first from o.rest o.opening o.is (subst (λ z. AllSound l (suc (length z))) o.parts ih) p.0))
 
 at_bare : (l : Language) (first : Bool) (from : List ℕ) (b : ℕ) (text : List ℕ) → AllSound l (suc (length text)) → is_mark b ≡ false → is_blank b ≡ false → opens_dollar l b text ≡ false → Reads l first (b ∷ text) (run l (outside first) from zero (b ∷ text))
 at_bare l first from b text ih m n d = elim (cases_Bool (l.refuses_specials && is_special first b)) [
@@ -137,15 +163,19 @@ module _ (l : Language) (from : List ℕ) where
       | inl n ↦ subst (λ x. IsSound l Double from (backslash ∷ x ∷ text)) (sym (eqb-true c 0x0A n))
           (double_on (backslash ∷ newline ∷ text) (backslash ∷ newline ∷ []) [] text refl (λ quoted word r. joined quoted word r)
           (go l Double from backslash (newline ∷ text) None Double 1 refl ∙ ap (prepend []) (pass l Double from newline text 0)) (ih Double from text (omega arith)))
-      | inr n ↦ let i = itself_doubled l c e in
-          double_on (backslash ∷ c ∷ text) (backslash ∷ c ∷ []) (backslash ∷ c ∷ []) text refl (λ quoted word r. kept c quoted (c ∷ word) e n (plain c quoted word i r))
-          (go l Double from backslash (c ∷ text) (Some backslash) Double 0 (kept_go l c text e n) ∙ ap (prepend (backslash ∷ [])) (go l Double from c text (Some c) Double 0 (doubled_go l c text i)) ∙ prepend_twice (backslash ∷ []) (c ∷ []) (run l Double from zero text)) (ih Double from text (omega arith))
+      | inr n ↦ elim (cases_Bool (l.refuses_specials && is_history c)) [
+        | inl k ↦ let x = and_parts l.refuses_specials (is_history c) k in
+            λ first prefix meant p f. same (sym f) (sym (ap (prepend meant) (kept_refused l from c text x.0 x.1))) (keeps first prefix meant c text (led (Doubled l) (same_doubled l) prefix meant p none) x.0 x.1)
+        | inr k ↦ let i = itself_doubled l c e k in
+            double_on (backslash ∷ c ∷ text) (backslash ∷ c ∷ []) (backslash ∷ c ∷ []) text refl (λ quoted word r. kept c quoted (c ∷ word) e n (plain c quoted word i r))
+            (go l Double from backslash (c ∷ text) (Some backslash) Double 0 (kept_go l c text e n) ∙ ap (prepend (backslash ∷ [])) (go l Double from c text (Some c) Double 0 (doubled_go l c text i)) ∙ prepend_twice (backslash ∷ []) (c ∷ []) (run l Double from zero text)) (ih Double from text (omega arith))
+      ]
     ]
   ]
 
   double_other : (b : ℕ) (text : List ℕ) → IsSound l Double from text → eqb b 0x22 ≡ false → eqb b 0x5C ≡ false → IsSound l Double from (b ∷ text)
-  double_other b text h q s = elim (cases_Bool (l.refuses_specials && is_expansion b)) [
-    | inl e ↦ let x = and_parts l.refuses_specials (is_expansion b) e in
+  double_other b text h q s = elim (cases_Bool (l.refuses_specials && is_special_doubled b)) [
+    | inl e ↦ let x = and_parts l.refuses_specials (is_special_doubled b) e in
         λ first prefix meant p f. same (sym f) (sym (ap (prepend meant) (refuse l Double from b text Special (rw (q, s, e) refl)))) (expands first prefix meant b text (led (Doubled l) (same_doubled l) prefix meant p none) x.0 x.1)
     | inr e ↦ let i : IsItselfDoubled l b = record { no_quote = q; no_backslash = s; no_special = e } in
         double_on (b ∷ text) (b ∷ []) (b ∷ []) text refl (λ quoted word r. plain b quoted word i r) (go l Double from b text (Some b) Double 0 (doubled_go l b text i)) h
@@ -209,28 +239,28 @@ escape_cases c text = elim (cases_option (letter_meaning c)) [
 
 module _ (l : Language) (from : List ℕ) where
   dollar_on : (text taken added rest : List ℕ) → text ≡ taken ++ rest → Leads Dollared taken added → run l Dollar from zero text ≡ prepend added (run l Dollar from zero rest) → IsSound l Dollar from rest → IsSound l Dollar from text
-  dollar_on text taken added rest t q e h d first prefix meant p f =
+  dollar_on text taken added rest t q e h d first opening prefix meant i p f =
       same refl (sym (prepend_twice meant added (run l Dollar from zero rest)) ∙ ap (prepend meant) (sym e))
-      (h d first (prefix ++ taken) (meant ++ added) (leads_on Dollared same_dollared prefix meant taken added p q) (f ∙ ap (λ z. dollar ∷ single_quote ∷ (prefix ++ z)) t ∙ ap (λ z. dollar ∷ single_quote ∷ z) (sym (append_assoc prefix taken rest))))
+      (h d first opening (prefix ++ taken) (meant ++ added) i (leads_on Dollared same_dollared prefix meant taken added p q) (f ∙ ap (λ z. dollar ∷ (opening ++ (prefix ++ z))) t ∙ ap (λ z. dollar ∷ (opening ++ z)) (sym (append_assoc prefix taken rest))))
 
   dollar_marked : (text : List ℕ) → IsSound l Bare from text → IsSound l Dollar from (single_quote ∷ text)
-  dollar_marked text h d first prefix meant p f =
-      same (sym f) (ap (prepend meant) (sym (dollar_closed l from text))) (dollared first prefix meant text (run l Bare from zero text) d (led Dollared same_dollared prefix meant p nothing) h)
+  dollar_marked text h d first opening prefix meant i p f =
+      same (sym f) (ap (prepend meant) (sym (dollar_closed l from text))) (dollared first opening prefix meant text (run l Bare from zero text) d i (led Dollared same_dollared prefix meant p nothing) h)
 
   dollar_backslash : (text : List ℕ) → AllSound l (suc (length text)) → IsSound l Dollar from (backslash ∷ text)
-  dollar_backslash [] ih = λ d first prefix meant p f.
-      same (sym f) (ap (Fault UnclosedDollar) (sym f) ∙ sym (ap (prepend meant) (go l Dollar from backslash [] (Some backslash) Dollar 0 refl ∙ ap (prepend (backslash ∷ [])) (no_text l Dollar from 0)))) (unfinished first prefix meant d (led Dollared same_dollared prefix meant p nothing))
+  dollar_backslash [] ih = λ d first opening prefix meant i p f.
+      same (sym f) (ap (Fault UnclosedDollar) (sym f) ∙ sym (ap (prepend meant) (go l Dollar from backslash [] (Some backslash) Dollar 0 refl ∙ ap (prepend (backslash ∷ [])) (no_text l Dollar from 0)))) (unfinished first opening prefix meant d i (led Dollared same_dollared prefix meant p nothing))
   dollar_backslash (c ∷ text) ih = elim (escape_cases c text) [
     | inl x ↦ dollar_on (backslash ∷ c ∷ text) (backslash ∷ x.letters) (x.byte ∷ []) x.after (ap (λ z. backslash ∷ z) x.parts) (λ quoted word r. escape_of x.letters x.byte quoted word x.means r)
         (ap (λ z. run l Dollar from zero (backslash ∷ z)) x.parts ∙ go l Dollar from backslash (x.letters ++ x.after) (Some x.byte) Dollar (length x.letters) (escape_meant x.letters x.byte x.after x.means) ∙ ap (prepend (x.byte ∷ [])) (pass_all l Dollar from x.letters x.after))
         (ih Dollar from x.after (omega (arith, ap length x.parts, length-append x.letters x.after)))
-    | inr n ↦ λ d first prefix meant p f. same (sym f) (sym (ap (prepend meant) (refuse l Dollar from backslash (c ∷ text) UnknownEscape (no_escape (c ∷ text) n)))) (unknown first prefix meant (c ∷ text) d (led Dollared same_dollared prefix meant p nothing) n)
+    | inr n ↦ λ d first opening prefix meant i p f. same (sym f) (sym (ap (prepend meant) (refuse l Dollar from backslash (c ∷ text) UnknownEscape (no_escape (c ∷ text) n)))) (unknown first opening prefix meant (c ∷ text) d i (led Dollared same_dollared prefix meant p nothing) n)
   ]
 
   at_in_dollar : (text : List ℕ) → AllSound l (length text) → IsSound l Dollar from text
-  at_in_dollar [] ih = λ d first prefix meant p f.
-      let g : dollar ∷ single_quote ∷ prefix ≡ from = ap (λ z. dollar ∷ single_quote ∷ z) (sym (append-nil prefix)) ∙ sym f in
-      same g (ap (Fault UnclosedDollar) g ∙ sym (ap (prepend meant) (no_text l Dollar from 0))) (undollared first prefix meant d (led Dollared same_dollared prefix meant p nothing))
+  at_in_dollar [] ih = λ d first opening prefix meant i p f.
+      let g : dollar ∷ (opening ++ prefix) ≡ from = ap (λ z. dollar ∷ (opening ++ z)) (sym (append-nil prefix)) ∙ sym f in
+      same g (ap (Fault UnclosedDollar) g ∙ sym (ap (prepend meant) (no_text l Dollar from 0))) (undollared first opening prefix meant d i (led Dollared same_dollared prefix meant p nothing))
   at_in_dollar (b ∷ text) ih = elim (cases_Bool (eqb b 0x27)) [
     | inl q ↦ subst (λ x. IsSound l Dollar from (x ∷ text)) (sym (eqb-true b 0x27 q)) (dollar_marked text (ih Bare from text (omega arith)))
     | inr q ↦ elim (cases_Bool (eqb b 0x5C)) [

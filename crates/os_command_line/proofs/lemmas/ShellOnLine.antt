@@ -1,5 +1,5 @@
 -- Words on one line are texts that stay on it, and each is that of one name.
-use Rattle.std.proofs.Common.{◌≡◌, ℕ, zero, suc, ◌+◌, ◌*◌, ◌/◌, ◌%◌, ◌<◌, ◌≤◌, true, false, eqb, List, [], ◌∷◌, ◌++◌, length, map, refl, sym, ap, ◌∙◌, subst, arith, append_assoc, append-nil, inl, inr, ◌⊎◌}
+use Rattle.std.proofs.Common.{◌≡◌, ℕ, zero, suc, ◌+◌, ◌*◌, ◌/◌, ◌%◌, ◌<◌, ◌≤◌, Bool, true, false, ◌&&◌, eqb, List, [], ◌∷◌, ◌++◌, length, map, refl, sym, ap, ◌∙◌, subst, arith, append_assoc, append-nil, inl, inr, ◌⊎◌}
 use Rattle.std.specs.Char.{IsScalar, encode_utf8}
 use Rattle.std.specs.List.{All, AllByRecursion, flat_map}
 use Rattle.std.specs.Str.{IsAscii, IsUtf8, is_utf8, all_scalars, chars, encode_utf8_all}
@@ -21,7 +21,7 @@ use Rattle.os_str_ext.proofs.lemmas.EachChunk.{are_chunks_of}
 use Rattle.os_quote.specs.Shown.{stays_on_line}
 use Rattle.os_command_line.specs.declared.shell.language.Language.{Language}
 use Rattle.os_command_line.specs.Shell.{single_quote, backslash, dollar, IsTextOf, language}
-use Rattle.os_command_line.specs.ShellWriting.{AreBytes, HasNoNul, is_plain_name, single_byte, single_quoted, quoted_word, letter_for, octal_text, shown_or_octal, character_text, symbol_text, IsDollarWord, IsLineText, IsLineWord}
+use Rattle.os_command_line.specs.ShellWriting.{AreBytes, HasNoNul, is_plain_name, single_byte, single_quoted, quoted_word, letter_for, octal_text, shown_or_octal, character_text, symbol_text, is_escape, is_high, text_after, dollar_text, IsDollarWord, IsLineText, IsLineWord}
 use Rattle.os_command_line.proofs.lemmas.CharacterForms.{text_form, each_of}
 use Rattle.os_command_line.proofs.lemmas.Lists.{all_joined}
 use Rattle.os_command_line.proofs.lemmas.ShellDollar.{dollar_is}
@@ -148,9 +148,21 @@ symbol_on_line : (s : Symbol) → IsScalarSymbol s → IsLineText (symbol_text s
 symbol_on_line (symbol.Character c) s = character c s
 symbol_on_line (symbol.Unit u) s = octal (unit_number u)
 
-symbols_on_line : (symbols : List Symbol) → AllByRecursion IsScalarSymbol symbols → IsLineText (flat_map symbol_text symbols)
-symbols_on_line [] h = no_text
-symbols_on_line (s ∷ symbols) h = both (symbol_text s) (flat_map symbol_text symbols) (symbol_on_line s h.0) (symbols_on_line symbols h.1)
+after_on_line : (high : Bool) (s : Symbol) → IsScalarSymbol s → IsLineText (text_after high s)
+after_on_line high s h = elim (cases_Bool (high && is_escape s)) [
+  | inl e ↦ subst IsLineText (sym (again e)) (both (single_quote ∷ dollar ∷ single_quote ∷ []) (symbol_text s) (ascii (single_quote ∷ dollar ∷ single_quote ∷ []) (mark, ((omega arith, refl), (mark, tt)))) (symbol_on_line s h))
+  | inr e ↦ subst IsLineText (sym (at_once e)) (symbol_on_line s h)
+]
+  where
+    again : high && is_escape s ≡ true → text_after high s ≡ single_quote ∷ dollar ∷ single_quote ∷ symbol_text s
+    again e = rw e refl
+
+    at_once : high && is_escape s ≡ false → text_after high s ≡ symbol_text s
+    at_once e = rw e refl
+
+symbols_on_line : (high : Bool) (symbols : List Symbol) → AllByRecursion IsScalarSymbol symbols → IsLineText (dollar_text high symbols)
+symbols_on_line high [] h = no_text
+symbols_on_line high (s ∷ symbols) h = both (text_after high s) (dollar_text (is_high s) symbols) (after_on_line high s h.0) (symbols_on_line (is_high s) symbols h.1)
 
 units_scalar : (bytes : List ℕ) (more : List Symbol) → AllByRecursion IsScalarSymbol more → AllByRecursion IsScalarSymbol (map unit_symbol bytes ++ more)
 units_scalar [] more m = m
@@ -173,10 +185,10 @@ dollar_on_line name text w is =
     let chunks = is.are_symbols.chunks in
     let of = are_chunks_of (All IsByte) unix_laws.cut_prefix unix_laws.cut_suffix name chunks w is.are_symbols.are_chunks in
     let texts : AllByRecursion (λ (c : Chunk). IsUtf8 c.1) chunks = texts_of chunks of in
-    let inner = symbols_on_line is.symbols (subst (AllByRecursion IsScalarSymbol) (sym is.are_symbols.are) (chunks_scalar chunks texts)) in
+    let inner = symbols_on_line false is.symbols (subst (AllByRecursion IsScalarSymbol) (sym is.are_symbols.are) (chunks_scalar chunks texts)) in
     let quote = ascii (single_quote ∷ []) (mark, tt) in
     let opening = ascii (dollar ∷ single_quote ∷ []) ((omega arith, refl), (mark, tt)) in
-    subst IsLineText (sym is.text_is) (both (dollar ∷ single_quote ∷ []) (flat_map symbol_text is.symbols ++ single_quote ∷ []) opening (both (flat_map symbol_text is.symbols) (single_quote ∷ []) inner quote))
+    subst IsLineText (sym is.text_is) (both (dollar ∷ single_quote ∷ []) (dollar_text false is.symbols ++ single_quote ∷ []) opening (both (dollar_text false is.symbols) (single_quote ∷ []) inner quote))
   where
     texts_of : (chunks : List Chunk) → AllByRecursion (IsChunkOf (All IsByte)) chunks → AllByRecursion (λ (c : Chunk). IsUtf8 c.1) chunks
     texts_of [] h = tt
@@ -191,7 +203,7 @@ all_stay (c ∷ cs) = elim (cases_Bool (stays_on_line c)) [
   | inr e ↦ inr (λ h. true≢false (sym h.0 ∙ e))
 ]
 
-line_cases : (name : List ℕ) → IsLineText name ⊎ (IsLineText name → ⊥)
+pub line_cases : (name : List ℕ) → IsLineText name ⊎ (IsLineText name → ⊥)
 line_cases name = elim (cases_Bool (is_utf8 name)) [
   | inl e ↦ elim (all_stay (chars name)) [ inl h ↦ inl (IsUtf8-from_is_utf8 name e, h) | inr n ↦ inr (λ t. n t.1) ]
   | inr e ↦ inr (λ t. true≢false (sym (is_utf8-from_IsUtf8 name t.0) ∙ e))

@@ -8,12 +8,13 @@ use Rattle.os_command_line.specs.declared.shell.step.State.TheVariants.{Start, B
 use Rattle.os_command_line.specs.declared.shell.step.Step.TheVariants.{End, Go, Refuse}
 use Rattle.os_command_line.specs.declared.shell.fault.FaultKind.{FaultKind}
 use Rattle.os_command_line.specs.declared.shell.fault.FaultKind.TheVariants.{TrailingBackslash, Special, UnknownEscape}
-use Rattle.os_command_line.specs.Shell.{single_quote, double_quote, backslash, dollar, newline, is_mark, is_blank, is_expansion, is_special, is_escapable, opens_dollar, IsBare, HasNoQuote, IsItselfDoubled, Doubled, is_octal, letter_meaning, octal_meaning, escape_meaning, BeginsNoEscape, Dollared, Outcome, prepend, Ends, Reads}
+use Rattle.os_command_line.specs.Shell.{single_quote, double_quote, backslash, dollar, newline, is_mark, is_blank, is_expansion, is_history, is_special, is_special_doubled, is_escapable, begins_quote, opens_dollar, IsOpening, IsBare, HasNoQuote, IsItselfDoubled, Doubled, is_octal, letter_meaning, octal_meaning, escape_meaning, BeginsNoEscape, Dollared, Outcome, prepend, Ends, Reads}
+use Rattle.os_command_line.specs.Shell.IsOpening.{quote, line_joined}
 use Rattle.os_command_line.specs.Shell.Outcome.{Word, Fault}
 use Rattle.os_command_line.specs.Shell.Doubled.{none, plain, escape, joined, kept}
 use Rattle.os_command_line.specs.Shell.Dollared.{nothing, itself, escape_of}
-use Rattle.os_command_line.specs.Shell.Reads.{ends, bare, escaped, continued, single, double, dollared, trailing, unclosed, undoubled, unescaped, undollared, unfinished, unknown, special, expands}
-use Rattle.os_command_line.specs.ShellReader.{is_start, bare_step, outside_step, double_step, meaning_step, letter_step, dollar_escape_step, step, at_end, opened, next_state, passed, after_step, run}
+use Rattle.os_command_line.specs.Shell.Reads.{ends, bare, escaped, continued, single, double, dollared, trailing, unclosed, undoubled, unescaped, undollared, unfinished, unknown, special, expands, keeps}
+use Rattle.os_command_line.specs.ShellReader.{is_start, opening_len, bare_step, outside_step, double_step, meaning_step, letter_step, dollar_escape_step, step, at_end, opened, next_state, passed, after_step, run}
 
 -- the reader outside quotes, first in a word or not
 abbrev pub outside : Bool → State
@@ -63,6 +64,10 @@ of_mark P b h x y z = elim (or_true (eqb b 0x27) (eqb b 0x22 || eqb b 0x5C) h) [
 
 pub of_expansion : (P : ℕ → Type 0) (b : ℕ) → is_expansion b ≡ true → P 0x24 → P 0x60 → P b
 of_expansion P b h x y = elim (or_true (eqb b 0x24) (eqb b 0x60) h) [ inl e ↦ subst P (sym (eqb-true b 0x24 e)) x | inr e ↦ subst P (sym (eqb-true b 0x60 e)) y ]
+
+-- and of what is special in double quotes
+pub of_special_doubled : (P : ℕ → Type 0) (b : ℕ) → is_special_doubled b ≡ true → P 0x24 → P 0x60 → P 0x21 → P b
+of_special_doubled P b h x y z = elim (or_true (is_expansion b) (is_history b) h) [ inl e ↦ of_expansion P b e x y | inr e ↦ subst P (sym (eqb-true b 0x21 e)) z ]
 
 special_mark : (first : Bool) (b : ℕ) → is_mark b ≡ true → is_special first b ≡ false
 special_mark true b h = of_mark (λ x. is_special true x ≡ false) b h refl refl refl
@@ -144,11 +149,21 @@ bare_go l first b text h = other_step l (outside first) b text h.no_mark h.no_bl
 pub special_refuse : (l : Language) (first : Bool) (b : ℕ) (text : List ℕ) → l.refuses_specials ≡ true → is_special first b ≡ true → opens_dollar l b text ≡ false → outside_step l (outside first) b text ≡ Refuse Special
 special_refuse l first b text r h d = other_step l (outside first) b text (special_no_mark first b h) (special_no_blank first b h) ∙ rw (d, starts first, r, h) refl
 
-pub opens : (l : Language) (text : List ℕ) → l.dollar_quotes ≡ true → opens_dollar l dollar (single_quote ∷ text) ≡ true
-opens l text e = rw e refl
+begins : (opening text : List ℕ) → IsOpening opening → begins_quote (opening ++ text) ≡ true
+begins _ [] quote = refl
+begins _ (c ∷ text) quote = refl
+begins _ text (line_joined opening h) = begins opening text h
 
-pub dollar_go : (l : Language) (first : Bool) (text : List ℕ) → l.dollar_quotes ≡ true → outside_step l (outside first) dollar (single_quote ∷ text) ≡ Go None Dollar 1
-dollar_go l first text e = other_step l (outside first) dollar (single_quote ∷ text) refl refl ∙ rw (opens l text e) refl
+opening_is : (opening text : List ℕ) → IsOpening opening → opening_len (opening ++ text) ≡ length opening
+opening_is _ [] quote = refl
+opening_is _ (c ∷ text) quote = refl
+opening_is _ text (line_joined opening h) = ap (λ n. suc (suc n)) (opening_is opening text h)
+
+pub opens : (l : Language) (opening text : List ℕ) → l.dollar_quotes ≡ true → IsOpening opening → opens_dollar l dollar (opening ++ text) ≡ true
+opens l opening text d h = rw (d, begins opening text h) refl
+
+pub dollar_go : (l : Language) (first : Bool) (opening text : List ℕ) → l.dollar_quotes ≡ true → IsOpening opening → outside_step l (outside first) dollar (opening ++ text) ≡ Go None Dollar (length opening)
+dollar_go l first opening text d h = other_step l (outside first) dollar (opening ++ text) refl refl ∙ rw (opens l opening text d h) (ap (Go None Dollar) (opening_is opening text h))
 
 -- ---- quotes
 
@@ -167,9 +182,9 @@ pub and_none : (a b : Bool) → b ≡ false → a && b ≡ false
 and_none true b e = e
 and_none false b e = refl
 
--- a byte that a backslash doesn't escape means itself there
-pub itself_doubled : (l : Language) (b : ℕ) → is_escapable b ≡ false → IsItselfDoubled l b
-itself_doubled l b h = let n = no_escapable b h in record { no_quote = n.1; no_backslash = n.2; no_special = and_none l.refuses_specials (is_expansion b) n.0 }
+-- a byte that a backslash doesn't escape means itself there, if it isn't refused
+pub itself_doubled : (l : Language) (b : ℕ) → is_escapable b ≡ false → l.refuses_specials && is_history b ≡ false → IsItselfDoubled l b
+itself_doubled l b h k = let n = no_escapable b h in record { no_quote = n.1; no_backslash = n.2; no_special = rw n.0 k }
 
 pub doubled_go : (l : Language) (b : ℕ) (text : List ℕ) → IsItselfDoubled l b → double_step l b text ≡ Go (Some b) Double 0
 doubled_go l b text h = rw (h.no_quote, h.no_backslash, h.no_special) refl
@@ -271,11 +286,11 @@ module _ (l : Language) (first : Bool) (from : List ℕ) where
   pub double_opened : (text : List ℕ) → run l (outside first) from zero (double_quote ∷ text) ≡ run l Double (double_quote ∷ text) zero text
   double_opened text = go_outside l first from double_quote text None Double 0 refl ∙ prepend_nothing (run l Double (double_quote ∷ text) zero text)
 
-  pub dollar_opened : (text : List ℕ) → l.dollar_quotes ≡ true → run l (outside first) from zero (dollar ∷ single_quote ∷ text) ≡ run l Dollar (dollar ∷ single_quote ∷ text) zero text
-  dollar_opened text e =
-      go_outside l first from dollar (single_quote ∷ text) None Dollar 1 (dollar_go l first text e)
-      ∙ prepend_nothing (run l Dollar (dollar ∷ single_quote ∷ text) 1 (single_quote ∷ text))
-      ∙ pass l Dollar (dollar ∷ single_quote ∷ text) single_quote text 0
+  pub dollar_opened : (opening text : List ℕ) → l.dollar_quotes ≡ true → IsOpening opening → run l (outside first) from zero (dollar ∷ (opening ++ text)) ≡ run l Dollar (dollar ∷ (opening ++ text)) zero text
+  dollar_opened opening text d h =
+      go_outside l first from dollar (opening ++ text) None Dollar (length opening) (dollar_go l first opening text d h)
+      ∙ prepend_nothing (run l Dollar (dollar ∷ (opening ++ text)) (length opening) (opening ++ text))
+      ∙ pass_all l Dollar (dollar ∷ (opening ++ text)) opening text
 
   pub escaped_at : (b : ℕ) (text : List ℕ) → eqb b 0x0A ≡ false → run l (outside first) from zero (backslash ∷ b ∷ text) ≡ prepend (b ∷ []) (run l Bare (backslash ∷ b ∷ text) zero text)
   escaped_at b text h =
@@ -286,6 +301,12 @@ module _ (l : Language) (first : Bool) (from : List ℕ) where
       go_outside l first from backslash (newline ∷ text) None (outside first) 1 refl
       ∙ prepend_nothing (run l (outside first) (backslash ∷ newline ∷ text) 1 (newline ∷ text))
       ∙ pass l (outside first) (backslash ∷ newline ∷ text) newline text 0
+
+-- a backslash before what is refused in double quotes, and isn't escaped there
+pub kept_refused : (l : Language) (from : List ℕ) (b : ℕ) (text : List ℕ) → l.refuses_specials ≡ true → is_history b ≡ true → run l Double from zero (backslash ∷ b ∷ text) ≡ Fault Special (b ∷ text)
+kept_refused l from b text r h =
+    subst (λ z. run l Double from zero (backslash ∷ z ∷ text) ≡ Fault Special (z ∷ text)) (sym (eqb-true b 0x21 h))
+    (go l Double from backslash (0x21 ∷ text) (Some backslash) Double 0 refl ∙ ap (prepend (backslash ∷ [])) (refuse l Double from 0x21 text Special (rw r refl)))
 
 -- what the rules say is what is found byte by byte
 pub complete : (l : Language) (first : Bool) (text : List ℕ) (o : Outcome) (from : List ℕ) → Reads l first text o → run l (outside first) from zero text ≡ o
@@ -299,9 +320,9 @@ complete l _ _ _ from (single first quoted text o h r) =
 complete l _ _ _ from (double first quoted word text o h r) =
     let here = double_quote ∷ (quoted ++ double_quote ∷ text) in
     double_opened l first from (quoted ++ double_quote ∷ text) ∙ in_double l here quoted word (double_quote ∷ text) h ∙ ap (prepend word) (double_closed l here text ∙ complete l false text o here r)
-complete l _ _ _ from (dollared first quoted word text o d h r) =
-    let here = dollar ∷ single_quote ∷ (quoted ++ single_quote ∷ text) in
-    dollar_opened l first from (quoted ++ single_quote ∷ text) d ∙ in_dollar l here quoted word (single_quote ∷ text) h ∙ ap (prepend word) (dollar_closed l here text ∙ complete l false text o here r)
+complete l _ _ _ from (dollared first opening quoted word text o d i h r) =
+    let here = dollar ∷ (opening ++ (quoted ++ single_quote ∷ text)) in
+    dollar_opened l first from opening (quoted ++ single_quote ∷ text) d i ∙ in_dollar l here quoted word (single_quote ∷ text) h ∙ ap (prepend word) (dollar_closed l here text ∙ complete l false text o here r)
 complete l _ _ _ from (trailing first) = refuse_outside l first from backslash [] TrailingBackslash refl
 complete l _ _ _ from (unclosed first text h) =
     let here = single_quote ∷ text in
@@ -314,23 +335,26 @@ complete l _ _ _ from (unescaped first quoted word h) =
     double_opened l first from (quoted ++ backslash ∷ [])
     ∙ in_double l here quoted word (backslash ∷ []) h
     ∙ ap (prepend word) (go l Double here backslash [] (Some backslash) Double 0 refl ∙ ap (prepend (backslash ∷ [])) (no_text l Double here 0))
-complete l _ _ _ from (undollared first quoted word d h) =
-    let here = dollar ∷ single_quote ∷ quoted in
-    dollar_opened l first from quoted d ∙ ap (run l Dollar here zero) (sym (append-nil quoted)) ∙ in_dollar l here quoted word [] h ∙ ap (prepend word) (no_text l Dollar here 0)
-complete l _ _ _ from (unfinished first quoted word d h) =
-    let here = dollar ∷ single_quote ∷ (quoted ++ backslash ∷ []) in
-    dollar_opened l first from (quoted ++ backslash ∷ []) d
+complete l _ _ _ from (undollared first opening quoted word d i h) =
+    let here = dollar ∷ (opening ++ quoted) in
+    dollar_opened l first from opening quoted d i ∙ ap (run l Dollar here zero) (sym (append-nil quoted)) ∙ in_dollar l here quoted word [] h ∙ ap (prepend word) (no_text l Dollar here 0)
+complete l _ _ _ from (unfinished first opening quoted word d i h) =
+    let here = dollar ∷ (opening ++ (quoted ++ backslash ∷ [])) in
+    dollar_opened l first from opening (quoted ++ backslash ∷ []) d i
     ∙ in_dollar l here quoted word (backslash ∷ []) h
     ∙ ap (prepend word) (go l Dollar here backslash [] (Some backslash) Dollar 0 refl ∙ ap (prepend (backslash ∷ [])) (no_text l Dollar here 0))
-complete l _ _ _ from (unknown first quoted word text d h n) =
-    let here = dollar ∷ single_quote ∷ (quoted ++ backslash ∷ text) in
-    dollar_opened l first from (quoted ++ backslash ∷ text) d ∙ in_dollar l here quoted word (backslash ∷ text) h ∙ ap (prepend word) (refuse l Dollar here backslash text UnknownEscape (no_escape text n))
+complete l _ _ _ from (unknown first opening quoted word text d i h n) =
+    let here = dollar ∷ (opening ++ (quoted ++ backslash ∷ text)) in
+    dollar_opened l first from opening (quoted ++ backslash ∷ text) d i ∙ in_dollar l here quoted word (backslash ∷ text) h ∙ ap (prepend word) (refuse l Dollar here backslash text UnknownEscape (no_escape text n))
 complete l _ _ _ from (special first b text r h d) = refuse_outside l first from b text Special (special_refuse l first b text r h d)
 complete l _ _ _ from (expands first quoted word b text h r x) =
     let here = double_quote ∷ (quoted ++ b ∷ text) in
     double_opened l first from (quoted ++ b ∷ text)
     ∙ in_double l here quoted word (b ∷ text) h
-    ∙ ap (prepend word) (refuse l Double here b text Special (of_expansion (λ z. double_step l z text ≡ Refuse Special) b x (rw r refl) (rw r refl)))
+    ∙ ap (prepend word) (refuse l Double here b text Special (of_special_doubled (λ z. double_step l z text ≡ Refuse Special) b x (rw r refl) (rw r refl) (rw r refl)))
+complete l _ _ _ from (keeps first quoted word b text h r x) =
+    let here = double_quote ∷ (quoted ++ backslash ∷ b ∷ text) in
+    double_opened l first from (quoted ++ backslash ∷ b ∷ text) ∙ in_double l here quoted word (backslash ∷ b ∷ text) h ∙ ap (prepend word) (kept_refused l here b text r x)
 
 pub one_reading : (l : Language) (text : List ℕ) (o p : Outcome) → Reads l true text o → Reads l true text p → o ≡ p
 one_reading l text o p r s = sym (complete l true text o [] r) ∙ complete l true text p [] s

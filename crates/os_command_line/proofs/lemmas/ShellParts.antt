@@ -6,11 +6,11 @@ use Rattle.os_command_line.specs.Shell.{single_quote, double_quote, backslash, d
 use Rattle.os_command_line.specs.Shell.Outcome.{Word, Fault}
 use Rattle.os_command_line.specs.Shell.Doubled.{none, plain, escape as escape_doubled, joined, kept}
 use Rattle.os_command_line.specs.Shell.Dollared.{nothing as no_dollared, itself as dollar_itself, escape_of}
-use Rattle.os_command_line.specs.Shell.Reads.{ends, bare, escaped, continued, single, double, dollared, trailing, unclosed, undoubled, unescaped, undollared, unfinished, unknown, special, expands}
+use Rattle.os_command_line.specs.Shell.Reads.{ends, bare, escaped, continued, single, double, dollared, trailing, unclosed, undoubled, unescaped, undollared, unfinished, unknown, special, expands, keeps}
 use Rattle.os_command_line.specs.ShellParts.{IsMarked, AreLineParts}
 use Rattle.os_command_line.specs.ShellParts.IsMark.{one, opens, joins}
 use Rattle.os_command_line.specs.ShellParts.IsMarked.{nothing, mark, itself, escape}
-use Rattle.os_command_line.proofs.lemmas.ShellOwnText.{around, around_is}
+use Rattle.os_command_line.proofs.lemmas.ShellOwnText.{around, around_is, opened, opened_is}
 
 all_itself : (quoted text word : List ℕ) → IsMarked text word → IsMarked (quoted ++ text) (quoted ++ word)
 all_itself [] text word m = m
@@ -59,21 +59,22 @@ marked l _ _ _ (double first quoted meant text o h r) =
     (λ own word m. subst (λ z. IsMarked z (meant ++ word)) (sym (around_is double_quote quoted double_quote own))
     (mark (double_quote ∷ []) (quoted ++ double_quote ∷ own) (meant ++ word) (one double_quote refl) (marked_doubled l quoted meant (double_quote ∷ own) word h (mark (double_quote ∷ []) own word (one double_quote refl) m))))
     (marked l false text o r))
-marked l _ _ _ (dollared first quoted meant text o d h r) =
-    subst (λ z. IsMarkedBefore (dollar ∷ z) (prepend meant o)) (around_is single_quote quoted single_quote text)
-    (marked_more (dollar ∷ around single_quote quoted single_quote) meant text o
-    (λ own word m. subst (λ z. IsMarked (dollar ∷ z) (meant ++ word)) (sym (around_is single_quote quoted single_quote own))
-    (mark (dollar ∷ single_quote ∷ []) (quoted ++ single_quote ∷ own) (meant ++ word) opens (marked_dollared quoted meant (single_quote ∷ own) word h (mark (single_quote ∷ []) own word (one single_quote refl) m))))
+marked l _ _ _ (dollared first opening quoted meant text o d i h r) =
+    subst (λ z. IsMarkedBefore z (prepend meant o)) (opened_is opening quoted text)
+    (marked_more (opened opening quoted) meant text o
+    (λ own word m. subst (λ z. IsMarked z (meant ++ word)) (sym (opened_is opening quoted own))
+    (mark (dollar ∷ opening) (quoted ++ single_quote ∷ own) (meant ++ word) (opens opening i) (marked_dollared quoted meant (single_quote ∷ own) word h (mark (single_quote ∷ []) own word (one single_quote refl) m))))
     (marked l false text o r))
 marked l _ _ _ (trailing first) = tt
 marked l _ _ _ (unclosed first text h) = tt
 marked l _ _ _ (undoubled first quoted word h) = tt
 marked l _ _ _ (unescaped first quoted word h) = tt
-marked l _ _ _ (undollared first quoted word d h) = tt
-marked l _ _ _ (unfinished first quoted word d h) = tt
-marked l _ _ _ (unknown first quoted word text d h n) = tt
+marked l _ _ _ (undollared first opening quoted word d i h) = tt
+marked l _ _ _ (unfinished first opening quoted word d i h) = tt
+marked l _ _ _ (unknown first opening quoted word text d i h n) = tt
 marked l _ _ _ (special first b text r h d) = tt
 marked l _ _ _ (expands first quoted word b text h r x) = tt
+marked l _ _ _ (keeps first quoted word b text h r x) = tt
 
 item_parts : (l : Language) (len : ℕ) (line : List ℕ) (items : List (Result (List ℕ) WordsFault)) → AreItems l len line items → AreLineParts line items
 item_parts l len line [] h = h

@@ -1,15 +1,17 @@
 -- What is written is read back.
 use Rattle.std.proofs.Common.{◌≡◌, ◌≢◌, ℕ, ◌<◌, Bool, true, false, not, ◌||◌, ◌&&◌, eqb, List, [], ◌∷◌, ◌++◌, map, length, refl, sym, ap, ◌∙◌, subst, arith, append_assoc, append-nil, Ok, inl, inr}
 use Rattle.std.specs.List.{All, AllByRecursion, flat_map}
+use Rattle.std.proofs.lemmas.Bool.Decides.{nat_tests}
 use Rattle.std.proofs.lemmas.List.Elements.{recursion_from_All}
 use Rattle.wtf8_core.specs.Byte.{IsByte}
 use Rattle.std.proofs.lemmas.Bool.{cases_Bool, true≢false, and_parts, not-true, eqb-true}
 use Rattle.wtf8_core.proofs.lemmas.vectors.ComputedTests.{all_below, each_below}
 use Rattle.os_command_line.specs.declared.shell.language.Language.{Language}
-use Rattle.os_command_line.specs.Shell.{single_quote, backslash, dollar, is_mark, is_blank, is_operator, is_pattern, is_special, opens_dollar, IsBare, HasNoQuote, Outcome, Ends, Reads, Begins, AreItems, IsRead, AreWords, IsTextOf}
+use Rattle.os_command_line.specs.Shell.{single_quote, backslash, dollar, is_mark, is_blank, is_operator, is_pattern, is_history, is_special, begins_quote, opens_dollar, IsBare, HasNoQuote, Outcome, Ends, Reads, Begins, AreItems, IsRead, AreWords, IsTextOf}
 use Rattle.os_command_line.specs.Shell.Outcome.{Word, Fault}
 use Rattle.os_command_line.specs.Shell.IsGap.{no_gap, blank}
 use Rattle.os_command_line.specs.Shell.Reads.{ends, bare, escaped, single}
+use Rattle.os_command_line.specs.ReservedWords.{is_reserved, first_word, line_words}
 use Rattle.os_command_line.specs.ShellWriting.{AreBytes, is_plain, are_plain, is_plain_name, single_byte, single_quoted, quoted_word, after_first, join_words}
 use Rattle.os_command_line.proofs.lemmas.Lists.{no_cons, one_more}
 use Rattle.os_command_line.proofs.lemmas.ShellOneReading.{one_reading, and_none, or_false}
@@ -26,7 +28,7 @@ all_safe : all_below is_safe 0x100 ≡ true
 all_safe = refl
 
 -- no plain byte is one
-plain_is : (b : ℕ) → b < 0x100 → is_plain b ≡ true → (is_mark b ≡ false) × (is_blank b ≡ false) × (is_special true b ≡ false) × (eqb b dollar ≡ false)
+pub plain_is : (b : ℕ) → b < 0x100 → is_plain b ≡ true → (is_mark b ≡ false) × (is_blank b ≡ false) × (is_special true b ≡ false) × (eqb b dollar ≡ false)
 plain_is b lt p =
     let safe : is_plain b && is_other b ≡ false = not-true _ (each_below is_safe 0x100 b all_safe lt) in
     let other : is_other b ≡ false = sym (rw p refl) ∙ safe in
@@ -35,16 +37,20 @@ plain_is b lt p =
     let z = or_false (is_special true b) (eqb b dollar) y.1 in
     (x.0, y.0, z.0, z.1)
 
-not_special : (first : Bool) (b : ℕ) → is_special true b ≡ false → is_special first b ≡ false
+pub not_special : (first : Bool) (b : ℕ) → is_special true b ≡ false → is_special first b ≡ false
 not_special true b h = h
 not_special false b h =
-    let x = or_false (is_operator b) (is_pattern b || (true && (eqb b 0x23 || eqb b 0x3D))) h in
-    let y = or_false (is_pattern b) (true && (eqb b 0x23 || eqb b 0x3D)) x.1 in
-    rw (x.0, y.0) refl
+    let x = or_false (is_operator b) _ h in
+    let y = or_false (is_pattern b) _ x.1 in
+    let z = or_false (is_history b) _ y.1 in
+    let w = or_false (eqb b 0x0D) _ z.1 in
+    rw (x.0, y.0, z.0, w.0) refl
+
+pub plain_low : (b : ℕ) → is_plain b ≡ true → b < 0x80
+plain_low b h = grind (arith, nat_tests)
 
 pub no_dollar : (l : Language) (b : ℕ) (text : List ℕ) → eqb b dollar ≡ false → opens_dollar l b text ≡ false
-no_dollar l b [] e = refl
-no_dollar l b (c ∷ text) e = and_none l.dollar_quotes (eqb b dollar && eqb c single_quote) (rw e refl)
+no_dollar l b text e = and_none l.dollar_quotes (eqb b dollar && begins_quote text) (rw e refl)
 
 is_bare : (l : Language) (first : Bool) (b : ℕ) (text : List ℕ) → b < 0x100 → is_plain b ≡ true → IsBare l first b text
 is_bare l first b text lt p =
@@ -162,8 +168,28 @@ alone_read l text word h =
       no_gap,
     )
 
-pub joined_names : (l : Language) (names : List (List ℕ)) (line : List ℕ) → AllByRecursion AreBytes names → line ≡ join_words (map quoted_word names) → AreWords l line names
-joined_names l names line w e = subst (λ z. AreWords l z names) (sym e) (joined_read l (map quoted_word names) names (quoted_texts l names w))
+-- the word of a name that is first on a line
+pub first_is_text : (l : Language) (name : List ℕ) → AreBytes name → IsTextOf l (first_word name) name
+first_is_text l name w = elim (cases_Bool (is_reserved name)) [
+  | inl e ↦ subst (λ z. IsTextOf l z name) (sym (in_quotes e)) (single_is l name)
+  | inr e ↦ subst (λ z. IsTextOf l z name) (sym (other e)) (word_is_text l name w)
+]
+  where
+    in_quotes : is_reserved name ≡ true → first_word name ≡ single_quoted name
+    in_quotes e = rw e refl
+
+    other : is_reserved name ≡ false → first_word name ≡ quoted_word name
+    other e = rw e refl
+
+line_texts : (l : Language) (names : List (List ℕ)) → AllByRecursion AreBytes names → AreTextsOf l (line_words names) names
+line_texts l [] w = tt
+line_texts l (name ∷ names) w = (first_is_text l name w.0, quoted_texts l names w.1)
+
+pub line_read : (l : Language) (names : List (List ℕ)) → AllByRecursion AreBytes names → AreWords l (join_words (line_words names)) names
+line_read l names w = joined_read l (line_words names) names (line_texts l names w)
+
+pub joined_names : (l : Language) (names : List (List ℕ)) (line : List ℕ) → AllByRecursion AreBytes names → line ≡ join_words (line_words names) → AreWords l line names
+joined_names l names line w e = subst (λ z. AreWords l z names) (sym e) (line_read l names w)
 
 -- strings of bytes are names
 pub are_names : {X : Type 0} (text : X → List ℕ) → ((x : X) → All IsByte (text x)) → (xs : List X) → AllByRecursion AreBytes (map text xs)

@@ -1,15 +1,16 @@
 -- Steps of the reader by bytes.
-use Rattle.std.proofs.Common.{◌≡◌, ℕ, zero, suc, ◌≤◌, Bool, true, false, cond, ◌&&◌, eqb, List, [], ◌∷◌, ◌++◌, drop, length, length-append, refl, sym, ap, ◌∙◌, subst, arith, Option, None, Some}
+use Rattle.std.proofs.Common.{◌≡◌, ℕ, zero, suc, ◌≤◌, Bool, true, false, cond, ◌&&◌, eqb, List, [], ◌∷◌, ◌++◌, drop, length, length-append, refl, sym, ap, ◌∙◌, subst, arith, Option, None, Some, inl, inr}
 use Rattle.std.specs.Prelude.{option_to_list}
+use Rattle.std.proofs.lemmas.Bool.{cases_Bool}
 use Rattle.os_command_line.specs.declared.shell.language.Language.{Language}
 use Rattle.os_command_line.specs.declared.shell.step.State.{State}
 use Rattle.os_command_line.specs.declared.shell.step.State.TheVariants.{Start, Bare, Single, Double, Dollar}
 use Rattle.os_command_line.specs.declared.shell.step.Step.{Step}
 use Rattle.os_command_line.specs.declared.shell.step.Step.TheVariants.{End, Go, Refuse}
 use Rattle.os_command_line.specs.declared.shell.fault.FaultKind.{FaultKind}
-use Rattle.os_command_line.specs.Shell.{single_quote, double_quote, backslash, newline, is_blank, is_special, is_expansion, is_escapable, opens_dollar, letter_meaning, octal_meaning, prepend}
+use Rattle.os_command_line.specs.Shell.{single_quote, double_quote, backslash, newline, is_blank, is_special, is_special_doubled, is_escapable, opens_dollar, letter_meaning, octal_meaning, prepend}
 use Rattle.os_command_line.specs.Shell.Outcome.{Word, Fault}
-use Rattle.os_command_line.specs.ShellReader.{is_start, escape_step, bare_step, outside_step, double_escape_step, meaning_step, octal_step, letter_step, dollar_escape_step, step, is_outside, at_end, opened, run, outcome, passed}
+use Rattle.os_command_line.specs.ShellReader.{is_start, opening_len, escape_step, bare_step, outside_step, double_escape_step, meaning_step, octal_step, letter_step, dollar_escape_step, step, is_outside, at_end, opened, run, outcome, passed}
 use Rattle.os_command_line.proofs.lemmas.ShellOneReading.{prepend_nothing, prepend_twice, no_text, go, refuse, stop}
 use Rattle.os_command_line.proofs.lemmas.ShellMeaning.{cut_word}
 
@@ -44,9 +45,13 @@ escape_within : (s : State) (text : List ℕ) → IsWithin (length text) (escape
 escape_within s [] = refuses_within
 escape_within s (c ∷ text) = if_within (eqb c newline) (goes_within one_passed) (goes_within one_passed)
 
+opening_within : (text : List ℕ) → opening_len text ≤ length text
+opening_within [] = omega arith
+opening_within (b ∷ []) = omega arith
+opening_within (b ∷ c ∷ text) = let h = opening_within text in elim (cases_Bool (eqb b backslash)) [ inl e ↦ rw e (omega (arith, h)) | inr e ↦ rw e (omega arith) ]
+
 bare_within : (l : Language) (s : State) (b : ℕ) (text : List ℕ) → IsWithin (length text) (bare_step l s b text)
-bare_within l s b [] = if_within (l.refuses_specials && is_special (is_start s) b) refuses_within (goes_within none_passed)
-bare_within l s b (c ∷ text) = if_within (opens_dollar l b (c ∷ text)) (goes_within one_passed) (if_within (l.refuses_specials && is_special (is_start s) b) refuses_within (goes_within none_passed))
+bare_within l s b text = if_within (opens_dollar l b text) (goes_within (opening_within text)) (if_within (l.refuses_specials && is_special (is_start s) b) refuses_within (goes_within none_passed))
 
 outside_within : (l : Language) (s : State) (b : ℕ) (text : List ℕ) → IsWithin (length text) (outside_step l s b text)
 outside_within l s b text =
@@ -78,7 +83,7 @@ step_within l Start b text = outside_within l Start b text
 step_within l Bare b text = outside_within l Bare b text
 step_within l Single b text = if_within (eqb b single_quote) (goes_within none_passed) (goes_within none_passed)
 step_within l Double b text =
-    if_within (eqb b double_quote) (goes_within none_passed) (if_within (eqb b backslash) (double_escape_within text) (if_within (l.refuses_specials && is_expansion b) refuses_within (goes_within none_passed)))
+    if_within (eqb b double_quote) (goes_within none_passed) (if_within (eqb b backslash) (double_escape_within text) (if_within (l.refuses_specials && is_special_doubled b) refuses_within (goes_within none_passed)))
 step_within l Dollar b text = if_within (eqb b single_quote) (goes_within none_passed) (if_within (eqb b backslash) (dollar_escape_within text) (goes_within none_passed))
 
 pub go_within : (l : Language) (s : State) (b : ℕ) (text : List ℕ) (z : Step) (out : Option ℕ) (next : State) (k : ℕ) → z ≡ step l s b text → z ≡ Go out next k → k ≤ length text

@@ -1,8 +1,9 @@
 -- Words as they are written, and how long they are.
-use Rattle.std.proofs.Common.{◌≡◌, ℕ, ◌+◌, ◌*◌, ◌<◌, ◌≤◌, true, false, eqb, List, [], ◌∷◌, ◌++◌, length, refl, sym, ap, ◌∙◌, subst, arith, length-append, Option, None, Some, inl, inr, ltb}
+use Rattle.std.proofs.Common.{◌≡◌, ℕ, ◌+◌, ◌*◌, ◌<◌, ◌≤◌, Bool, true, false, ◌&&◌, eqb, List, [], ◌∷◌, ◌++◌, length, refl, sym, ap, ◌∙◌, subst, arith, length-append, inl, inr, ltb, Some}
 use Rattle.std.specs.Char.{encode_utf8}
 use Rattle.std.specs.List.{All, flat_map}
 use Rattle.std.proofs.lemmas.Bool.{cases_Bool, eqb-true}
+use Rattle.std.proofs.lemmas.Bool.Decides.{nat_tests}
 use Rattle.std.proofs.lemmas.Grind.{flat_map-append}
 use Rattle.std.proofs.lemmas.Str.{length-encode, len_utf8_bounds}
 use Rattle.wtf8_core.specs.Byte.{IsByte}
@@ -20,7 +21,8 @@ use Rattle.os_str_ext.proofs.lemmas.SymbolBytes.{symbols_joined}
 use Rattle.os_quote.specs.Shown.{stays_on_line}
 use Rattle.os_command_line.specs.Shell.{single_quote, backslash, escape_meaning, HasNoQuote}
 use Rattle.os_command_line.specs.ShellSteps.{IsCutAtQuote}
-use Rattle.os_command_line.specs.ShellWriting.{single_byte, single_quoted, letter_for, octal_text, shown_or_octal, character_text, symbol_text, IsDollarWord}
+use Rattle.os_command_line.specs.ShellWriting.{single_byte, single_quoted, letter_for, octal_text, shown_or_octal, character_text, symbol_text, is_escape, is_high, text_after, dollar_text, IsDollarWord}
+use Rattle.os_command_line.proofs.lemmas.ShellOneReading.{and_none}
 
 -- ---- single quotes
 
@@ -81,27 +83,45 @@ octals_len : (bytes : List ℕ) → length (flat_map octal_text bytes) ≡ 4 * l
 octals_len [] = refl
 octals_len (b ∷ bytes) = omega (arith, octals_len bytes)
 
-shown_len : (c : ℕ) → length (shown_or_octal c) ≤ 4 * length (encode_utf8 c)
-shown_len c = elim (cases_Bool (stays_on_line c)) [ inl e ↦ rw e (omega arith) | inr e ↦ rw e (omega (arith, octals_len (encode_utf8 c))) ]
-
-some_bytes : (c : ℕ) → 1 ≤ length (encode_utf8 c)
+pub some_bytes : (c : ℕ) → 1 ≤ length (encode_utf8 c)
 some_bytes c = omega (arith, length-encode c, (len_utf8_bounds c).0)
-
-character_len : (c : ℕ) (letter : Option ℕ) → length (character_text c letter) ≤ 4 * length (encode_utf8 c)
-character_len c None = shown_len c
-character_len c (Some letter) = omega (arith, some_bytes c)
 
 unit_len : (u : ℕ) → 1 ≤ length (unit_bytes u)
 unit_len u = elim (cases_Bool (ltb u 0x100)) [ inl e ↦ rw e (omega arith) | inr e ↦ rw e (omega (arith, ap length (form_encode u), some_bytes u)) ]
 
-symbol_len : (s : Symbol) → length (symbol_text s) ≤ 4 * length (symbol_bytes s)
-symbol_len (symbol.Character c) = character_len c (letter_for c)
+-- how many bytes more may come before an escape, after a byte from 80 on or not
+abbrev extra : Bool → ℕ
+extra true = 3
+extra false = 0
+
+at_most : (high : Bool) → extra high ≤ 3
+at_most true = omega arith
+at_most false = omega arith
+
+symbol_len : (s : Symbol) → length (symbol_text s) + extra (is_high s) ≤ 4 * length (symbol_bytes s)
+symbol_len (symbol.Character c) =
+    by_letter (λ x text. length text + extra (is_high (symbol.Character x)) ≤ 4 * length (encode_utf8 x)) c
+    (λ letter x lt m h. let n : ltb 0x7F x ≡ false = low x lt in rw n (omega (arith, some_bytes x)))
+    (λ e f. shown c)
+  where
+    low : (x : ℕ) → x < 0x80 → ltb 0x7F x ≡ false
+    low x lt = grind (arith, nat_tests)
+
+    shown : (x : ℕ) → length (shown_or_octal x) + extra (is_high (symbol.Character x)) ≤ 4 * length (encode_utf8 x)
+    shown x = elim (cases_Bool (stays_on_line x)) [
+      | inl e ↦ rw e (omega (arith, some_bytes x, at_most (ltb 0x7F x && true)))
+      | inr e ↦ (let n : is_high (symbol.Character x) ≡ false = and_none (ltb 0x7F x) (stays_on_line x) e in rw (n, e) (omega (arith, octals_len (encode_utf8 x))))
+    ]
 symbol_len (symbol.Unit u) = omega (arith, unit_len (unit_number u))
 
-pub symbols_len : (symbols : List Symbol) → length (flat_map symbol_text symbols) ≤ 4 * length (flat_map symbol_bytes symbols)
-symbols_len [] = omega arith
-symbols_len (s ∷ symbols) =
-    omega (arith, symbol_len s, symbols_len symbols, length-append (symbol_text s) (flat_map symbol_text symbols), length-append (symbol_bytes s) (flat_map symbol_bytes symbols))
+after_len : (high : Bool) (s : Symbol) → length (text_after high s) ≤ length (symbol_text s) + extra high
+after_len true s = elim (cases_Bool (is_escape s)) [ inl e ↦ rw e (omega arith) | inr e ↦ rw e (omega arith) ]
+after_len false s = omega arith
+
+symbols_len : (high : Bool) (symbols : List Symbol) → length (dollar_text high symbols) ≤ 4 * length (flat_map symbol_bytes symbols) + extra high
+symbols_len high [] = omega arith
+symbols_len high (s ∷ symbols) =
+    omega (arith, after_len high s, symbol_len s, symbols_len (is_high s) symbols, length-append (text_after high s) (dollar_text (is_high s) symbols), length-append (symbol_bytes s) (flat_map symbol_bytes symbols))
 
 pub own_symbols : (name : List ℕ) → AreSymbols itself name (symbols_of itself name)
 own_symbols name = record { chunks = chunks_of name; are_chunks = (some_chunks name).1; are = refl }
@@ -109,11 +129,11 @@ own_symbols name = record { chunks = chunks_of name; are_chunks = (some_chunks n
 pub own_bytes : (name : List ℕ) → All IsByte name → flat_map symbol_bytes (symbols_of itself name) ≡ name
 own_bytes name w = symbols_joined itself (All IsByte) unix_parts.encoded unix_laws.cut_prefix unix_laws.cut_suffix name w (symbols_of itself name) (own_symbols name)
 
-pub all_len : (name : List ℕ) → All IsByte name → length (flat_map symbol_text (symbols_of itself name)) ≤ 4 * length name
-all_len name w = omega (arith, symbols_len (symbols_of itself name), ap length (own_bytes name w))
+pub all_len : (name : List ℕ) → All IsByte name → length (dollar_text false (symbols_of itself name)) ≤ 4 * length name
+all_len name w = omega (arith, symbols_len false (symbols_of itself name), ap length (own_bytes name w))
 
 -- the symbols of a name in one way or another
 pub dollar_word_len : (name text : List ℕ) → All IsByte name → IsDollarWord name text → length text ≤ 4 * length name + 3
 dollar_word_len name text w is =
     let joined = symbols_joined itself (All IsByte) unix_parts.encoded unix_laws.cut_prefix unix_laws.cut_suffix name w is.symbols is.are_symbols in
-    omega (arith, symbols_len is.symbols, ap length joined, ap length is.text_is, length-append (flat_map symbol_text is.symbols) (single_quote ∷ []))
+    omega (arith, symbols_len false is.symbols, ap length joined, ap length is.text_is, length-append (dollar_text false is.symbols) (single_quote ∷ []))

@@ -1,11 +1,10 @@
 //! Names as words of fish.
-ghost use Rattle.std.specs.Prelude.{◌≡◌, ◌+◌, ◌*◌, ◌<◌, ◌^◌, ◌++◌, ℕ, List, length, IfOk, IfErr, OnOk};
+ghost use Rattle.std.specs.Prelude.{◌≡◌, ◌+◌, ◌*◌, ◌<◌, ◌^◌, ◌++◌, ℕ, List, length, nat_lt, IfOk, IfErr, OnOk};
 ghost use Rattle.std.specs.Char.{encode_utf8};
 ghost use Rattle.std.specs.Fmt.{WritesStyledOnOk};
-ghost use Rattle.std.specs.List.{flat_map};
 ghost use Rattle.wtf8_core.specs.Truncated.{IsTruncated};
 ghost use Rattle.platform_str.specs.Strings.{bytes};
-ghost use Rattle.os_command_line.specs.Fish.{fish_byte, fish_quoted, fish_text, fish_word, is_escaped, IsFishFault, IsFishText};
+ghost use Rattle.os_command_line.specs.Fish.{fish_byte, fish_bytes, fish_quoted, fish_text, fish_word, is_escaped, IsFishFault, IsFishText};
 ghost use Rattle.os_command_line.specs.ShellWriting.{HasNoNul, IsFirstNul};
 
 use crate::error_text::write_at_byte;
@@ -67,6 +66,12 @@ pub struct FishQuoted<'a> {
 /// of ASCII and `_ @ + : , . / -` as it is, any other in single quotes, in which a backslash is
 /// written before each single quote and each backslash (fish's documentation, "Quotes").
 ///
+/// No backslash comes after a byte from 0x80 on: the quotes end before it, and begin again after what it
+/// escapes, as in `'é'\''`, since in GBK, GB18030 and Shift-JIS the two may be one character. So fish may
+/// read it in UTF-8, GBK, GB18030, Big5, Shift-JIS, the EUCs and each charset of one byte (`IsFishText`
+/// says which charsets). fish keeps characters: of two codes that a charset has for one character it
+/// passes one on, as in Big5.
+///
 /// # Errors
 ///
 /// `Nul` with the byte index of the first NUL, else `NotText` with that from which on the name is no
@@ -78,6 +83,8 @@ pub struct FishQuoted<'a> {
 ///
 /// let quoted = quoted_fish(OsStr::<Unix>::new("it's\\"))?;
 /// assert_eq!(rt; format!(in alloc; "{quoted}")?.as_str(), "'it\\'s\\\\'");
+/// let quoted = quoted_fish(OsStr::<Unix>::new("\u{E9}'"))?;
+/// assert_eq!(rt; format!(in alloc; "{quoted}")?.as_str(), "'\u{E9}'\\'''");
 /// let refused = quoted_fish(OsStr::<Unix>::from_encoded_bytes_unchecked(b"a\xFF"));
 /// assert_eq!(rt; refused.err(), Some(FishError::NotText(1)));
 /// ```
@@ -105,8 +112,8 @@ pub fn quoted_fish(name: OsStr<'_, Unix>) -> Result<FishQuoted<'_>, FishError>
 /// What the word doesn't reach stays as it is. It doesn't allocate, and with an empty buffer only
 /// counts.
 ///
-/// Twice the name's length and two is below 2^64 (test: `name.len() <= usize::MAX / 2 - 1`). The word
-/// is never longer than that.
+/// Three times the name's length and two is below 2^64 (test: `name.len() <= usize::MAX / 3 - 1`). The
+/// word is never longer than that.
 ///
 /// # Errors
 ///
@@ -123,7 +130,7 @@ pub fn quoted_fish(name: OsStr<'_, Unix>) -> Result<FishQuoted<'_>, FishError>
 /// ```
 #[tactic(auto, using(crate::proofs::lemmas::Fish::is_fish_text))]
 pub fn write_quoted_fish(name: OsStr<'_, Unix>, buffer: &mut [u8]) -> Result<usize, NulError>
-    requires { 2 * length (bytes name) + 2 < 2 ^ 64 }
+    requires { 3 * length (bytes name) + 2 < 2 ^ 64 }
     ensures text { OnOk result (IsFishText (fish_word (bytes name.entry)) (bytes name.entry)) }
     ensures written { IfOk result (λ len. IsTruncated (fish_word (bytes name.entry)) buffer.old
         buffer.new len) }
@@ -140,7 +147,7 @@ pub fn write_quoted_fish(name: OsStr<'_, Unix>, buffer: &mut [u8]) -> Result<usi
 
 /// Writes bytes as a word into a buffer.
 fn push_word(buffer: &mut [u8], name: &[u8]) -> usize
-    requires { 2 * length name.now + 2 < 2 ^ 64 }
+    requires { 3 * length name.now + 2 < 2 ^ 64 }
     ensures { IsTruncated (fish_word name.now) buffer.old buffer.new result }
 {
     if is_plain_name(name) {
@@ -152,26 +159,31 @@ fn push_word(buffer: &mut [u8], name: &[u8]) -> usize
 
 /// Writes bytes in single quotes into a buffer.
 fn push_quoted(buffer: &mut [u8], name: &[u8]) -> usize
-    requires { 2 * length name.now + 2 < 2 ^ 64 }
+    requires { 3 * length name.now + 2 < 2 ^ 64 }
     ensures { IsTruncated (fish_quoted name.now) buffer.old buffer.new result }
 {
     let mut count = push_truncated(buffer, 0, b"'");
+    let mut high = false;
     let mut rest = name;
     while let Some((first, after)) = rest.split_first() {
-        count = push_byte(buffer, count, *first);
+        count = push_byte(buffer, count, high, *first);
+        high = *first > 0x7F;
         rest = after;
     }
     push_truncated(buffer, count, b"'")
 }
 
-/// Appends a byte in single quotes.
-fn push_byte(buffer: &mut [u8], count: usize, byte: u8) -> usize
-    requires { count + 2 < 2 ^ 64 }
+/// Appends a byte in single quotes, after one from 0x80 on or not.
+fn push_byte(buffer: &mut [u8], count: usize, high: bool, byte: u8) -> usize
+    requires { count + 4 < 2 ^ 64 }
     ensures written { (text : List ℕ) → (old : List ℕ) → IsTruncated text old buffer.old count
-        → IsTruncated (text ++ fish_byte byte) old buffer.new result }
-    ensures len { result ≡ count + length (fish_byte byte) }
+        → IsTruncated (text ++ fish_byte high byte) old buffer.new result }
+    ensures len { result ≡ count + length (fish_byte high byte) }
 {
     if is_escaped(byte) {
+        if high {
+            return push_truncated(buffer, count, &[b'\'', b'\\', byte, b'\'']);
+        }
         return push_truncated(buffer, count, &[b'\\', byte]);
     }
     push_truncated(buffer, count, &[byte])
@@ -227,25 +239,31 @@ fn write_quoted<W: fmt::Write>(text: &str, f: &mut fmt::Formatter<W>) -> fmt::Re
     ensures { WritesStyledOnOk W.write_str_gives f.old result (fish_quoted text.now) f.new }
 {
     f.write_str("'")?;
+    let mut high = false;
     let mut rest = text;
     while let Some((character, following)) = first_char(rest) {
-        write_character(character, f)?;
+        write_character(high, character, f)?;
+        high = character > '\x7F';
         rest = following;
     }
     f.write_str("'")
 }
 
-/// Writes a character in single quotes.
-#[tactic(auto, using(crate::proofs::lemmas::Fish::plain_character))]
-fn write_character<W: fmt::Write>(character: char, f: &mut fmt::Formatter<W>) -> fmt::Result
+/// Writes a character in single quotes, after a byte from 0x80 on or not.
+#[tactic(auto, using(crate::proofs::lemmas::Fish::plain_character, crate::proofs::lemmas::Fish::escaped_quote, crate::proofs::lemmas::Fish::escaped_backslash))]
+fn write_character<W: fmt::Write>(
+    high: bool,
+    character: char,
+    f: &mut fmt::Formatter<W>,
+) -> fmt::Result
     ensures { WritesStyledOnOk W.write_str_gives f.old result
-        (flat_map fish_byte (encode_utf8 character)) f.new }
+        (fish_bytes high (encode_utf8 character)) f.new }
 {
     if character == '\'' {
-        return f.write_str("\\'");
+        return f.write_str(if high { "'\\''" } else { "\\'" });
     }
     if character == '\\' {
-        return f.write_str("\\\\");
+        return f.write_str(if high { "'\\\\'" } else { "\\\\" });
     }
     f.write_char(character)
 }

@@ -3,9 +3,11 @@ ghost use Rattle.std.specs.Prelude.{◌≡◌, ◌↔◌, MatchOption, MatchResu
 ghost use Rattle.platform_str.specs.Strings.{bytes};
 ghost use Rattle.os_command_line.specs.ShellWriting.{is_plain, are_plain, is_plain_name, HasNoNul, IsFirstNul, IsLineText};
 ghost use Rattle.os_command_line.specs.Shell.{HasNoQuote};
-ghost use Rattle.os_command_line.specs.ShellSteps.{is_bare_form, IsFormOf, IsLineFormOf, IsCutAtQuote};
+ghost use Rattle.os_command_line.specs.ReservedWords.{first_word};
+ghost use Rattle.os_command_line.specs.ShellSteps.{form_text, is_bare_form, IsFormOf, IsLineFormOf, IsCutAtQuote};
 
 use crate::shell::error::NulError;
+use crate::shell::reserved::is_reserved;
 use memchr::memchr;
 use os_quote::is_on_one_line;
 use platform_str::{OsStr, Unix};
@@ -47,6 +49,22 @@ pub(crate) fn form_of(name: OsStr<'_, Unix>) -> Result<Form, NulError>
     match first_nul(name.as_encoded_bytes()) {
         Some(index) => Err(NulError { index }),
         None => Ok(Form::Single),
+    }
+}
+
+/// The form of a name that is first on a line: a reserved word is quoted.
+#[tactic(auto, using(crate::proofs::lemmas::ShellFirst::first_quoted, crate::proofs::lemmas::ShellFirst::first_other))]
+pub(crate) fn first_form_of(name: OsStr<'_, Unix>) -> Result<Form, NulError>
+    ensures form { MatchResult result
+        (λ form. form_text form (bytes name.entry) ≡ first_word (bytes name.entry))
+        (λ fault. IsFirstNul (bytes name.entry) fault.index) }
+    ensures no_nul { MatchResult result (λ _. HasNoNul (bytes name.entry)) (λ _. Unit {0}) }
+{
+    let form = form_of(name)?;
+    if is_reserved(name.as_encoded_bytes()) {
+        Ok(Form::Single)
+    } else {
+        Ok(form)
     }
 }
 

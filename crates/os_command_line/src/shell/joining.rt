@@ -2,18 +2,27 @@
 ghost use Rattle.std.specs.Prelude.{◌≡◌, ◌++◌, ◌∷◌, ◌+◌, ◌<◌, [], map, drop, length, IfOk, IfErr, IfSome, OnOk, MatchOption};
 ghost use Rattle.std.specs.List.{AllByRecursion};
 ghost use Rattle.platform_str.specs.Strings.{bytes, string_vec_of};
+ghost use Rattle.os_command_line.specs.ReservedWords.{line_words};
 ghost use Rattle.os_command_line.specs.Shell.{AreWords};
+ghost use Rattle.os_command_line.specs.ShellCharacters.{IsCharacterLine};
 ghost use Rattle.os_command_line.specs.declared.shell.language.Language.{Language};
 ghost use Rattle.os_command_line.specs.ShellWriting.{HasNoNul, IsFirstNameFault, after_first, join_words, quoted_word};
 
 use crate::shell::error::ShellError;
-use crate::shell::owned::{push_word, unix_string};
+use crate::shell::owned::{push_first, push_next, unix_string};
 use platform_str::{OsStr, OsString, Unix};
 use std::alloc::{AllocError, Allocator};
 
 /// Returns a line of the words of these names ([`quote`](crate::shell::quote)), a space between them:
 /// what a shell reads from it is these names. The line of no name is empty. (Of texts, `join` of the
 /// crates shlex and shell-words.)
+///
+/// A shell takes the first word for the command. A name that some shell wouldn't run there, as `if`,
+/// `time` or `select`, is quoted in that position alone, for a quoted word is no reserved word and no
+/// alias (POSIX.1-2024, Shell Command Language, 2.4 and 2.3.1). These are the reserved words of POSIX,
+/// bash, ksh93, mksh, zsh, busybox and yash, the aliases that mksh and zsh begin with, and each name
+/// that ends with a colon. A builtin of the shell, as `cd` or zsh's `noglob`, is one with quotes, too,
+/// and so is a function; an alias that a user defined isn't known here.
 ///
 /// # Errors
 ///
@@ -27,15 +36,19 @@ use std::alloc::{AllocError, Allocator};
 /// let names = [OsStr::<Unix>::new("cp"), OsStr::new("a b"), OsStr::new("")];
 /// let line = join(alloc, &names)?;
 /// assert!(rt; line.as_os_str() == OsStr::new("cp 'a b' ''"));
+/// let line = join(alloc, &[OsStr::<Unix>::new("time"), OsStr::new("time")])?;
+/// assert!(rt; line.as_os_str() == OsStr::new("'time' time"));
 /// ```
 pub fn join<A: Allocator>(
     alloc: A,
     names: &[OsStr<'_, Unix>],
 ) -> Result<OsString<Unix, A>, ShellError>
     ensures line { IfOk result (λ line. (string_vec_of line).items
-        ≡ join_words (map quoted_word (map bytes names.now))) }
+        ≡ join_words (line_words (map bytes names.now))) }
     ensures read { IfOk result (λ line. (l : Language)
         → AreWords l (string_vec_of line).items (map bytes names.now)) }
+    ensures characters { IfOk result (λ line. (l : Language)
+        → IsCharacterLine l (string_vec_of line).items (map bytes names.now)) }
     ensures no_nul { OnOk result (AllByRecursion HasNoNul (map bytes names.now)) }
     ensures fault { IfErr result (λ fault. IsFirstNameFault (map bytes names.now) fault) }
 {
@@ -43,7 +56,7 @@ pub fn join<A: Allocator>(
     let Some((first, others)) = names.split_first() else {
         return Ok(unix_string(line));
     };
-    match push_word(&mut line, *first) {
+    match push_first(&mut line, *first) {
         Ok(()) => {}
         Err(fault) => return Err(fault),
     }
@@ -66,7 +79,7 @@ fn push_after<A: Allocator>(
     let mut index = 0;
     while let Some(name) = name_after(names, index) {
         push_space(line)?;
-        push_word(line, name)?;
+        push_next(line, name)?;
         index += 1;
     }
     Ok(())

@@ -2,19 +2,22 @@
 ghost use Rattle.std.specs.Prelude.{◌≡◌, ◌++◌, true, ℕ, List, IfOk, IfErr, OnOk, OnErr};
 ghost use Rattle.platform_str.specs.Strings.{bytes, string_vec_of};
 ghost use Rattle.os_command_line.specs.ShellSteps.{form_text};
+ghost use Rattle.os_command_line.specs.ReservedWords.{first_word, word_on};
 ghost use Rattle.os_command_line.specs.Shell.{IsTextOf};
+ghost use Rattle.os_command_line.specs.ShellCharacters.{IsCharacterText};
 ghost use Rattle.os_command_line.specs.ShellWriting.{HasNoNul, IsNameFault, IsLineText, IsLineWord, quoted_word};
 ghost use Rattle.os_command_line.specs.declared.shell.language.Language.{Language};
 
 use crate::shell::error::ShellError;
-use crate::shell::form::{Form, form_of, line_form_of};
+use crate::shell::form::{Form, first_form_of, form_of, line_form_of};
 use crate::shell::write_buffer::push_in;
 use platform_str::{OsStr, OsString, Unix};
 use std::alloc::{AllocError, Allocator};
 
 /// Returns the word that every POSIX shell reads as this name: the bytes that
 /// [`write_quoted`](crate::shell::write_quoted) writes (of a text, `quote` of the crates shlex and
-/// shell-words). It makes one request, of the word's length.
+/// shell-words). It makes one request, of the word's length. For which locales and positions it is, says
+/// [`quoted`](crate::shell::quoted).
 ///
 /// # Errors
 ///
@@ -32,16 +35,19 @@ pub fn quote<A: Allocator>(alloc: A, name: OsStr<'_, Unix>) -> Result<OsString<U
         (λ word. (string_vec_of word).items ≡ quoted_word (bytes name.entry)) }
     ensures read { IfOk result (λ word. (l : Language)
         → IsTextOf l (string_vec_of word).items (bytes name.entry)) }
+    ensures characters { IfOk result (λ word. (l : Language)
+        → IsCharacterText l (string_vec_of word).items (bytes name.entry)) }
     ensures no_nul { OnOk result (HasNoNul (bytes name.entry)) }
     ensures fault { IfErr result (λ fault. IsNameFault (bytes name.entry) fault) }
 {
     let mut word = Vec::new(alloc);
-    push_word(&mut word, name)?;
+    push_next(&mut word, name)?;
     Ok(unix_string(word))
 }
 
 /// Returns the word on one line that bash, zsh, ksh93, mksh and busybox read as this name: what
-/// [`quoted_line`](crate::shell::quoted_line) prints. It makes one request, of the word's length.
+/// [`quoted_line`](crate::shell::quoted_line) prints, in the locales of that. It makes one request, of the
+/// word's length.
 ///
 /// # Errors
 ///
@@ -62,6 +68,8 @@ pub fn quote_line<A: Allocator>(
         (λ word. IsLineWord (bytes name.entry) (string_vec_of word).items) }
     ensures read { IfOk result (λ word. (l : Language) → l.dollar_quotes ≡ true
         → IsTextOf l (string_vec_of word).items (bytes name.entry)) }
+    ensures characters { IfOk result (λ word. (l : Language) → l.dollar_quotes ≡ true
+        → IsCharacterText l (string_vec_of word).items (bytes name.entry)) }
     ensures stays { IfOk result (λ word. IsLineText (string_vec_of word).items) }
     ensures no_nul { OnOk result (HasNoNul (bytes name.entry)) }
     ensures fault { IfErr result (λ fault. IsNameFault (bytes name.entry) fault) }
@@ -72,6 +80,9 @@ pub fn quote_line<A: Allocator>(
 }
 
 /// Appends the word of a name ([`quote`]) to a line. The space that separates words is the caller's.
+///
+/// On an empty line the word is the first, by which a shell finds what to run: there a reserved word is
+/// quoted, as [`join`](crate::shell::join) quotes it.
 ///
 /// # Errors
 ///
@@ -85,8 +96,45 @@ pub fn quote_line<A: Allocator>(
 /// let mut line = b"rm -- ".to_vec(alloc)?;
 /// push_word(&mut line, OsStr::<Unix>::new("a b"))?;
 /// assert_eq!(rt; line.as_slice(), b"rm -- 'a b'".as_slice());
+/// let mut line = Vec::new(alloc);
+/// push_word(&mut line, OsStr::<Unix>::new("time"))?;
+/// assert_eq!(rt; line.as_slice(), b"'time'".as_slice());
 /// ```
+#[tactic(auto, using(crate::proofs::lemmas::ShellFirst::on_empty, crate::proofs::lemmas::ShellFirst::on_other))]
 pub fn push_word<A: Allocator>(
+    line: &mut Vec<u8, A>,
+    name: OsStr<'_, Unix>,
+) -> Result<(), ShellError>
+    ensures word { OnOk result
+        (line.new.items ≡ line.old.items ++ word_on line.old.items (bytes name.entry)) }
+    ensures no_nul { OnOk result (HasNoNul (bytes name.entry)) }
+    ensures fault { IfErr result (λ fault. IsNameFault (bytes name.entry) fault) }
+    ensures unchanged { OnErr result (line.new.items ≡ line.old.items) }
+{
+    if line.is_empty() {
+        return push_first(line, name);
+    }
+    push_next(line, name)
+}
+
+/// Appends the word of a name that is first on a line.
+pub(crate) fn push_first<A: Allocator>(
+    line: &mut Vec<u8, A>,
+    name: OsStr<'_, Unix>,
+) -> Result<(), ShellError>
+    ensures word { OnOk result
+        (line.new.items ≡ line.old.items ++ first_word (bytes name.entry)) }
+    ensures no_nul { OnOk result (HasNoNul (bytes name.entry)) }
+    ensures fault { IfErr result (λ fault. IsNameFault (bytes name.entry) fault) }
+    ensures unchanged { OnErr result (line.new.items ≡ line.old.items) }
+{
+    let form = first_form_of(name)?;
+    append(line, form, name)?;
+    Ok(())
+}
+
+/// Appends the word of a name that isn't first on a line.
+pub(crate) fn push_next<A: Allocator>(
     line: &mut Vec<u8, A>,
     name: OsStr<'_, Unix>,
 ) -> Result<(), ShellError>
@@ -101,7 +149,8 @@ pub fn push_word<A: Allocator>(
     Ok(())
 }
 
-/// Appends the word of a name on one line ([`quote_line`]) to a line, as [`push_word`] does.
+/// Appends the word of a name on one line ([`quote_line`]) to a line. The space that separates words is
+/// the caller's. It quotes no reserved word: for a command's name use [`push_word`].
 ///
 /// # Errors
 ///

@@ -19,6 +19,17 @@ use platform_str::{OsStr, Unix};
 /// shell. A name can still be read as an option by a program, as `-x` is. (POSIX.1-2024, Shell Command
 /// Language, 2.2.2; the crate shlex has `quote`, of a text.)
 ///
+/// **Position.** It is read as the name where it is an argument. First on a line a word such as `if` or
+/// `time` is a reserved word: [`join`](crate::shell::join), [`push_word`](crate::shell::push_word) and
+/// [`write_quoted_first`](crate::shell::write_quoted_first) quote it there.
+///
+/// **Locales.** The shell may read it in any charset in which tab, newline, space, `"`, `$` and `'` are
+/// part of no longer character, as UTF-8, GBK, Big5, Shift-JIS, the EUCs and each charset of one byte
+/// (`shell::laws::charset_words`). GB18030 is one too, but bash with the GNU C library takes any byte,
+/// a quote too, after a byte from 0x81 on and a digit that begin no character there: in that locale
+/// it reads back no name in quotes with such bytes, not even as its own `${name@Q}` writes it. yash
+/// reads only names that are text in its locale.
+///
 /// What is printed is text, so a name that isn't UTF-8 is printed as by [`quoted_line`];
 /// [`write_quoted`](crate::shell::write_quoted) and [`quote`](crate::shell::quote) write its bytes.
 /// A newline or an escape character in the name is one in the word, too: for a message or a log line
@@ -62,6 +73,10 @@ pub fn quoted<'a>(name: OsStr<'a, Unix>) -> Result<Quoted<'a>, NulError>
 /// text or is of a character that doesn't stay on the line, and all other characters as they are. dash,
 /// posh and yash don't read `$'..'`.
 ///
+/// No backslash comes after a byte from 0x80 on: the quotes end before it and begin again, as in
+/// `$'é'$'\n'`, since in GBK and Shift-JIS the two may be one character. So it is read as the
+/// name in the locales in which the word of [`quoted`] is.
+///
 /// # Errors
 ///
 /// [`NulError`] with the index of the first NUL. No argument of a program has one.
@@ -75,6 +90,8 @@ pub fn quoted<'a>(name: OsStr<'a, Unix>) -> Result<Quoted<'a>, NulError>
 /// assert_eq!(rt; word.to_string(alloc)?.as_str(), "$'a\\n\\033\\377'");
 /// let word = quoted_line(OsStr::<Unix>::new("a b"))?;
 /// assert_eq!(rt; word.to_string(alloc)?.as_str(), "'a b'");
+/// let word = quoted_line(OsStr::<Unix>::new("\u{E9}'\n"))?;
+/// assert_eq!(rt; word.to_string(alloc)?.as_str(), "$'\u{E9}'$'\\'\\n'");
 /// ```
 pub fn quoted_line<'a>(name: OsStr<'a, Unix>) -> Result<Quoted<'a>, NulError>
     ensures word { MatchResult result

@@ -1,6 +1,6 @@
 //! How far a word reaches.
-ghost use Rattle.std.specs.Prelude.{◌≡◌, ◌≢◌, ◌∷◌, ◌++◌, false, ℕ, List, IfSome, IsTrue, MatchOption, MatchResult};
-ghost use Rattle.os_command_line.specs.Shell.{backslash, newline, Ends};
+ghost use Rattle.std.specs.Prelude.{◌≡◌, ◌++◌, false, ℕ, List, IfSome, IsTrue, MatchResult};
+ghost use Rattle.os_command_line.specs.Shell.{Ends};
 ghost use Rattle.os_command_line.specs.Shell.Outcome.{Word, Fault};
 ghost use Rattle.os_command_line.specs.ShellReader.{after_gap, outcome};
 ghost use Rattle.os_command_line.specs.ShellSteps.{AreItself, BeginsBare, BeginsQuoted};
@@ -8,7 +8,7 @@ ghost use Rattle.os_command_line.specs.ShellSteps.{AreItself, BeginsBare, Begins
 use crate::shell::fault::FaultKind;
 use crate::shell::form::cut_at_quote;
 use crate::shell::language::Language;
-use crate::shell::step::{State, Step, is_blank, is_itself, step_at};
+use crate::shell::step::{State, Step, after_joined, is_blank, is_itself, step_at};
 
 /// What comes after the gap at the start.
 pub(crate) fn skip_gap(line: &[u8]) -> &[u8]
@@ -26,26 +26,6 @@ pub(crate) fn skip_gap(line: &[u8]) -> &[u8]
         rest = after;
     }
     rest
-}
-
-/// What comes after a backslash and a newline at the start.
-fn after_joined(line: &[u8]) -> Option<&[u8]>
-    ensures { MatchOption result ((rest : List ℕ) → line.now ≢ backslash ∷ newline ∷ rest)
-        (λ rest. line.now ≡ backslash ∷ newline ∷ rest.now) }
-{
-    let Some((first, after)) = line.split_first() else {
-        return None;
-    };
-    if *first != b'\\' {
-        return None;
-    }
-    let Some((second, rest)) = after.split_first() else {
-        return None;
-    };
-    if *second != b'\n' {
-        return None;
-    }
-    Some(rest)
 }
 
 /// What comes after the word at the start, if each of its bytes means itself in each language.

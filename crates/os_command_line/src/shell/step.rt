@@ -1,7 +1,7 @@
 //! A reader's steps.
-ghost use Rattle.std.specs.Prelude.{◌≡◌, ◌≤◌, IfSome, length};
-ghost use Rattle.os_command_line.specs.Shell.{is_mark, is_blank, is_operator, is_expansion, is_pattern, is_special, is_escapable, opens_dollar, is_octal, letter_meaning, octal_meaning};
-ghost use Rattle.os_command_line.specs.ShellReader.{is_start, is_outside, is_itself, escape_step, bare_step, outside_step, single_step, double_escape_step, double_step, octal_step, letter_step, dollar_escape_step, dollar_step, step};
+ghost use Rattle.std.specs.Prelude.{◌≡◌, ◌≢◌, ◌∷◌, ℕ, List, true, false, MatchOption};
+ghost use Rattle.os_command_line.specs.Shell.{is_mark, is_blank, backslash, newline, is_operator, is_expansion, is_history, is_pattern, is_special, is_special_doubled, is_escapable, begins_quote, opens_dollar, is_octal, letter_meaning, octal_meaning};
+ghost use Rattle.os_command_line.specs.ShellReader.{is_start, is_outside, is_itself, opening_len, escape_step, bare_step, outside_step, single_step, double_escape_step, double_step, octal_step, letter_step, dollar_escape_step, dollar_step, step};
 
 use crate::shell::fault::FaultKind;
 use crate::shell::language::Language;
@@ -100,8 +100,8 @@ fn outside_step(language: Language, state: State, byte: u8, after: &[u8]) -> Ste
 fn bare_step(language: Language, state: State, byte: u8, after: &[u8]) -> Step
     ensures { result ≡ bare_step language state byte after.now }
 {
-    if opens_dollar(language, byte, after) {
-        Step::Go(None, State::Dollar, 1)
+    if let Some(len) = opening(language, byte, after) {
+        Step::Go(None, State::Dollar, len)
     } else if language.refuses_specials && is_special(state.is_start(), byte) {
         Step::Refuse(FaultKind::Special)
     } else {
@@ -145,7 +145,7 @@ fn double_step(language: Language, byte: u8, after: &[u8]) -> Step
         Step::Go(None, State::Bare, 0)
     } else if byte == b'\\' {
         double_escape_step(after)
-    } else if language.refuses_specials && is_expansion(byte) {
+    } else if language.refuses_specials && is_special_doubled(byte) {
         Step::Refuse(FaultKind::Special)
     } else {
         Step::Go(Some(byte), State::Double, 0)
@@ -283,15 +283,56 @@ pub(crate) fn is_itself(first: bool, byte: u8) -> bool
     !(is_mark(byte) || is_blank(byte) || is_special(first, byte))
 }
 
-/// Whether `$'` is there, in a language that has such quotes.
+/// How many bytes after a byte open dollar-single-quotes with it, in a language that has such quotes.
 #[inline(always)]
-fn opens_dollar(language: Language, byte: u8, after: &[u8]) -> bool
-    ensures { result ≡ opens_dollar language byte after.now }
+fn opening(language: Language, byte: u8, after: &[u8]) -> Option<usize>
+    ensures { MatchOption result (opens_dollar language byte after.now ≡ false)
+        (λ len. (opens_dollar language byte after.now ≡ true) × (len ≡ opening_len after.now)) }
 {
-    let Some((next, _)) = after.split_first() else {
-        return false;
+    if language.dollar_quotes && byte == b'$' {
+        return opening_len(after);
+    }
+    None
+}
+
+/// How many bytes open dollar-single-quotes after a `$`: a single quote, and each backslash and newline
+/// before it.
+fn opening_len(after: &[u8]) -> Option<usize>
+    ensures { MatchOption result (begins_quote after.now ≡ false)
+        (λ len. (begins_quote after.now ≡ true) × (len ≡ opening_len after.now)) }
+{
+    let mut rest = after;
+    while let Some(joined) = after_joined(rest) {
+        rest = joined;
+    }
+    let Some((first, left)) = rest.split_first() else {
+        return None;
     };
-    language.dollar_quotes && byte == b'$' && *next == b'\''
+    if *first == b'\'' {
+        return Some(after.len() - left.len());
+    }
+    None
+}
+
+/// What comes after a backslash and a newline at the start.
+#[inline(always)]
+pub(crate) fn after_joined(line: &[u8]) -> Option<&[u8]>
+    ensures { MatchOption result ((rest : List ℕ) → line.now ≢ backslash ∷ newline ∷ rest)
+        (λ rest. line.now ≡ backslash ∷ newline ∷ rest.now) }
+{
+    let Some((first, after)) = line.split_first() else {
+        return None;
+    };
+    if *first != b'\\' {
+        return None;
+    }
+    let Some((second, rest)) = after.split_first() else {
+        return None;
+    };
+    if *second != b'\n' {
+        return None;
+    }
+    Some(rest)
 }
 
 /// Whether some shell gives a byte a meaning of its own outside quotes, first in a word or not.
@@ -299,7 +340,27 @@ fn opens_dollar(language: Language, byte: u8, after: &[u8]) -> bool
 fn is_special(first: bool, byte: u8) -> bool
     ensures { result ≡ is_special first byte }
 {
-    is_operator(byte) || is_pattern(byte) || (first && (byte == b'#' || byte == b'='))
+    is_operator(byte)
+        || is_pattern(byte)
+        || is_history(byte)
+        || byte == b'\r'
+        || (first && (byte == b'#' || byte == b'=' || byte == b'^'))
+}
+
+/// Whether an interactive shell takes text of its history by a byte, also in double quotes.
+#[inline(always)]
+fn is_history(byte: u8) -> bool
+    ensures { result ≡ is_history byte }
+{
+    byte == b'!'
+}
+
+/// Whether some shell gives a byte a meaning of its own in double quotes.
+#[inline(always)]
+fn is_special_doubled(byte: u8) -> bool
+    ensures { result ≡ is_special_doubled byte }
+{
+    is_expansion(byte) || is_history(byte)
 }
 
 #[inline(always)]

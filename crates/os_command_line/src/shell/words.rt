@@ -52,8 +52,12 @@ impl<'a> Words<'a> {
     /// - A backslash and a newline are left out, but in single quotes, before words are told apart.
     ///
     /// Variables, commands and patterns aren't expanded: a byte by which some shell would begin one is
-    /// refused or means itself, as `specials` says. Words are bytes, and a line is read alike in every
-    /// locale.
+    /// refused or means itself, as `specials` says.
+    ///
+    /// Words are bytes, and a line is read alike in every locale: as a shell reads it in a charset of one
+    /// byte (`shell::laws::charsets`), and in UTF-8, where no byte of ASCII is part of a longer character.
+    /// In GBK, GB18030, Big5 and Shift-JIS one may be, so a shell can read a backslash after a byte from
+    /// 0x80 on as part of a character. The blanks are space, tab and newline in every locale.
     ///
     /// ```
     /// use os_command_line::shell::{FaultKind, Specials, Words, WordsFault};
@@ -78,7 +82,8 @@ impl<'a> Words<'a> {
     }
 
     /// The same, where `$'` outside double quotes begins dollar-single-quotes (2.2.4), which end
-    /// before the next single quote that isn't escaped.
+    /// before the next single quote that isn't escaped. A backslash and a newline between the `$` and the
+    /// quote are left out first (2.2.1).
     ///
     /// In them a backslash begins an escape: `\\`, `\'`, `\"`, `\a`, `\b`, `\f`, `\n`, `\r`, `\t`,
     /// `\v`, or three octal digits from `\001` to `\377`. bash, zsh, ksh93, mksh and busybox read these

@@ -1,17 +1,18 @@
 //! Words written into a buffer that may be too short for them.
-ghost use Rattle.std.specs.Prelude.{◌≡◌, ◌+◌, ◌*◌, ◌<◌, ◌^◌, ◌++◌, ◌∷◌, [], ℕ, List, length, MatchResult};
+ghost use Rattle.std.specs.Prelude.{◌≡◌, ◌+◌, ◌*◌, ◌<◌, ◌^◌, ◌++◌, ◌∷◌, [], ℕ, List, false, length, MatchResult};
 ghost use Rattle.std.specs.List.{flat_map};
 ghost use Rattle.wtf8_core.specs.Truncated.{IsTruncated};
 ghost use Rattle.platform_str.specs.PlatformWords.{itself};
 ghost use Rattle.platform_str.specs.Strings.{bytes};
 ghost use Rattle.os_quote.specs.Buffers.{Pushes};
 ghost use Rattle.os_str_ext.specs.Symbols.{symbols_of};
+ghost use Rattle.os_command_line.specs.ReservedWords.{first_word};
 ghost use Rattle.os_command_line.specs.ShellSteps.{form_text};
-ghost use Rattle.os_command_line.specs.ShellWriting.{HasNoNul, IsFirstNul, IsLineWord, quoted_word, single_byte, single_quoted, dollar_quoted, symbol_text, character_text, letter_for, octal_text, shown_or_octal};
+ghost use Rattle.os_command_line.specs.ShellWriting.{HasNoNul, IsFirstNul, IsLineWord, quoted_word, single_byte, single_quoted, dollar_quoted, dollar_text, text_after, symbol_text, character_text, letter_for, octal_text, shown_or_octal};
 
 use crate::shell::error::NulError;
-use crate::shell::form::{Form, cut_at_quote, form_of, line_form_of};
-use crate::shell::octal::{letter_for, octal_digit};
+use crate::shell::form::{Form, cut_at_quote, first_form_of, form_of, line_form_of};
+use crate::shell::octal::{is_escape, is_high, letter_for, octal_digit};
 use os_quote::stays_on_line;
 use os_str_ext::{OsStrBytesExt, Symbol};
 use platform_str::{OsStr, Unix};
@@ -46,6 +47,35 @@ pub fn write_quoted(name: OsStr<'_, Unix>, buffer: &mut [u8]) -> Result<usize, N
     ensures no_nul { MatchResult result (λ _. HasNoNul (bytes name.entry)) (λ _. Unit {0}) }
 {
     let form = form_of(name)?;
+    Ok(push_in(form, name, buffer))
+}
+
+/// Writes the word of a name that is first on a line into a buffer, as [`write_quoted`] does: a reserved
+/// word is quoted, as [`join`](crate::shell::join) quotes it.
+///
+/// Four times the name's length and 3 are below 2^64 (test: `name.len() <= usize::MAX / 4 - 1`).
+///
+/// # Errors
+///
+/// [`NulError`] with the index of the first NUL. The buffer is then as it was.
+///
+/// ```
+/// use os_command_line::shell::write_quoted_first;
+/// use os_str_bytes::{OsStr, Unix};
+///
+/// let mut buffer = [b'-'; 5];
+/// assert_eq!(rt; write_quoted_first(OsStr::<Unix>::new("if"), &mut buffer)?, 4);
+/// assert_eq!(rt; buffer.as_slice(), b"'if'-".as_slice());
+/// assert_eq!(rt; write_quoted_first(OsStr::<Unix>::new("ls"), &mut buffer)?, 2);
+/// ```
+pub fn write_quoted_first(name: OsStr<'_, Unix>, buffer: &mut [u8]) -> Result<usize, NulError>
+    requires { 4 * length (bytes name) + 3 < 2 ^ 64 }
+    ensures word { MatchResult result
+        (λ count. IsTruncated (first_word (bytes name.entry)) buffer.old buffer.new count)
+        (λ fault. IsFirstNul (bytes name.entry) fault.index × (buffer.new ≡ buffer.old)) }
+    ensures no_nul { MatchResult result (λ _. HasNoNul (bytes name.entry)) (λ _. Unit {0}) }
+{
+    let form = first_form_of(name)?;
     Ok(push_in(form, name, buffer))
 }
 
@@ -136,15 +166,38 @@ fn push_dollar(name: OsStr<'_, Unix>, buffer: &mut [u8]) -> usize
 
 /// Appends what means each symbol of a name.
 fn push_symbols(buffer: &mut [u8], count: usize, name: OsStr<'_, Unix>) -> usize
-    requires { count + length (flat_map symbol_text (symbols_of itself (bytes name))) < 2 ^ 64 }
-    ensures { Pushes (flat_map symbol_text (symbols_of itself (bytes name.entry))) buffer.old count
+    requires { count + length (dollar_text false (symbols_of itself (bytes name))) < 2 ^ 64 }
+    ensures { Pushes (dollar_text false (symbols_of itself (bytes name.entry))) buffer.old count
         buffer.new result }
 {
     let mut len = count;
+    let mut high = false;
     for symbol in name.symbols() {
-        len = push_symbol(buffer, len, symbol);
+        len = push_after(buffer, len, high, symbol);
+        high = is_high(symbol);
     }
     len
+}
+
+/// Appends what means a symbol, after a byte from 0x80 on or not.
+fn push_after(buffer: &mut [u8], count: usize, high: bool, symbol: Symbol) -> usize
+    requires { count + length (text_after high symbol) < 2 ^ 64 }
+    ensures { Pushes (text_after high symbol) buffer.old count buffer.new result }
+{
+    if high && is_escape(symbol) {
+        return push_again(buffer, count, symbol);
+    }
+    push_symbol(buffer, count, symbol)
+}
+
+/// Ends the quotes, begins them again and appends what means a symbol.
+fn push_again(buffer: &mut [u8], count: usize, symbol: Symbol) -> usize
+    requires { count + length (0x27 ∷ 0x24 ∷ 0x27 ∷ symbol_text symbol) < 2 ^ 64 }
+    ensures { Pushes (0x27 ∷ 0x24 ∷ 0x27 ∷ symbol_text symbol) buffer.old count buffer.new
+        result }
+{
+    let count = push_truncated(buffer, count, b"'$'");
+    push_symbol(buffer, count, symbol)
 }
 
 /// Appends what means a symbol.

@@ -1,14 +1,14 @@
 //! Words written piece by piece.
-ghost use Rattle.std.specs.Prelude.{◌≡◌, ◌<◌, ◌∷◌, []};
+ghost use Rattle.std.specs.Prelude.{◌≡◌, ◌<◌, ◌∷◌, [], false};
 ghost use Rattle.std.specs.Fmt.{WritesStyledOnOk};
 ghost use Rattle.std.specs.List.{flat_map};
 ghost use Rattle.platform_str.specs.PlatformWords.{itself};
 ghost use Rattle.platform_str.specs.Strings.{bytes};
 ghost use Rattle.os_str_ext.specs.Symbols.{symbols_of};
-ghost use Rattle.os_command_line.specs.ShellWriting.{single_byte, single_quoted, dollar_quoted, symbol_text, character_text, letter_for, octal_text, shown_or_octal};
+ghost use Rattle.os_command_line.specs.ShellWriting.{single_byte, single_quoted, dollar_quoted, dollar_text, text_after, symbol_text, character_text, letter_for, octal_text, shown_or_octal};
 
 use crate::shell::form::split_at_quote;
-use crate::shell::octal::{ascii_char, letter_for, octal_digit};
+use crate::shell::octal::{ascii_char, is_escape, is_high, letter_for, octal_digit};
 use os_quote::stays_on_line;
 use os_str_ext::{OsStrBytesExt, Symbol};
 use platform_str::{OsStr, Unix};
@@ -53,12 +53,33 @@ pub(crate) fn write_dollar<W: fmt::Write>(
 /// Writes what means each symbol of a name.
 fn write_symbols<W: fmt::Write>(name: OsStr<'_, Unix>, f: &mut fmt::Formatter<W>) -> fmt::Result
     ensures { WritesStyledOnOk W.write_str_gives f.old result
-        (flat_map symbol_text (symbols_of itself (bytes name.entry))) f.new }
+        (dollar_text false (symbols_of itself (bytes name.entry))) f.new }
 {
+    let mut high = false;
     for symbol in name.symbols() {
-        write_symbol(symbol, f)?;
+        write_after(high, symbol, f)?;
+        high = is_high(symbol);
     }
     Ok(())
+}
+
+/// Writes what means a symbol, after a byte from 0x80 on or not.
+fn write_after<W: fmt::Write>(high: bool, symbol: Symbol, f: &mut fmt::Formatter<W>) -> fmt::Result
+    ensures { WritesStyledOnOk W.write_str_gives f.old result (text_after high symbol) f.new }
+{
+    if high && is_escape(symbol) {
+        return write_again(symbol, f);
+    }
+    write_symbol(symbol, f)
+}
+
+/// Ends the quotes, begins them again and writes what means a symbol.
+fn write_again<W: fmt::Write>(symbol: Symbol, f: &mut fmt::Formatter<W>) -> fmt::Result
+    ensures { WritesStyledOnOk W.write_str_gives f.old result
+        (0x27 ∷ 0x24 ∷ 0x27 ∷ symbol_text symbol) f.new }
+{
+    f.write_str("'$'")?;
+    write_symbol(symbol, f)
 }
 
 /// Writes what means a symbol.

@@ -1,7 +1,7 @@
 use Rattle.std.proofs.Common.{map, sym, subst, true}
 use Rattle.os_command_line.specs.Shell.{IsTextOf, language}
 use Rattle.os_command_line.specs.ShellWriting.{quoted_word}
-use Rattle.os_command_line.proofs.lemmas.ShellRoundTrip.{word_is_text, one_word, alone_read, joined_read, quoted_texts}
+use Rattle.os_command_line.proofs.lemmas.ShellRoundTrip.{word_is_text, one_word, alone_read, joined_read, line_read, quoted_texts}
 use Rattle.os_command_line.proofs.shell.laws.words.Goals as goal
 
 pub returns-clause-read : goal.returns-clause-read
@@ -20,3 +20,6 @@ returns-clause-joined c l names w = joined_read l (map quoted_word names) names 
 
 pub returns-clause-alone : goal.returns-clause-alone
 returns-clause-alone c = alone_read
+
+pub returns-clause-line : goal.returns-clause-line
+returns-clause-line c = line_read

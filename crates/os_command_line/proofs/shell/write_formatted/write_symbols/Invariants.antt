@@ -1,10 +1,10 @@
-use Rattle.std.specs.List.{flat_map}
+use Rattle.std.proofs.Common.{false}
 use Rattle.platform_str.specs.PlatformWords.{itself}
 use Rattle.platform_str.specs.Strings.{bytes}
 use Rattle.os_str_ext.specs.Symbols.{symbols_of}
 use Rattle.os_command_line.proofs.lemmas.Writing.{WritesRest}
-use Rattle.os_command_line.specs.ShellWriting.{symbol_text}
+use Rattle.os_command_line.specs.ShellWriting.{dollar_text}
 use Rattle.os_command_line.proofs.shell.write_formatted.write_symbols.Given as goal
 
 abbrev pub invariant-loop-symbol : goal.invariant-loop-symbol
-invariant-loop-symbol g l = WritesRest g.W.Write.write_str_gives l.fn.f l.f (flat_map symbol_text l.symbol-iterator) (flat_map symbol_text (symbols_of itself (bytes l.fn.name)))
+invariant-loop-symbol g l = WritesRest g.W.Write.write_str_gives l.fn.f l.f (dollar_text l.high l.symbol-iterator) (dollar_text false (symbols_of itself (bytes l.fn.name)))

@@ -1,0 +1,38 @@
+//! Texts of patterns that stand for one name, and choices that are compiled.
+ghost use Rattle.std.specs.Prelude.{◌↔◌, ◌<◌, ◌++◌, ◌∷◌, ℕ, List, IsTrue, IfOk};
+ghost use Rattle.glob_text.specs.Escape.{IsPatternOf};
+ghost use Rattle.glob_text.specs.Marks.{Mark};
+ghost use Rattle.glob_text.specs.Meaning.{MatchesWrittenOut};
+ghost use Rattle.glob_text.specs.Parts.{AreCompiled};
+
+use glob_text::{Syntax, escape, laws};
+use std::alloc::{AllocError, Allocator};
+use wildcards::{Choice, Letters, Options, matches_choice};
+
+/// The pattern that a name is escaped to, which matches this name alone.
+pub fn pattern_of<L: Letters, A: Allocator>(
+    alloc: A,
+    syntax: Syntax,
+    name: &[u8],
+) -> Result<Vec<u8, A>, AllocError>
+    ensures { IfOk result (λ pattern. ((s : List ℕ) → (t : List ℕ) → (b : ℕ) → b < 0x80
+        → L.formed s → L.formed t → L.formed (s ++ b ∷ t)) → L.formed name.now
+        → IsPatternOf L.formed L.letters syntax pattern.items (L.letters name.now)) }
+{
+    laws::escaped_alone::<L>();
+    escape(alloc, syntax, name)
+}
+
+/// Whether a path has one of the choices that are compiled, by the marks that they were compiled of.
+pub fn has_choice<L: Letters, A: Allocator>(
+    options: Options,
+    choices: &[Choice<A>],
+    path: &[u8],
+) -> bool
+    requires { L.formed path.now }
+    ensures { (written : List (List Mark)) → AreCompiled options.separators written choices.entry.now
+        → IsTrue result ↔ MatchesWrittenOut options written (L.letters path.now) }
+{
+    laws::written_out::<A>();
+    matches_choice::<L, A>(options, choices, path)
+}
