@@ -1,5 +1,5 @@
 //! Sets of path patterns, compiled once.
-ghost use Rattle.std.specs.Prelude.{◌≡◌, ◌↔◌, ◌∷◌, ◌+◌, ◌<◌, [], ℕ, map, drop, length, IsTrue, IfOk, IfSome, MatchOption, MatchResult, OnOk};
+ghost use Rattle.std.specs.Prelude.{◌≡◌, ◌↔◌, ◌∷◌, ◌+◌, ◌<◌, [], ℕ, map, drop, length, nat_eq, IsTrue, IfOk, IfSome, MatchOption, MatchResult, OnOk, OnErr};
 ghost use Rattle.platform_str.specs.Strings.{bytes};
 ghost use Rattle.wildcards.specs.Sets.{IsHit, AreHits};
 ghost use Rattle.glob_patterns.specs.Letters.{letters_of};
@@ -19,7 +19,9 @@ use wildcards::{Pattern, PatternSet};
 /// A set of path patterns, as [`Glob`](crate::Glob) reads each, that a path is matched with at once.
 ///
 /// Patterns are looked up by the literal parts that a path must have to match them: the whole path,
-/// the end of its last component, or a component. Only those are tried.
+/// the end of its last component, or a component. Only those are tried, each at most once: so a path
+/// takes at most the time that it takes with each pattern by itself. A set takes the memory that its
+/// patterns take, and some more for each of the patterns that these stand for.
 #[derive(Drop)]
 pub struct GlobSet<E: Platform, A: Allocator = Global> {
     set: PatternSet<A>,
@@ -112,6 +114,39 @@ impl<E: Platform, A: Allocator> GlobSet<E, A> {
         }
     }
 
+    /// How many patterns it has.
+    ///
+    /// ```
+    /// use glob_patterns::{GlobOptions, GlobSet, Separators};
+    /// use os_str_ext::{OsStr, Unix};
+    ///
+    /// let options = GlobOptions::new(Separators::Slash);
+    /// let set = GlobSet::new(alloc, options, &[OsStr::<Unix>::new("{a,b}"), OsStr::new("*")])?;
+    /// assert!(rt; set.len() == 2);
+    /// ```
+    pub fn len(&self) -> usize
+        ensures { result ≡ length self.now.set.patterns.items }
+    {
+        self.set.patterns().len()
+    }
+
+    /// Whether it has no pattern, and so matches no path.
+    ///
+    /// ```
+    /// use glob_patterns::{GlobOptions, GlobSet, Separators};
+    /// use os_str_ext::{OsStr, Unix};
+    ///
+    /// let options = GlobOptions::new(Separators::Slash);
+    /// let no_patterns: [OsStr<Unix>; 0] = [];
+    /// assert!(rt; GlobSet::new(alloc, options, &no_patterns)?.is_empty());
+    /// assert!(rt; !GlobSet::new(alloc, options, &[OsStr::<Unix>::new("")])?.is_empty());
+    /// ```
+    pub fn is_empty(&self) -> bool
+        ensures { result ≡ nat_eq (length self.now.set.patterns.items) 0 }
+    {
+        self.len() == 0
+    }
+
     /// Whether one of the patterns matches a whole path. It doesn't allocate.
     ///
     /// ```
@@ -139,7 +174,7 @@ impl<E: Platform, A: Allocator> GlobSet<E, A> {
     ///
     /// # Errors
     ///
-    /// `AllocError` if memory is refused.
+    /// `AllocError` if memory is refused: the vector is empty then.
     ///
     /// ```
     /// use glob_patterns::{GlobOptions, GlobSet, Separators};
@@ -162,6 +197,7 @@ impl<E: Platform, A: Allocator> GlobSet<E, A> {
         ensures texts { OnOk result (AreMatchesOfTexts E.well_formed (letters_of E.units)
             self.now.set.options self.now.set.patterns.items
             (letters_of E.units (bytes path.entry)) found.new.items) }
+        ensures none { OnErr result (found.new.items ≡ []) }
     {
         self.set
             .matches::<StringLetters<E>, B>(path.as_encoded_bytes(), found)

@@ -31,6 +31,37 @@ const fn range(first: u32, last: u32) -> Range
     Range { first, last }
 }
 
+/// A list of ranges, each from its first to its last.
+macro_rules! ranges {
+    ($($first:literal to $last:literal),*) => {
+        [$(Range { first: $first, last: $last }),*]
+    };
+}
+
+const ALNUM: [Range; 3] = ranges!(0x30 to 0x39, 0x41 to 0x5A, 0x61 to 0x7A);
+
+const ALPHA: [Range; 2] = ranges!(0x41 to 0x5A, 0x61 to 0x7A);
+
+const BLANK: [Range; 2] = ranges!(0x9 to 0x9, 0x20 to 0x20);
+
+const CNTRL: [Range; 2] = ranges!(0x0 to 0x1F, 0x7F to 0x7F);
+
+const DIGIT: [Range; 1] = ranges!(0x30 to 0x39);
+
+const GRAPH: [Range; 1] = ranges!(0x21 to 0x7E);
+
+const LOWER: [Range; 1] = ranges!(0x61 to 0x7A);
+
+const PRINT: [Range; 1] = ranges!(0x20 to 0x7E);
+
+const PUNCT: [Range; 4] = ranges!(0x21 to 0x2F, 0x3A to 0x40, 0x5B to 0x60, 0x7B to 0x7E);
+
+const SPACE: [Range; 2] = ranges!(0x9 to 0xD, 0x20 to 0x20);
+
+const UPPER: [Range; 1] = ranges!(0x41 to 0x5A);
+
+const XDIGIT: [Range; 3] = ranges!(0x30 to 0x39, 0x41 to 0x46, 0x61 to 0x66);
+
 impl Name {
     /// The name, with what closes it.
     fn text(self) -> &'static [u8]
@@ -52,37 +83,31 @@ impl Name {
         }
     }
 
+    /// Its letters.
+    fn ranges(self) -> &'static [Range]
+        ensures { result.now ≡ name_ranges self }
+    {
+        match self {
+            Name::Alnum => &ALNUM,
+            Name::Alpha => &ALPHA,
+            Name::Blank => &BLANK,
+            Name::Cntrl => &CNTRL,
+            Name::Digit => &DIGIT,
+            Name::Graph => &GRAPH,
+            Name::Lower => &LOWER,
+            Name::Print => &PRINT,
+            Name::Punct => &PUNCT,
+            Name::Space => &SPACE,
+            Name::Upper => &UPPER,
+            Name::Xdigit => &XDIGIT,
+        }
+    }
+
     /// Appends its letters.
     pub(crate) fn push_to<A: Allocator>(self, ranges: &mut Vec<Range, A>) -> Result<(), AllocError>
         ensures { IfOk result (λ _. ranges.new.items ≡ ranges.old.items ++ name_ranges self) }
     {
-        match self {
-            Name::Alnum => ranges.extend_from_slice(&[
-                range(0x30, 0x39),
-                range(0x41, 0x5A),
-                range(0x61, 0x7A),
-            ]),
-            Name::Alpha => ranges.extend_from_slice(&[range(0x41, 0x5A), range(0x61, 0x7A)]),
-            Name::Blank => ranges.extend_from_slice(&[range(0x9, 0x9), range(0x20, 0x20)]),
-            Name::Cntrl => ranges.extend_from_slice(&[range(0x0, 0x1F), range(0x7F, 0x7F)]),
-            Name::Digit => ranges.extend_from_slice(&[range(0x30, 0x39)]),
-            Name::Graph => ranges.extend_from_slice(&[range(0x21, 0x7E)]),
-            Name::Lower => ranges.extend_from_slice(&[range(0x61, 0x7A)]),
-            Name::Print => ranges.extend_from_slice(&[range(0x20, 0x7E)]),
-            Name::Punct => ranges.extend_from_slice(&[
-                range(0x21, 0x2F),
-                range(0x3A, 0x40),
-                range(0x5B, 0x60),
-                range(0x7B, 0x7E),
-            ]),
-            Name::Space => ranges.extend_from_slice(&[range(0x9, 0xD), range(0x20, 0x20)]),
-            Name::Upper => ranges.extend_from_slice(&[range(0x41, 0x5A)]),
-            Name::Xdigit => ranges.extend_from_slice(&[
-                range(0x30, 0x39),
-                range(0x41, 0x46),
-                range(0x61, 0x66),
-            ]),
-        }
+        ranges.extend_from_slice(self.ranges())
     }
 }
 

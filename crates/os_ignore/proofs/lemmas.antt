@@ -1,4 +1,5 @@
 pub mod Added
+pub mod Below
 pub mod Bodies
 pub mod Classes
 pub mod Cuts

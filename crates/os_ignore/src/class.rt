@@ -43,43 +43,63 @@ const fn range(first: u8, last: u8) -> Range
     }
 }
 
+/// A list of ranges, each from its first to its last.
+macro_rules! ranges {
+    ($($first:literal to $last:literal),*) => {
+        [$(Range { first: $first, last: $last }),*]
+    };
+}
+
+const ALNUM: [Range; 3] = ranges!(0x30 to 0x39, 0x41 to 0x5A, 0x61 to 0x7A);
+
+const ALPHA: [Range; 2] = ranges!(0x41 to 0x5A, 0x61 to 0x7A);
+
+const BLANK: [Range; 2] = ranges!(0x20 to 0x20, 0x09 to 0x09);
+
+const CNTRL: [Range; 2] = ranges!(0 to 0x1F, 0x7F to 0x7F);
+
+const DIGIT: [Range; 1] = ranges!(0x30 to 0x39);
+
+const GRAPH: [Range; 1] = ranges!(0x21 to 0x7E);
+
+const LOWER: [Range; 1] = ranges!(0x61 to 0x7A);
+
+const PRINT: [Range; 2] = ranges!(0x20 to 0x20, 0x21 to 0x7E);
+
+const PUNCT: [Range; 4] = ranges!(0x21 to 0x2F, 0x3A to 0x40, 0x5B to 0x60, 0x7B to 0x7E);
+
+const SPACE: [Range; 4] = ranges!(0x20 to 0x20, 0x09 to 0x09, 0x0A to 0x0A, 0x0D to 0x0D);
+
+const UPPER: [Range; 1] = ranges!(0x41 to 0x5A);
+
+const XDIGIT: [Range; 3] = ranges!(0x30 to 0x39, 0x41 to 0x46, 0x61 to 0x66);
+
 impl Name {
+    /// Its letters.
+    fn ranges(self) -> &'static [Range]
+        ensures { result.now ≡ name_ranges self }
+    {
+        match self {
+            Name::Alnum => &ALNUM,
+            Name::Alpha => &ALPHA,
+            Name::Blank => &BLANK,
+            Name::Cntrl => &CNTRL,
+            Name::Digit => &DIGIT,
+            Name::Graph => &GRAPH,
+            Name::Lower => &LOWER,
+            Name::Print => &PRINT,
+            Name::Punct => &PUNCT,
+            Name::Space => &SPACE,
+            Name::Upper => &UPPER,
+            Name::Xdigit => &XDIGIT,
+        }
+    }
+
     /// Appends its bytes.
     fn push_to<A: Allocator>(self, ranges: &mut Vec<Range, A>) -> Result<(), AllocError>
         ensures { IfOk result (λ _. ranges.new.items ≡ ranges.old.items ++ name_ranges self) }
     {
-        match self {
-            Name::Alnum => ranges.extend_from_slice(&[
-                range(b'0', b'9'),
-                range(b'A', b'Z'),
-                range(b'a', b'z'),
-            ]),
-            Name::Alpha => ranges.extend_from_slice(&[range(b'A', b'Z'), range(b'a', b'z')]),
-            Name::Blank => ranges.extend_from_slice(&[range(b' ', b' '), range(b'\t', b'\t')]),
-            Name::Cntrl => ranges.extend_from_slice(&[range(0, 0x1F), range(0x7F, 0x7F)]),
-            Name::Digit => ranges.extend_from_slice(&[range(b'0', b'9')]),
-            Name::Graph => ranges.extend_from_slice(&[range(b'!', b'~')]),
-            Name::Lower => ranges.extend_from_slice(&[range(b'a', b'z')]),
-            Name::Print => ranges.extend_from_slice(&[range(b' ', b' '), range(b'!', b'~')]),
-            Name::Punct => ranges.extend_from_slice(&[
-                range(b'!', b'/'),
-                range(b':', b'@'),
-                range(b'[', b'`'),
-                range(b'{', b'~'),
-            ]),
-            Name::Space => ranges.extend_from_slice(&[
-                range(b' ', b' '),
-                range(b'\t', b'\t'),
-                range(b'\n', b'\n'),
-                range(b'\r', b'\r'),
-            ]),
-            Name::Upper => ranges.extend_from_slice(&[range(b'A', b'Z')]),
-            Name::Xdigit => ranges.extend_from_slice(&[
-                range(b'0', b'9'),
-                range(b'A', b'F'),
-                range(b'a', b'f'),
-            ]),
-        }
+        ranges.extend_from_slice(self.ranges())
     }
 }
 

@@ -29,16 +29,27 @@ pub fn split_piece(separator: u8, rest: &[u8]) -> (&[u8], Option<&[u8]>)
     }
 }
 
-/// The last component.
-pub fn last_component(path: &[u8]) -> &[u8]
-    ensures { IsLastComponent path.entry.now result.now }
+/// What comes before the last slash, and what comes after it; `None` where there is none.
+pub fn split_last(path: &[u8]) -> Option<(&[u8], &[u8])>
+    ensures { MatchOption result (IsPlain 0x2F path.entry.now)
+        (λ cut. IsCut 0x2F path.entry.now cut.0.now cut.1.now × IsPlain 0x2F cut.1.now) }
 {
     let mut at = path.len();
     while at > 0 {
         if path[at - 1] == b'/' {
-            return &path[at..];
+            return Some((&path[..at - 1], &path[at..]));
         }
         at -= 1;
     }
-    path
+    None
+}
+
+/// The last component.
+pub fn last_component(path: &[u8]) -> &[u8]
+    ensures { IsLastComponent path.now result.now }
+{
+    match split_last(path) {
+        Some((_, name)) => name,
+        None => path,
+    }
 }

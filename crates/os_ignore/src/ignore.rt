@@ -88,6 +88,13 @@ impl<A: Allocator + Copy> Ignore<A> {
         Ok(())
     }
 
+    /// The files, in the order in which their lines are asked, the last first.
+    pub(crate) fn files(&self) -> &[File<A>]
+        ensures { result.now ≡ files_of self.entry.now }
+    {
+        self.files.as_slice()
+    }
+
     /// What the files say of a path, and which line says it, as `git check-ignore -v --no-index`
     /// prints it. It doesn't allocate.
     ///

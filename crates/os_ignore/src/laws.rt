@@ -11,3 +11,10 @@ pub fn one_verdict<A: Allocator>()
     ensures { (files : List (File A)) → (path : List ℕ) → (is_dir : Bool) → (v : Verdict)
         → (w : Verdict) → IsVerdict files path is_dir v → IsVerdict files path is_dir w → v ≡ w }
 {}
+
+/// A verdict that a walk returns is the one that [`Ignore::matched`](crate::Ignore::matched) returns.
+pub fn walked_verdict<A: Allocator>()
+    ensures { (files : List (File A)) → (path : List ℕ) → (is_dir : Bool) → (v : Verdict)
+        → (w : Verdict) → ∥ IsVerdict files path is_dir v ∥₁ → IsVerdict files path is_dir w
+        → v ≡ w }
+{}

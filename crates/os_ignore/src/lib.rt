@@ -34,6 +34,8 @@ mod letter;
 mod line;
 mod pattern;
 mod verdict;
+mod walk;
 
 pub use ignore::Ignore;
 pub use verdict::Verdict;
+pub use walk::Walk;

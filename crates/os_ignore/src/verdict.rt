@@ -161,7 +161,7 @@ impl Verdict {
 }
 
 /// What the lines of files say of a path by itself.
-fn own<A: Allocator>(files: &[File<A>], path: &[u8], is_dir: bool) -> Verdict
+pub fn own<A: Allocator>(files: &[File<A>], path: &[u8], is_dir: bool) -> Verdict
     ensures { IsOwn files.entry.now path.now is_dir result }
 {
     let mut left = files;

@@ -1,131 +1,116 @@
 -- The indices of patterns that match are added to a list.
-use Rattle.std.proofs.Common.{◌≡◌, ◌⊎◌, ◌↔◌, inl, inr, ℕ, List, [], ◌∷◌, sym, subst}
+use Rattle.std.proofs.Common.{◌≡◌, ◌⊎◌, inl, inr, ℕ, List, [], ◌∷◌, ◌++◌, sym, subst}
+use Rattle.wildcards.specs.declared.filter.Place.{Place}
 use Rattle.wildcards.specs.declared.options.Options.{Options}
 use Rattle.wildcards.specs.declared.set.Pattern.{Pattern}
 use Rattle.wildcards.specs.Candidates.{OneHas}
-use Rattle.wildcards.specs.Filters.{AddsHits}
-use Rattle.wildcards.specs.Sets.{Has, Ascends, IsHit, AreHits}
+use Rattle.wildcards.specs.Filters.{AddsHits, IsHitAt}
+use Rattle.wildcards.specs.Sets.{Has, IsHit, AreFound}
+use Rattle.wildcards.proofs.Found.{has_or_not, has_more, has_pushed, has_either}
 
-pub not_first : (P : ℕ → Type 0) (left rest : List ℕ) (x : ℕ) → left ≡ x ∷ rest → (P x → ⊥) → (i : ℕ) → P i → Has left i → Has rest i
-not_first P left rest x e never i p h = of (subst (λ z. Has z i) e h)
-  where
-    of : (i ≡ x) ⊎ Has rest i → Has rest i
-    of (inl k) = absurd (never (subst P k p))
-    of (inr k) = k
+module _ {X : Type 0} (P : X → Type 0) where
+  pub not_first : (left rest : List X) (x : X) → left ≡ x ∷ rest → (P x → ⊥) → (i : X) → P i → Has left i → Has rest i
+  not_first left rest x e never i p h = of (subst (λ z. Has z i) e h)
+    where
+      of : (i ≡ x) ⊎ Has rest i → Has rest i
+      of (inl k) = absurd (never (subst P k p))
+      of (inr k) = k
 
-pub not_first_list : (P : ℕ → Type 0) (lists more : List (List ℕ)) (indices : List ℕ) → lists ≡ indices ∷ more → ((i : ℕ) × (Has indices i × P i) → ⊥) → (i : ℕ) → P i → OneHas lists i → OneHas more i
-not_first_list P lists more indices e never i p h = of (subst (λ z. OneHas z i) e h)
-  where
-    of : Has indices i ⊎ OneHas more i → OneHas more i
-    of (inl k) = absurd (never (i, (k, p)))
-    of (inr k) = k
+  pub not_first_list : (lists more : List (List X)) (first : List X) → lists ≡ first ∷ more → ((i : X) → Has first i → P i → ⊥) → (i : X) → P i → OneHas lists i → OneHas more i
+  not_first_list lists more first e never i p h = of (subst (λ z. OneHas z i) e h)
+    where
+      of : Has first i ⊎ OneHas more i → OneHas more i
+      of (inl k) = absurd (never i k p)
+      of (inr k) = k
 
 module _ {A : Type 0} (o : Options) (patterns : List (Pattern A)) (path : List ℕ) where
-  module _ (indices old : List ℕ) where
-    -- of the indices these are left
-    pub record Adding (left found : List ℕ) : Type 0 where
-      pub sound : (i : ℕ) → Has found i → Has old i ⊎ (Has indices i × IsHit o patterns path i)
+  module _ (places : List Place) (old : List ℕ) where
+    -- of the places these are left
+    pub record Adding (left : List Place) (found : List ℕ) : Type 0 where
+      pub sound : (i : ℕ) → Has found i → Has old i ⊎ IsHit o patterns path i
       pub kept : (i : ℕ) → Has old i → Has found i
-      pub complete : (i : ℕ) → Has indices i → IsHit o patterns path i → Has found i ⊎ Has left i
-      pub within : (i : ℕ) → Has left i → Has indices i
+      pub complete : (place : Place) → Has places place → IsHitAt o patterns path place → Has found place.pattern ⊎ Has left place
 
-    pub none_added : (left found : List ℕ) → left ≡ indices → found ≡ old → Adding left found
+    pub none_added : (left : List Place) (found : List ℕ) → left ≡ places → found ≡ old → Adding left found
     none_added left found e f = record {
       sound = λ i h. inl (subst (λ z. Has z i) f h);
       kept = λ i h. subst (λ z. Has z i) (sym f) h;
-      complete = λ i h hit. inr (subst (λ z. Has z i) (sym e) h);
-      within = λ i h. subst (λ z. Has z i) e h;
+      complete = λ place h hit. inr (subst (λ z. Has z place) (sym e) h);
     }
 
-    module _ (left rest found : List ℕ) (index : ℕ) (e : left ≡ index ∷ rest) (a : Adding left found) where
-      later : (i : ℕ) → Has rest i → Has indices i
-      later i h = a.within i (subst (λ z. Has z i) (sym e) (inr h))
-
-      of_left : (i : ℕ) → Has left i → (i ≡ index) ⊎ Has rest i
-      of_left i h = subst (λ z. Has z i) e h
-
-      pub one_added : (more : List ℕ) → IsHit o patterns path index → ((i : ℕ) → Has more i ↔ ((i ≡ index) ⊎ Has found i)) → Adding rest more
-      one_added more hit both = record {
-        sound = λ i h. of_more i ((both i).0 h);
-        kept = λ i h. (both i).1 (inr (a.kept i h));
-        complete = λ i h hit. onto i (a.complete i h hit);
-        within = later;
+    module _ (left rest : List Place) (found : List ℕ) (place : Place) (e : left ≡ place ∷ rest) (a : Adding left found) where
+      pub one_added : (more : List ℕ) → IsHit o patterns path place.pattern → more ≡ found ++ place.pattern ∷ [] → Adding rest more
+      one_added more hit pushed = record {
+        sound = λ i h. of_more i (has_either found place.pattern i (subst (λ z. Has z i) pushed h));
+        kept = λ i h. subst (λ z. Has z i) (sym pushed) (has_more found place.pattern i (a.kept i h));
+        complete = λ other h hit. onto other (a.complete other h hit);
       }
         where
-          of_more : (i : ℕ) → (i ≡ index) ⊎ Has found i → Has old i ⊎ (Has indices i × IsHit o patterns path i)
-          of_more i (inl k) = inr (a.within i (subst (λ z. Has z i) (sym e) (inl k)), subst (IsHit o patterns path) (sym k) hit)
-          of_more i (inr h) = a.sound i h
+          of_more : (i : ℕ) → Has found i ⊎ (i ≡ place.pattern) → Has old i ⊎ IsHit o patterns path i
+          of_more i (inl h) = a.sound i h
+          of_more i (inr k) = inr (subst (IsHit o patterns path) (sym k) hit)
 
-          or_rest : (i : ℕ) → (i ≡ index) ⊎ Has rest i → Has more i ⊎ Has rest i
-          or_rest i (inl k) = inl ((both i).1 (inl k))
-          or_rest i (inr h) = inr h
+          or_rest : (other : Place) → (other ≡ place) ⊎ Has rest other → Has more other.pattern ⊎ Has rest other
+          or_rest other (inl k) = inl (subst (λ z. Has more z.pattern) (sym k) (subst (λ z. Has z place.pattern) (sym pushed) (has_pushed found place.pattern)))
+          or_rest other (inr h) = inr h
 
-          onto : (i : ℕ) → Has found i ⊎ Has left i → Has more i ⊎ Has rest i
-          onto i (inl h) = inl ((both i).1 (inr h))
-          onto i (inr h) = or_rest i (of_left i h)
+          onto : (other : Place) → Has found other.pattern ⊎ Has left other → Has more other.pattern ⊎ Has rest other
+          onto other (inl h) = inl (subst (λ z. Has z other.pattern) (sym pushed) (has_more found place.pattern other.pattern h))
+          onto other (inr h) = or_rest other (subst (λ z. Has z other) e h)
 
-      pub one_passed : (IsHit o patterns path index → ⊥) → Adding rest found
+      pub one_passed : (IsHitAt o patterns path place → ⊥) → Adding rest found
       one_passed never = record {
         sound = a.sound;
         kept = a.kept;
-        complete = λ i h hit. onto i hit (a.complete i h hit);
-        within = later;
+        complete = λ other h hit. onto other hit (a.complete other h hit);
       }
         where
-          or_rest : (i : ℕ) → IsHit o patterns path i → (i ≡ index) ⊎ Has rest i → Has found i ⊎ Has rest i
-          or_rest i hit (inl k) = absurd (never (subst (IsHit o patterns path) k hit))
-          or_rest i hit (inr h) = inr h
+          onto : (other : Place) → IsHitAt o patterns path other → Has found other.pattern ⊎ Has left other → Has found other.pattern ⊎ Has rest other
+          onto other hit (inl h) = inl h
+          onto other hit (inr h) = inr (not_first (IsHitAt o patterns path) left rest place e never other hit h)
 
-          onto : (i : ℕ) → IsHit o patterns path i → Has found i ⊎ Has left i → Has found i ⊎ Has rest i
-          onto i hit (inl h) = inl h
-          onto i hit (inr h) = or_rest i hit (of_left i h)
-
-    pub all_added : (left found : List ℕ) → left ≡ [] → Adding left found → AddsHits o patterns path indices old found
-    all_added left found e a i = (a.sound i, back)
+    pub all_added : (left : List Place) (found : List ℕ) → left ≡ [] → Adding left found → AddsHits o patterns path places old found
+    all_added left found e a = record { sound = a.sound; kept = a.kept; complete = λ place h hit. no_more place (a.complete place h hit) }
       where
-        no_more : Has found i ⊎ Has left i → Has found i
-        no_more (inl h) = h
-        no_more (inr h) = absurd (subst (λ z. Has z i) e h)
+        no_more : (place : Place) → Has found place.pattern ⊎ Has left place → Has found place.pattern
+        no_more place (inl h) = h
+        no_more place (inr h) = absurd (subst (λ z. Has z place) e h)
 
-        back : Has old i ⊎ (Has indices i × IsHit o patterns path i) → Has found i
-        back (inl h) = a.kept i h
-        back (inr h) = no_more (a.complete i h.0 h.1)
+  module _ (all : List (List Place)) where
+    -- of all lists these are left
+    pub record Finding (lists : List (List Place)) (found : List ℕ) : Type 0 where
+      pub sound : (i : ℕ) → Has found i → IsHit o patterns path i
+      pub complete : (place : Place) → OneHas all place → IsHitAt o patterns path place → Has found place.pattern ⊎ OneHas lists place
 
-  -- of several lists these are left
-  pub record Finding (lists : List (List ℕ)) (found : List ℕ) : Type 0 where
-    pub sound : (i : ℕ) → Has found i → IsHit o patterns path i
-    pub complete : (i : ℕ) → IsHit o patterns path i → Has found i ⊎ OneHas lists i
-    pub ascends : Ascends found
+    pub none_found : (found : List ℕ) → found ≡ [] → Finding all found
+    none_found found e = record { sound = λ i h. absurd (subst (λ z. Has z i) e h); complete = λ place h hit. inr h }
 
-  pub none_found : (lists : List (List ℕ)) (found : List ℕ) → found ≡ [] → ((i : ℕ) → IsHit o patterns path i → OneHas lists i) → Finding lists found
-  none_found lists found e h = record {
-    sound = λ i k. absurd (subst (λ z. Has z i) e k);
-    complete = λ i hit. inr (h i hit);
-    ascends = subst Ascends (sym e) tt;
-  }
+    pub list_found : (lists more : List (List Place)) (places : List Place) (found next : List ℕ) → lists ≡ places ∷ more → Finding lists found → AddsHits o patterns path places found next → Finding more next
+    list_found lists more places found next e f adds = record {
+      sound = λ i h. of_either i (adds.sound i h);
+      complete = λ place h hit. onto place hit (f.complete place h hit);
+    }
+      where
+        of_either : (i : ℕ) → Has found i ⊎ IsHit o patterns path i → IsHit o patterns path i
+        of_either i (inl h) = f.sound i h
+        of_either i (inr h) = h
 
-  pub list_found : (lists more : List (List ℕ)) (indices found next : List ℕ) → lists ≡ indices ∷ more → Finding lists found → Ascends next → AddsHits o patterns path indices found next → Finding more next
-  list_found lists more indices found next e f ascends adds = record {
-    sound = λ i h. of_either i ((adds i).0 h);
-    complete = λ i hit. onto i hit (f.complete i hit);
-    ascends = ascends;
-  }
-    where
-      of_either : (i : ℕ) → Has found i ⊎ (Has indices i × IsHit o patterns path i) → IsHit o patterns path i
-      of_either i (inl h) = f.sound i h
-      of_either i (inr h) = h.1
+        first_or_more : (place : Place) → IsHitAt o patterns path place → Has places place ⊎ OneHas more place → Has next place.pattern ⊎ OneHas more place
+        first_or_more place hit (inl h) = inl (adds.complete place h hit)
+        first_or_more place hit (inr h) = inr h
 
-      first_or_more : (i : ℕ) → IsHit o patterns path i → Has indices i ⊎ OneHas more i → Has next i ⊎ OneHas more i
-      first_or_more i hit (inl h) = inl ((adds i).1 (inr (h, hit)))
-      first_or_more i hit (inr h) = inr h
+        onto : (place : Place) → IsHitAt o patterns path place → Has found place.pattern ⊎ OneHas lists place → Has next place.pattern ⊎ OneHas more place
+        onto place hit (inl h) = inl (adds.kept place.pattern h)
+        onto place hit (inr h) = first_or_more place hit (subst (λ z. OneHas z place) e h)
 
-      onto : (i : ℕ) → IsHit o patterns path i → Has found i ⊎ OneHas lists i → Has next i ⊎ OneHas more i
-      onto i hit (inl h) = inl ((adds i).1 (inl h))
-      onto i hit (inr h) = first_or_more i hit (subst (λ z. OneHas z i) e h)
+    -- where each pattern that matches has a place in the lists
+    pub all_found : ((i : ℕ) → IsHit o patterns path i → ((place : Place) → place.pattern ≡ i → IsHitAt o patterns path place → OneHas all place → ⊥) → ⊥) → (lists : List (List Place)) (found : List ℕ) → lists ≡ [] → Finding lists found → AreFound o patterns path found
+    all_found placed lists found e f = record { sound = f.sound; complete = λ i hit. decided i hit (has_or_not found i) }
+      where
+        no_more : (place : Place) → Has found place.pattern ⊎ OneHas lists place → Has found place.pattern
+        no_more place (inl h) = h
+        no_more place (inr h) = absurd (subst (λ z. OneHas z place) e h)
 
-  pub all_found : (lists : List (List ℕ)) (found : List ℕ) → lists ≡ [] → Finding lists found → AreHits o patterns path found
-  all_found lists found e f = record { sound = f.sound; complete = λ i hit. no_more i (f.complete i hit); ascends = f.ascends }
-    where
-      no_more : (i : ℕ) → Has found i ⊎ OneHas lists i → Has found i
-      no_more i (inl h) = h
-      no_more i (inr h) = absurd (subst (λ z. OneHas z i) e h)
+        decided : (i : ℕ) → IsHit o patterns path i → Has found i ⊎ (Has found i → ⊥) → Has found i
+        decided i hit (inl h) = h
+        decided i hit (inr n) = absurd (placed i hit (λ place k at has. n (subst (Has found) k (no_more place (f.complete place has at)))))

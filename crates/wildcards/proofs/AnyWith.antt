@@ -1,5 +1,5 @@
 -- A pattern matches each path whose extension is enough for it.
-use Rattle.std.proofs.Common.{◌≡◌, ◌⊎◌, inl, inr, ◌<◌, ◌+◌, Bool, true, false, ◌||◌, ℕ, zero, suc, List, [], ◌∷◌, ◌++◌, map, length, get_or, refl, sym, ap, ◌∙◌, subst, arith}
+use Rattle.std.proofs.Common.{◌≡◌, ◌⊎◌, inl, inr, ◌<◌, ◌+◌, true, false, ◌||◌, ℕ, zero, suc, List, [], ◌∷◌, ◌++◌, map, length, get_or, refl, sym, ap, ◌∙◌, subst, arith}
 use Rattle.std.specs.List.{AllByRecursion, HoldsAt}
 use Rattle.std.specs.Prelude.{slice_index_or, Option, None, Some, IfSome, MatchOption}
 use Rattle.std.specs.declared.vec.Vec.{Vec}
@@ -20,11 +20,7 @@ use Rattle.wildcards.specs.Reading.{LetterLaws}
 use Rattle.wildcards.specs.Sets.{MatchesChoice, IsHit}
 use Rattle.wildcards.specs.Wild.{Wild}
 use Rattle.wildcards.proofs.Literals.{spelled_ascii, matches_itself}
-use Rattle.wildcards.proofs.Queries.{read_parts}
-
-either_true : (v w : Bool) → (v || w) ≡ true → (v ≡ true) ⊎ (w ≡ true)
-either_true true w e = inl refl
-either_true false w e = inr e
+use Rattle.wildcards.proofs.Queries.{either_true, read_parts}
 
 from_either : {P Q R : Type 0} → P ⊎ Q → (P → R) → (Q → R) → R
 from_either (inl p) f g = f p

@@ -8,12 +8,11 @@ pub mod Ends
 pub mod Literals
 pub mod Hits
 pub mod Keys
-pub mod Ascending
+pub mod Found
 pub mod Covers
 pub mod Extensions
 pub mod Queries
 pub mod AnyWith
 pub mod Adding
 pub mod Orders
-pub mod PageWords
 pub mod Beginnings

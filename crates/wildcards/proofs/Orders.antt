@@ -126,29 +126,16 @@ module _ (letter : ℕ) where
       let before : letter < r.first = omega (arith, up.0, l) in
       ap (λ z. (z && nat_le letter r.last) || is_in rs letter) (not_le r.first letter before) ∙ none_later r.first rs up.1 before
 
-  pub ends_before : (r : Range) → r.last < letter → lies_in r letter ≡ false
+  ends_before : (r : Range) → r.last < letter → lies_in r letter ≡ false
   ends_before r l = ap (λ z. nat_le r.first letter && z) (not_le letter r.last l) ∙ and_false (nat_le r.first letter)
     where
       and_false : (a : Bool) → (a && false) ≡ false
       and_false true = refl
       and_false false = refl
 
-  pub none_here : (r : Range) (rs : List Range) → AreOrdered (r ∷ rs) → letter < r.first → is_in (r ∷ rs) letter ≡ false
-  none_here r rs order l = none_later r.first (r ∷ rs) (omega arith, (rises (λ r. r.first) 0 (r ∷ rs) (λ d m. omega arith) order.0).1) l
-
   none_ends : (rs : List Range) → ((k : ℕ) (d : Range) → k < length rs → (get_or rs k d).last < letter) → is_in rs letter ≡ false
   none_ends [] h = refl
   none_ends (r ∷ rs) h = ap (λ z. z || is_in rs letter) (ends_before r (h 0 r (omega arith))) ∙ none_ends rs (λ k d l. h (suc k) d (omega (arith, l)))
-
-  pub none_after : (rs : List Range) (at : ℕ) (d : Range) → AreOrdered rs → at + 1 ≡ length rs → (get_or rs at d).last < letter → false ≡ is_in rs letter
-  none_after rs at d order e l = sym (none_ends rs below)
-    where
-      below : (k : ℕ) (f : Range) → k < length rs → (get_or rs k f).last < letter
-      below k f m =
-          let same : get_or rs at f ≡ get_or rs at d = get_or_default rs at f d (omega (arith, e)) in
-          let up : (get_or rs k f).last ≤ (get_or rs at f).last = order.1 k at f (omega (arith, e, m)) (omega (arith, e)) in
-          let reach : (get_or rs at f).last ≡ (get_or rs at d).last = ap (λ z. z.last) same in
-          omega (arith, up, reach, l)
 
   first_end : (floor at : ℕ) (rs : List Range) (r : Range) → Rises (λ r. r.first) floor rs → at < length rs → r ≡ get_or rs at r → ((k : ℕ) (d : Range) → k < at → (get_or rs k d).last < letter) → letter ≤ r.last → is_in rs letter ≡ nat_le r.first letter
   first_end floor at [] r up l e h f = absurd (omega (arith, l))
@@ -206,9 +193,6 @@ ordered rs up = (
   non_decreasing (λ r. r.first) 0 (reaches 0 rs) (same_first 0 0 rs (rises (λ r. r.first) 0 rs (λ d l. omega arith) up)),
   non_decreasing (λ r. r.last) 0 (reaches 0 rs) (reaches_last 0 rs),
 )
-
-pub ordered_rest : (r : Range) (rs : List Range) → AreOrdered (r ∷ rs) → AreOrdered rs
-ordered_rest r rs order = (IsNonDecreasingBy-drop (λ r. r.first) 1 (r ∷ rs) order.0, IsNonDecreasingBy-drop (λ r. r.last) 1 (r ∷ rs) order.1)
 
 -- one more range is given what has been reached
 next_reached : (all xs ys : List Range) (at reach : ℕ) (r v : Range) → at < length xs → r ≡ get_or xs at r → v ≡ record { first = r.first; last = further reach r.last } → ys ≡ set xs at v → all ≡ take at xs ++ reaches reach (drop at xs) → all ≡ take (at + 1) ys ++ reaches (further reach r.last) (drop (at + 1) ys)

@@ -1,13 +1,14 @@
--- A path is matched with each pattern whose key it has.
-use Rattle.std.proofs.Common.{◌≡◌, ◌⊎◌, inl, inr, ◌<◌, ◌+◌, ◌-◌, ℕ, zero, suc, true, false, Bool, List, [], ◌∷◌, ◌++◌, map, length, drop, refl, sym, ap, ◌∙◌, subst, arith, length-append, append-nil}
+-- A path is matched with each choice whose key it has.
+use Rattle.std.proofs.Common.{◌≡◌, ◌⊎◌, inl, inr, ◌<◌, ◌+◌, ◌-◌, ℕ, zero, suc, nat_eq, true, false, Bool, ◌||◌, List, [], ◌∷◌, ◌++◌, map, length, drop, refl, sym, ap, ◌∙◌, subst, arith, length-append, append-nil}
 use Rattle.std.specs.List.{AllByRecursion, HoldsAt}
 use Rattle.std.specs.Prelude.{slice_index_or, if◌then◌else◌, Option, None, Some, MatchOption}
 use denote.Ref.{Bor}
+use Rattle.std.proofs.lemmas.Bool.{eqb-true}
 use Rattle.std.proofs.lemmas.List.{same_from_push, drop_at}
-use Rattle.std.proofs.lemmas.List.Elements.{All-from_recursion}
+use Rattle.std.proofs.lemmas.List.Elements.{All-from_recursion, at_read}
 use Rattle.wildcards.specs.declared.candidates.Query.{Query}
-use Rattle.wildcards.specs.declared.candidates.Stage.TheVariants as stage
 use Rattle.wildcards.specs.declared.filter.Filter.{Filter}
+use Rattle.wildcards.specs.declared.filter.Place.{Place}
 use Rattle.wildcards.specs.declared.key.Kind.{Kind}
 use Rattle.wildcards.specs.declared.key.Kind.TheVariants as kind
 use Rattle.wildcards.specs.declared.options.Options.{Options}
@@ -16,17 +17,16 @@ use Rattle.wildcards.specs.declared.pattern.Choice.{Choice}
 use Rattle.wildcards.specs.declared.piece.Piece.{Piece}
 use Rattle.wildcards.specs.declared.separators.Separators.{Separators}
 use Rattle.wildcards.specs.declared.set.Pattern.{Pattern}
-use Rattle.wildcards.specs.Candidates.{OneHas, IsQuery, in_bucket, with_list, extension_lists, end_lists, suffix_lists, part_lists, left_lists}
+use Rattle.wildcards.specs.Candidates.{OneHas, IsQuery, with_key, extension_keys, end_keys, suffix_keys, name_keys, path_keys, slot_in, comes_again, key_lists, all_lists}
 use Rattle.wildcards.specs.Components.{components, separates}
 use Rattle.wildcards.specs.Cuts.{IsPlain, IsCut}
 use Rattle.wildcards.specs.Extensions.{LacksDot, IsExtension, LacksExtension}
-use Rattle.wildcards.specs.Filters.{Asks, IsCovered, AreCovered, CoversAll}
+use Rattle.wildcards.specs.Filters.{Asks, IsCovered, AreCovered, CoversAll, IsHitAt}
 use Rattle.wildcards.specs.Keys.{HasPart, HasKey}
 use Rattle.wildcards.specs.Match.{Matches}
 use Rattle.wildcards.specs.Reading.{LetterLaws}
 use Rattle.wildcards.specs.Sets.{Has, MatchesChoice, IsHit}
-use Rattle.wildcards.specs.Tables.{bucket}
-use Rattle.wildcards.proofs.Ascending.{has_or_not}
+use Rattle.wildcards.specs.Tables.{places_at, bucket}
 use Rattle.wildcards.proofs.Extensions.{has_dot, one_extension}
 use Rattle.wildcards.proofs.Parts.{one_component, first_component}
 use Rattle.wildcards.proofs.Readings.{whole, first_of, cut_letters}
@@ -109,77 +109,88 @@ module _ (formed : List ℕ → Type 0) (letters : List ℕ → List ℕ) (laws 
       let rest : map letters (front ++ name ∷ []) ≡ before ++ last ∷ [] = cc in
       last_read front before name last f.1 rest
 
--- one of several lists has the index
-one_more : (xs : List ℕ) (lists : List (List ℕ)) (i : ℕ) → OneHas lists i → OneHas (xs ∷ lists) i
-one_more xs lists i h = inr h
+pub either_true : (v w : Bool) → (v || w) ≡ true → (v ≡ true) ⊎ (w ≡ true)
+either_true true w e = inl refl
+either_true false w e = inr e
 
-one_before : (lists more : List (List ℕ)) (i : ℕ) → OneHas more i → OneHas (lists ++ more) i
-one_before [] more i h = h
-one_before (xs ∷ lists) more i h = inr (one_before lists more i h)
+has_before : {X : Type 0} (xs more : List X) (x : X) → Has more x → Has (xs ++ more) x
+has_before [] more x h = h
+has_before (y ∷ xs) more x h = inr (has_before xs more x h)
 
-pub one_or_not : (lists : List (List ℕ)) (i : ℕ) → OneHas lists i ⊎ (OneHas lists i → ⊥)
-one_or_not [] i = inr (λ h. h)
-one_or_not (xs ∷ lists) i = onto (has_or_not xs i) (one_or_not lists i)
-  where
-    onto : Has xs i ⊎ (Has xs i → ⊥) → OneHas lists i ⊎ (OneHas lists i → ⊥) → OneHas (xs ∷ lists) i ⊎ (OneHas (xs ∷ lists) i → ⊥)
-    onto (inl h) k = inl (inl h)
-    onto (inr n) (inl k) = inl (inr k)
-    onto (inr n) (inr m) = inr neither
-      where
-        neither : OneHas (xs ∷ lists) i → ⊥
-        neither (inl h) = n h
-        neither (inr h) = m h
+-- the value at an index doesn't depend on the default
+same_read : {X : Type 0} (xs : List X) (i : ℕ) (d e : X) → i < length xs → slice_index_or xs i d ≡ slice_index_or xs i e
+same_read [] i d e l = absurd (omega (arith, l))
+same_read (x ∷ xs) zero d e l = refl
+same_read (x ∷ xs) (suc i) d e l = same_read xs i d e (omega (arith, l))
 
-module _ {A : Type 0} (q : Query A) (i : ℕ) where
-  of_suffix : (lengths : List ℕ) (n : ℕ) (before key : List ℕ) → q.name.now ≡ before ++ key → n ≡ length key → Has lengths n → Has (in_bucket q key) i → OneHas (suffix_lists q lengths) i
-  of_suffix [] n before key e size has h = absurd has
-  of_suffix (m ∷ lengths) n before key e size (inl same) h =
-      let at : length q.name.now - m ≡ length before = omega (arith, same, size, ap length e, length-append before key) in
-      let cut : drop (length q.name.now - m) q.name.now ≡ key = ap (λ z. drop z q.name.now) at ∙ ap (drop (length before)) e ∙ drop_at before key (length before) refl in
-      inl (subst (λ z. Has (in_bucket q z) i) (sym cut) h)
-  of_suffix (m ∷ lengths) n before key e size (inr has) h = inr (of_suffix lengths n before key e size has h)
-
-  of_part : (parts before after : List (List ℕ)) (key : List ℕ) → parts ≡ before ++ key ∷ after → Has (in_bucket q key) i → OneHas (part_lists q parts) i
-  of_part parts before after key e h = subst (λ z. OneHas (part_lists q z) i) (sym e) (go before)
+module _ {A : Type 0} (q : Query A) where
+  later_key : (slot : ℕ) (keys : List (List ℕ)) → comes_again q slot keys ≡ true → (key : List ℕ) × (Has keys key × (slot_in q key ≡ slot))
+  later_key slot [] e = let never : false ≡ true = e in absurd (cc)
+  later_key slot (k ∷ keys) e = onto (later_key slot keys) (either_true (nat_eq (slot_in q k) slot) (comes_again q slot keys) e)
     where
-      go : (ps : List (List ℕ)) → OneHas (part_lists q (ps ++ key ∷ after)) i
-      go [] = inl h
+      onto : (comes_again q slot keys ≡ true → (key : List ℕ) × (Has keys key × (slot_in q key ≡ slot))) → (nat_eq (slot_in q k) slot ≡ true) ⊎ (comes_again q slot keys ≡ true) → (key : List ℕ) × (Has (k ∷ keys) key × (slot_in q key ≡ slot))
+      onto again (inl f) = (k, (inl refl, eqb-true (slot_in q k) slot f))
+      onto again (inr f) = let h = again f in (h.0, (inr h.1.0, h.1.1))
+
+  -- the list of a key has what is in its bucket, or that of a later key
+  key_listed : (place : Place) (keys : List (List ℕ)) (key : List ℕ) → Has keys key → Has (bucket q.filter.now.buckets.items key) place → OneHas (key_lists q keys) place
+  key_listed place [] key h l = absurd h
+  key_listed place (k ∷ keys) key (inr h) l = inr (key_listed place keys key h l)
+  key_listed place (k ∷ keys) key (inl e) l = by_again (comes_again q (slot_in q k) keys) refl (key_listed place keys)
+    where
+      here : Has (bucket q.filter.now.buckets.items k) place
+      here = subst (λ z. Has (bucket q.filter.now.buckets.items z) place) e l
+
+      by_again : (v : Bool) → comes_again q (slot_in q k) keys ≡ v → ((key : List ℕ) → Has keys key → Has (bucket q.filter.now.buckets.items key) place → OneHas (key_lists q keys) place) → OneHas (key_lists q (k ∷ keys)) place
+      by_again true f again =
+          let later = later_key (slot_in q k) keys f in
+          inr (again later.0 later.1.0 (subst (λ z. Has (places_at q.filter.now.buckets.items z) place) (sym later.1.1) here))
+      by_again false f again = inl (subst (λ z. Has (if z then [] else bucket q.filter.now.buckets.items k) place) (sym f) here)
+
+  of_suffix : (lengths : List ℕ) (n : ℕ) (before key : List ℕ) → q.name.now ≡ before ++ key → n ≡ length key → Has lengths n → Has (suffix_keys q lengths) key
+  of_suffix [] n before key e size has = absurd has
+  of_suffix (m ∷ lengths) n before key e size (inl same) =
+      let at : length q.name.now - m ≡ length before = omega (arith, same, size, ap length e, length-append before key) in
+      inl (sym (ap (λ z. drop z q.name.now) at ∙ ap (drop (length before)) e ∙ drop_at before key (length before) refl))
+  of_suffix (m ∷ lengths) n before key e size (inr has) = inr (of_suffix lengths n before key e size has)
+
+  of_part : (parts before after more : List (List ℕ)) (key : List ℕ) → parts ≡ before ++ key ∷ after → Has (parts ++ more) key
+  of_part parts before after more key e = subst (λ z. Has (z ++ more) key) (sym e) (go before)
+    where
+      go : (ps : List (List ℕ)) → Has ((ps ++ key ∷ after) ++ more) key
+      go [] = inl refl
       go (p ∷ ps) = inr (go ps)
 
-  of_extension : (extension : Option (Bor (List ℕ))) (lists : List (List ℕ)) → MatchOption extension ⊥ (λ text. Has (in_bucket q text.now) i) → OneHas (extension_lists q extension lists) i
-  of_extension None lists h = absurd h
-  of_extension (Some text) lists h = inl h
+  of_extension : (key : List ℕ) (extension : Option (Bor (List ℕ))) (keys : List (List ℕ)) → MatchOption extension ⊥ (λ text. key ≡ text.now) → Has (extension_keys q extension keys) key
+  of_extension key None keys h = absurd h
+  of_extension key (Some text) keys h = inl h
 
-  after_extension : (extension : Option (Bor (List ℕ))) (lists : List (List ℕ)) → OneHas lists i → OneHas (extension_lists q extension lists) i
-  after_extension None lists h = h
-  after_extension (Some text) lists h = inr h
+  after_extension : (key : List ℕ) (extension : Option (Bor (List ℕ))) (keys : List (List ℕ)) → Has keys key → Has (extension_keys q extension keys) key
+  after_extension key None keys h = h
+  after_extension key (Some text) keys h = inr h
 
-  list_asked : (asked : Bool) (list : List ℕ) (lists : List (List ℕ)) → asked ≡ true → Has list i → OneHas (with_list asked list lists) i
-  list_asked true list lists e h = inl h
-  list_asked false list lists e h = let never : false ≡ true = e in absurd (cc)
+key_asked : (asked : Bool) (key : List ℕ) (keys : List (List ℕ)) → asked ≡ true → Has (with_key asked key keys) key
+key_asked true key keys e = inl refl
+key_asked false key keys e = let never : false ≡ true = e in absurd (cc)
 
-  after_list : (asked : Bool) (list : List ℕ) (lists : List (List ℕ)) → OneHas lists i → OneHas (with_list asked list lists) i
-  after_list true list lists h = inr h
-  after_list false list lists h = h
+after_key : (asked : Bool) (first key : List ℕ) (keys : List (List ℕ)) → Has keys key → Has (with_key asked first keys) key
+after_key true first key keys h = inr h
+after_key false first key keys h = h
 
-  abbrev all_parts : List (List ℕ)
-  all_parts = part_lists q (components q.separators q.path.now)
+parts_asked : (asked : Bool) (key : List ℕ) (all ends : List (List ℕ)) → asked ≡ true → Has all key → Has (if asked then all else ends) key
+parts_asked true key all ends e h = h
+parts_asked false key all ends e h = let never : false ≡ true = e in absurd (cc)
 
-  parts_asked : (asked : Bool) → asked ≡ true → OneHas all_parts i → OneHas (if asked then all_parts else end_lists q) i
-  parts_asked true e h = h
-  parts_asked false e h = let never : false ≡ true = e in absurd (cc)
+after_parts : (asked : Bool) (key : List ℕ) (parts ends : List (List ℕ)) → Has ends key → Has (if asked then parts ++ ends else ends) key
+after_parts true key parts ends h = has_before parts ends key h
+after_parts false key parts ends h = h
 
-  after_parts : (asked : Bool) → OneHas (end_lists q) i → OneHas (if asked then all_parts else end_lists q) i
-  after_parts true h = one_before (map (in_bucket q) (components q.separators q.path.now)) (end_lists q) i h
-  after_parts false h = h
+-- nothing is asked for twice
+pub none_asked : (again : Bool) (places : List Place) → places ≡ [] → [] ≡ (if again then [] else places)
+none_asked true places e = refl
+none_asked false places e = sym e
 
-  abbrev of_parts : List (List ℕ)
-  of_parts = if q.filter.now.components then all_parts else end_lists q
-
-  of_names : OneHas of_parts i → OneHas (left_lists q stage.Others) i
-  of_names h = inr (after_list q.filter.now.paths (in_bucket q q.path.now) (with_list q.filter.now.names (in_bucket q q.name.now) of_parts) (after_list q.filter.now.names (in_bucket q q.name.now) of_parts h))
-
-module _ {A : Type 0} (formed : List ℕ → Type 0) (letters : List ℕ → List ℕ) (laws : LetterLaws formed letters) (o : Options) (q : Query A) (filter : Filter A) (path : List ℕ) (is : IsQuery q filter o.separators path) (f : formed path) (i : ℕ) where
+module _ {A : Type 0} (formed : List ℕ → Type 0) (letters : List ℕ → List ℕ) (laws : LetterLaws formed letters) (o : Options) (q : Query A) (filter : Filter A) (path : List ℕ) (is : IsQuery q filter o.separators path) (f : formed path) where
   reading : AreRead formed letters laws o.separators path
   reading = read_parts formed letters laws o.separators (length path + 1) path (omega arith) f
 
@@ -188,67 +199,81 @@ module _ {A : Type 0} (formed : List ℕ → Type 0) (letters : List ℕ → Lis
       let each = subst (AllByRecursion formed) parts reading.formed_each in
       last_read formed letters laws o.separators front before name last each (ap (map letters) (sym parts) ∙ sym reading.are ∙ e)
 
-  -- the list of the key is among them
-  of_key : (k : Kind) (key : List ℕ) → AllByRecursion (λ b. b < 0x80) key → Asks filter k (length key) → HasKey o k (letters path) key → Has (bucket filter.buckets.items key) i → OneHas (left_lists q stage.Others) i
-  of_key k key ascii asked has listed = by_kind k asked (subst (λ z. Asks z k (length key)) (sym is.filter_is) asked) has
+  abbrev parts : List (List ℕ)
+  parts = components q.separators q.path.now
+
+  -- the key of a name, among all keys
+  of_names : (key : List ℕ) → Has (if q.filter.now.components then parts ++ end_keys q else end_keys q) key → Has (path_keys q) key
+  of_names key h = after_key q.filter.now.paths q.path.now key (name_keys q) (after_key q.filter.now.names q.name.now key (if q.filter.now.components then parts ++ end_keys q else end_keys q) h)
+
+  -- a name that ends so has this suffix
+  suffix : (front : List (List ℕ)) (name : List ℕ) → components o.separators path ≡ front ++ name ∷ [] → (start end : List ℕ) → AllByRecursion (λ b. b < 0x80) end → (before : List (List ℕ)) → components o.separators (letters path) ≡ before ++ (start ++ end) ∷ [] → (first : List ℕ) × (name ≡ first ++ end)
+  suffix front name parts start end low before e =
+      let n = name_read front name parts before (start ++ end) e in
+      ends_itself formed letters laws o.separators name start end n.0 low n.1
+
+  its_extension : (key : List ℕ) → AllByRecursion (λ b. b < 0x80) key → (start : List ℕ) (before : List (List ℕ)) → components o.separators (letters path) ≡ before ++ (start ++ 0x2E ∷ key) ∷ [] → LacksDot key → filter.extensions ≡ true → (extension : Option (Bor (List ℕ))) → MatchOption extension (filter.extensions ≡ true → LacksExtension (components o.separators path)) (λ text. IsExtension (components o.separators path) text.now) → MatchOption extension ⊥ (λ text. key ≡ text.now)
+  its_extension key ascii start before e lacks a None m =
+      let low : 0x2E < 0x80 = omega arith in
+      let none = m a in
+      let ends = suffix none.before none.name none.joined start (0x2E ∷ key) (low, ascii) before e in
+      has_dot ends.0 key (subst LacksDot ends.1 none.lacks)
+  its_extension key ascii start before e lacks a (Some text) m =
+      let low : 0x2E < 0x80 = omega arith in
+      let ends = suffix m.before (m.start ++ 0x2E ∷ text.now) m.joined start (0x2E ∷ key) (low, ascii) before e in
+      sym (one_extension m.start ends.0 text.now key ends.1 m.lacks lacks)
+
+  -- the key is among them
+  of_key : (k : Kind) (key : List ℕ) → AllByRecursion (λ b. b < 0x80) key → Asks filter k (length key) → Asks q.filter.now k (length key) → HasKey o k (letters path) key → Has (path_keys q) key
+  of_key kind.Path key ascii asks a e =
+      let same : q.path.now ≡ key = is.path_is ∙ itself formed letters laws o.separators path key f ascii e in
+      subst (Has (path_keys q)) same (key_asked q.filter.now.paths q.path.now (name_keys q) a)
+  of_key kind.Name key ascii asks a e =
+      let last = is.name_is (inl asks) in
+      let n = name_read last.0 q.name.now last.1 e.0 key e.1 in
+      let same : q.name.now ≡ key = itself formed letters laws o.separators q.name.now key n.0 ascii n.1 in
+      subst (Has (path_keys q)) same (after_key q.filter.now.paths q.path.now q.name.now (name_keys q) (key_asked q.filter.now.names q.name.now (if q.filter.now.components then parts ++ end_keys q else end_keys q) a))
+  of_key kind.Component key ascii asks a e =
+      let h = part_itself formed letters laws o.separators (components o.separators path) e.0 e.1.0 key reading.formed_each ascii (sym reading.are ∙ e.1.1) in
+      let here : parts ≡ h.0 ++ key ∷ h.1.0 = ap (λ z. components z q.path.now) is.separators_are ∙ ap (components o.separators) is.path_is ∙ h.1.1 in
+      of_names key (parts_asked q.filter.now.components key (parts ++ end_keys q) (end_keys q) a (of_part q parts h.0 h.1.0 (end_keys q) key here))
+  of_key kind.Extension key ascii asks a e =
+      of_names key (after_parts q.filter.now.components key parts (end_keys q) (of_extension q key q.extension (suffix_keys q q.filter.now.lengths.items) (its_extension key ascii e.1.0 e.1.1.0 e.1.1.1 e.0 asks q.extension is.extension_is)))
+  of_key kind.Suffix key ascii asks a e =
+      let last = is.name_is (inr (length key, asks)) in
+      let ends = suffix last.0 q.name.now last.1 e.0 key ascii e.1.0 e.1.1 in
+      of_names key (after_parts q.filter.now.components key parts (end_keys q) (after_extension q key q.extension (suffix_keys q q.filter.now.lengths.items) (of_suffix q q.filter.now.lengths.items (length key) ends.0 key ends.1 refl a)))
+
+  of_choice : (place : Place) (pieces : List (Piece (Part A))) → IsCovered o filter place pieces → Matches o pieces (letters path) → OneHas (all_lists q) place
+  of_choice place pieces (inl h) m = inl (subst (λ z. Has z.others.items place) (sym is.filter_is) h)
+  of_choice place pieces (inr h) m =
+      inr (key_listed q place (path_keys q) h.key
+      (of_key h.kind h.key h.needed.ascii h.asked (subst (λ z. Asks z h.kind (length h.key)) (sym is.filter_is) h.asked) (h.needed.needed (letters path) m))
+      (subst (λ z. Has (bucket z.buckets.items h.key) place) (sym is.filter_is) h.listed))
+
+  -- a choice that matches is in one of the lists
+  of_choices : (i j : ℕ) (cs : List (Choice A)) → AreCovered o filter i j cs → MatchesChoice o cs (letters path) → (k : ℕ) × ((k < length cs) × (HoldsAt (λ c. Matches o c.pieces.items (letters path)) cs k × OneHas (all_lists q) (record { pattern = i; choice = j + k })))
+  of_choices i j [] h m = absurd m
+  of_choices i j (c ∷ cs) h (inl m) =
+      let at : j ≡ j + 0 = omega arith in
+      (0, (omega arith, ((λ d. m), subst (λ z. OneHas (all_lists q) (record { pattern = i; choice = z })) at (of_choice (record { pattern = i; choice = j }) c.pieces.items h.0 m))))
+  of_choices i j (c ∷ cs) h (inr m) =
+      let found = of_choices i (j + 1) cs h.1 m in
+      let l = found.1.0 in
+      let at : (j + 1) + found.0 ≡ j + suc found.0 = omega arith in
+      (suc found.0, (omega (arith, l), (found.1.1.0, subst (λ z. OneHas (all_lists q) (record { pattern = i; choice = z })) at found.1.1.1)))
+
+  -- each pattern that matches has a place in the lists, whose choice does
+  pub of_hit : (patterns : List (Pattern A)) → CoversAll o filter patterns → (i : ℕ) → IsHit o patterns (letters path) i → ((place : Place) → place.pattern ≡ i → IsHitAt o patterns (letters path) place → OneHas (all_lists q) place → ⊥) → ⊥
+  of_hit [] covers i hit none = let l = hit.0 in omega (arith, l)
+  of_hit (p ∷ ps) covers i hit none = covers i hit.0 p (λ covered. there (of_choices i 0 own.choices.items covered (hit.1 p)))
     where
-      here : Has (in_bucket q key) i
-      here = subst (λ z. Has (bucket z.buckets.items key) i) (sym is.filter_is) listed
+      own : Pattern A
+      own = slice_index_or (p ∷ ps) i p
 
-      -- a name that ends so has this suffix
-      suffix : (front : List (List ℕ)) (name : List ℕ) → components o.separators path ≡ front ++ name ∷ [] → (start end : List ℕ) → AllByRecursion (λ b. b < 0x80) end → (before : List (List ℕ)) → components o.separators (letters path) ≡ before ++ (start ++ end) ∷ [] → (first : List ℕ) × (name ≡ first ++ end)
-      suffix front name parts start end low before e =
-          let n = name_read front name parts before (start ++ end) e in
-          ends_itself formed letters laws o.separators name start end n.0 low n.1
-
-      its_extension : (start : List ℕ) (before : List (List ℕ)) → components o.separators (letters path) ≡ before ++ (start ++ 0x2E ∷ key) ∷ [] → LacksDot key → filter.extensions ≡ true → (extension : Option (Bor (List ℕ))) → MatchOption extension (filter.extensions ≡ true → LacksExtension (components o.separators path)) (λ text. IsExtension (components o.separators path) text.now) → MatchOption extension ⊥ (λ text. Has (in_bucket q text.now) i)
-      its_extension start before e lacks a None m =
-          let low : 0x2E < 0x80 = omega arith in
-          let none = m a in
-          let ends = suffix none.before none.name none.joined start (0x2E ∷ key) (low, ascii) before e in
-          has_dot ends.0 key (subst LacksDot ends.1 none.lacks)
-      its_extension start before e lacks a (Some text) m =
-          let low : 0x2E < 0x80 = omega arith in
-          let ends = suffix m.before (m.start ++ 0x2E ∷ text.now) m.joined start (0x2E ∷ key) (low, ascii) before e in
-          subst (λ z. Has (in_bucket q z) i) (sym (one_extension m.start ends.0 text.now key ends.1 m.lacks lacks)) here
-
-      by_kind : (k : Kind) → Asks filter k (length key) → Asks q.filter.now k (length key) → HasKey o k (letters path) key → OneHas (left_lists q stage.Others) i
-      by_kind kind.Path asks a e =
-          let same : q.path.now ≡ key = is.path_is ∙ itself formed letters laws o.separators path key f ascii e in
-          inr (list_asked q i q.filter.now.paths (in_bucket q q.path.now) (with_list q.filter.now.names (in_bucket q q.name.now) (of_parts q i)) a (subst (λ z. Has (in_bucket q z) i) (sym same) here))
-      by_kind kind.Name asks a e =
-          let last = is.name_is (inl asks) in
-          let n = name_read last.0 q.name.now last.1 e.0 key e.1 in
-          let same : q.name.now ≡ key = itself formed letters laws o.separators q.name.now key n.0 ascii n.1 in
-          inr (after_list q i q.filter.now.paths (in_bucket q q.path.now) (with_list q.filter.now.names (in_bucket q q.name.now) (of_parts q i)) (list_asked q i q.filter.now.names (in_bucket q q.name.now) (of_parts q i) a (subst (λ z. Has (in_bucket q z) i) (sym same) here)))
-      by_kind kind.Component asks a e =
-          let h = part_itself formed letters laws o.separators (components o.separators path) e.0 e.1.0 key reading.formed_each ascii (sym reading.are ∙ e.1.1) in
-          let parts : components q.separators q.path.now ≡ h.0 ++ key ∷ h.1.0 = ap (λ z. components z q.path.now) is.separators_are ∙ ap (components o.separators) is.path_is ∙ h.1.1 in
-          of_names q i (parts_asked q i q.filter.now.components a (of_part q i (components q.separators q.path.now) h.0 h.1.0 key parts here))
-      by_kind kind.Extension asks a e =
-          of_names q i (after_parts q i q.filter.now.components (of_extension q i q.extension (suffix_lists q q.filter.now.lengths.items) (its_extension e.1.0 e.1.1.0 e.1.1.1 e.0 asks q.extension is.extension_is)))
-      by_kind kind.Suffix asks a e =
-          let last = is.name_is (inr (length key, asks)) in
-          let ends = suffix last.0 q.name.now last.1 e.0 key ascii e.1.0 e.1.1 in
-          of_names q i (after_parts q i q.filter.now.components (after_extension q i q.extension (suffix_lists q q.filter.now.lengths.items) (of_suffix q i q.filter.now.lengths.items (length key) ends.0 key ends.1 refl a here)))
-
-  of_choice : (pieces : List (Piece (Part A))) → IsCovered o filter i pieces → Matches o pieces (letters path) → OneHas (left_lists q stage.Others) i
-  of_choice pieces (inl h) m = inl (subst (λ z. Has z.others.items i) (sym is.filter_is) h)
-  of_choice pieces (inr h) m = of_key h.kind h.key h.needed.ascii h.asked (h.needed.needed (letters path) m) h.listed
-
-  of_choices : (cs : List (Choice A)) → AreCovered o filter i cs → MatchesChoice o cs (letters path) → OneHas (left_lists q stage.Others) i
-  of_choices [] h m = absurd m
-  of_choices (c ∷ cs) h (inl m) = of_choice c.pieces.items h.0 m
-  of_choices (c ∷ cs) h (inr m) = of_choices cs h.1 m
-
-  -- each pattern that matches is in one of the lists
-  pub of_hit : (patterns : List (Pattern A)) → CoversAll o filter patterns → IsHit o patterns (letters path) i → OneHas (left_lists q stage.Others) i
-  of_hit patterns covers hit = decided (one_or_not (left_lists q stage.Others) i)
-    where
-      some : (ps : List (Pattern A)) → i < length ps → (HoldsAt (λ p. (AreCovered o filter i p.choices.items → ⊥) → ⊥) ps i) → HoldsAt (λ p. MatchesChoice o p.choices.items (letters path)) ps i → (OneHas (left_lists q stage.Others) i → ⊥) → ⊥
-      some [] l c m n = omega (arith, l)
-      some (p ∷ ps) l c m n = c p (λ covered. n (of_choices (slice_index_or (p ∷ ps) i p).choices.items covered (m p)))
-
-      decided : OneHas (left_lists q stage.Others) i ⊎ (OneHas (left_lists q stage.Others) i → ⊥) → OneHas (left_lists q stage.Others) i
-      decided (inl h) = h
-      decided (inr n) = absurd (some patterns hit.0 (covers i hit.0) hit.1 n)
+      there : (k : ℕ) × ((k < length own.choices.items) × (HoldsAt (λ c. Matches o c.pieces.items (letters path)) own.choices.items k × OneHas (all_lists q) (record { pattern = i; choice = 0 + k }))) → ⊥
+      there found =
+          let at : 0 + found.0 ≡ found.0 = omega arith in
+          none (record { pattern = i; choice = found.0 }) refl
+          (hit.0, at_read (p ∷ ps) (λ q. (found.0 < length q.choices.items) × HoldsAt (λ c. Matches o c.pieces.items (letters path)) q.choices.items found.0) i own hit.0 (same_read (p ∷ ps) i p own hit.0) (found.1.0, found.1.1.0))
+          (subst (λ z. OneHas (all_lists q) (record { pattern = i; choice = z })) at found.1.1.1)

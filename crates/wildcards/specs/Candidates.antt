@@ -1,26 +1,27 @@
--- The lists of indices that a path is matched with: only private contracts name this.
-use Rattle.std.specs.Prelude.{◌≡◌, ◌-◌, ◌⊎◌, ℕ, Bool, List, [], ◌∷◌, ◌++◌, map, length, drop, if◌then◌else◌, true, Option, Some, None, MatchOption}
+-- The places that a path is matched with: only private contracts name this.
+use Rattle.std.specs.Prelude.{◌≡◌, ◌-◌, ◌<◌, ◌⊎◌, ◌||◌, nat_eq, ℕ, Bool, List, [], ◌∷◌, ◌++◌, length, drop, if◌then◌else◌, true, false, Option, Some, None, MatchOption}
 use denote.Ref.{Bor}
 use Rattle.wildcards.specs.declared.candidates.Query.{Query}
 use Rattle.wildcards.specs.declared.candidates.Stage.{Stage}
 use Rattle.wildcards.specs.declared.candidates.Stage.TheVariants as stage
 use Rattle.wildcards.specs.declared.filter.Filter.{Filter}
+use Rattle.wildcards.specs.declared.filter.Place.{Place}
 use Rattle.wildcards.specs.declared.separators.Separators.{Separators}
 use Rattle.wildcards.specs.Components.{components}
 use Rattle.wildcards.specs.Extensions.{LacksExtension, IsExtension}
 use Rattle.wildcards.specs.Filters.{AsksName}
 use Rattle.wildcards.specs.Keys.{EndsIn}
 use Rattle.wildcards.specs.Sets.{Has}
-use Rattle.wildcards.specs.Tables.{bucket}
+use Rattle.wildcards.specs.Tables.{bucket, slot_of}
 
--- one of the lists has the index
-abbrev pub OneHas : List (List ℕ) → ℕ → Type 0
+-- one of the lists has the element
+abbrev pub OneHas : {X : Type 0} → List (List X) → X → Type 0
 OneHas [] i = ⊥
 OneHas (xs ∷ lists) i = Has xs i ⊎ OneHas lists i
 
--- the lists, with one before them if that is asked for
-abbrev pub with_list : Bool → List ℕ → List (List ℕ) → List (List ℕ)
-with_list asked list lists = if asked then list ∷ lists else lists
+-- the keys, with one before them if that is asked for
+abbrev pub with_key : Bool → List ℕ → List (List ℕ) → List (List ℕ)
+with_key asked key keys = if asked then key ∷ keys else keys
 
 module _ {A : Type 0} where
   -- the query is of this filter and path
@@ -32,44 +33,65 @@ module _ {A : Type 0} where
     pub extension_is : MatchOption q.extension (filter.extensions ≡ true → LacksExtension (components s path)) (λ text. IsExtension (components s path) text.now)
 
   module _ (q : Query A) where
-    -- the list of a key
-    abbrev pub in_bucket : List ℕ → List ℕ
-    in_bucket key = bucket q.filter.now.buckets.items key
+    -- the suffixes of these lengths
+    abbrev pub suffix_keys : List ℕ → List (List ℕ)
+    suffix_keys [] = []
+    suffix_keys (n ∷ ns) = drop (length q.name.now - n) q.name.now ∷ suffix_keys ns
 
-    -- those of suffixes of these lengths
-    abbrev pub suffix_lists : List ℕ → List (List ℕ)
-    suffix_lists [] = []
-    suffix_lists (n ∷ ns) = in_bucket (drop (length q.name.now - n) q.name.now) ∷ suffix_lists ns
+    -- the extension, and others
+    abbrev pub extension_keys : Option (Bor (List ℕ)) → List (List ℕ) → List (List ℕ)
+    extension_keys None keys = keys
+    extension_keys (Some extension) keys = extension.now ∷ keys
 
-    -- that of the extension, and others
-    abbrev pub extension_lists : Option (Bor (List ℕ)) → List (List ℕ) → List (List ℕ)
-    extension_lists None lists = lists
-    extension_lists (Some extension) lists = in_bucket extension.now ∷ lists
+    -- the ends: the extension, and all suffixes
+    abbrev pub end_keys : List (List ℕ)
+    end_keys = extension_keys q.extension (suffix_keys q.filter.now.lengths.items)
 
-    -- those of ends: of the extension, and of all suffixes
-    abbrev pub end_lists : List (List ℕ)
-    end_lists = extension_lists q.extension (suffix_lists q.filter.now.lengths.items)
+    -- components, and ends
+    abbrev pub part_keys : Option (Bor (List ℕ)) → List (List ℕ)
+    part_keys None = end_keys
+    part_keys (Some rest) = components q.separators rest.now ++ end_keys
 
-    -- those of components, and of ends
-    abbrev pub part_lists : List (List ℕ) → List (List ℕ)
-    part_lists parts = map in_bucket parts ++ end_lists
+    -- the keys that aren't the whole path
+    abbrev pub name_keys : List (List ℕ)
+    name_keys = with_key q.filter.now.names q.name.now (if q.filter.now.components then components q.separators q.path.now ++ end_keys else end_keys)
 
-    abbrev pub part_lists_of : Option (Bor (List ℕ)) → List (List ℕ)
-    part_lists_of None = end_lists
-    part_lists_of (Some rest) = part_lists (components q.separators rest.now)
-
-    -- those of keys that aren't the whole path
-    abbrev pub name_lists : List (List ℕ)
-    name_lists = with_list q.filter.now.names (in_bucket q.name.now) (if q.filter.now.components then part_lists (components q.separators q.path.now) else end_lists)
+    abbrev pub path_keys : List (List ℕ)
+    path_keys = with_key q.filter.now.paths q.path.now name_keys
 
     -- all that are left at a stage
-    abbrev pub left_lists : Stage → List (List ℕ)
-    left_lists stage.Others = q.filter.now.others.items ∷ with_list q.filter.now.paths (in_bucket q.path.now) name_lists
-    left_lists stage.Path = with_list q.filter.now.paths (in_bucket q.path.now) name_lists
-    left_lists stage.Name = name_lists
-    left_lists (stage.Component rest) = part_lists_of rest
-    left_lists (stage.Suffix lengths) = suffix_lists lengths.now
+    abbrev pub left_keys : Stage → List (List ℕ)
+    left_keys stage.Path = path_keys
+    left_keys stage.Name = name_keys
+    left_keys (stage.Component rest) = part_keys rest
+    left_keys (stage.Suffix lengths) = suffix_keys lengths.now
 
-    -- the first of the lists, and the stage at which the others are left; None where there is none
-    abbrev pub IsNext : List (List ℕ) → Option (Bor (List ℕ) × Stage) → Type 0
-    IsNext lists result = MatchOption result (lists ≡ []) (λ next. lists ≡ next.0.now ∷ left_lists next.1)
+    -- the first of the keys, and the stage at which the others are left; None where there is none
+    abbrev pub IsNextKey : List (List ℕ) → Option (Bor (List ℕ) × Stage) → Type 0
+    IsNextKey keys result = MatchOption result (keys ≡ []) (λ next. keys ≡ next.0.now ∷ left_keys next.1)
+
+    -- the index of a key's bucket
+    abbrev pub slot_in : List ℕ → ℕ
+    slot_in key = slot_of (length q.filter.now.buckets.items) key
+
+    -- one of the keys has the bucket of this index
+    abbrev pub comes_again : ℕ → List (List ℕ) → Bool
+    comes_again slot [] = false
+    comes_again slot (key ∷ keys) = nat_eq (slot_in key) slot || comes_again slot keys
+
+    -- what the key's bucket has, unless a later key has the same
+    abbrev pub asked : List ℕ → List (List ℕ) → List Place
+    asked key later = if comes_again (slot_in key) later then [] else bucket q.filter.now.buckets.items key
+
+    -- the list of each key
+    abbrev pub key_lists : List (List ℕ) → List (List Place)
+    key_lists [] = []
+    key_lists (key ∷ keys) = asked key keys ∷ key_lists keys
+
+    -- all lists: that of the choices that need no key, and those of keys
+    abbrev pub all_lists : List (List Place)
+    all_lists = q.filter.now.others.items ∷ key_lists path_keys
+
+    -- the list of the first of the keys, and the stage at which the others are left; None where there is none
+    abbrev pub IsNext : List (List ℕ) → Option (Bor (List Place) × Stage) → Type 0
+    IsNext keys result = MatchOption result (keys ≡ []) (λ next. (length (left_keys next.1) < length keys) × (key_lists keys ≡ next.0.now ∷ key_lists (left_keys next.1)))

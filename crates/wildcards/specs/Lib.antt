@@ -1,5 +1,4 @@
 pub mod Ranges
-pub mod Pages
 pub mod Classes
 pub mod Components
 pub mod Wild
@@ -12,7 +11,6 @@ pub mod Steps
 pub mod Ends
 pub mod PathSteps
 pub mod Sets
-pub mod Ascending
 pub mod Tables
 pub mod Extensions
 pub mod Keys

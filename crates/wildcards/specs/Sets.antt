@@ -6,8 +6,8 @@ use Rattle.wildcards.specs.declared.pattern.Choice.{Choice}
 use Rattle.wildcards.specs.declared.set.Pattern.{Pattern}
 use Rattle.wildcards.specs.Match.{Matches}
 
--- the list has the number
-abbrev pub Has : List ℕ → ℕ → Type 0
+-- the list has the element
+abbrev pub Has : {X : Type 0} → List X → X → Type 0
 Has [] i = ⊥
 Has (x ∷ xs) i = (i ≡ x) ⊎ Has xs i
 
@@ -25,6 +25,11 @@ module _ {A : Type 0} where
   -- the pattern of this index matches
   abbrev pub IsHit : Options → List (Pattern A) → List ℕ → ℕ → Type 0
   IsHit o patterns path i = (i < length patterns) × HoldsAt (λ p. MatchesChoice o p.choices.items path) patterns i
+
+  -- exactly the indices whose pattern matches
+  pub record AreFound (o : Options) (patterns : List (Pattern A)) (path : List ℕ) (found : List ℕ) : Type 0 where
+    pub sound : (i : ℕ) → Has found i → IsHit o patterns path i
+    pub complete : (i : ℕ) → IsHit o patterns path i → Has found i
 
   -- exactly the indices whose pattern matches, ascending
   pub record AreHits (o : Options) (patterns : List (Pattern A)) (path : List ℕ) (found : List ℕ) : Type 0 where

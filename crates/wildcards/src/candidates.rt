@@ -1,23 +1,21 @@
-//! The patterns of a set that a path may match, list by list.
+//! The choices of a set that a path may match, list by list.
 ghost use Rattle.std.specs.Prelude.{◌≡◌, ◌∷◌, true, MatchOption};
 ghost use Rattle.wildcards.specs.Components.{components};
 ghost use Rattle.wildcards.specs.Extensions.{LacksExtension, IsExtension};
 ghost use Rattle.wildcards.specs.Keys.{EndsIn};
-ghost use Rattle.wildcards.specs.Candidates.{IsQuery, IsNext, left_lists, name_lists, part_lists_of, end_lists, suffix_lists};
+ghost use Rattle.wildcards.specs.Candidates.{IsQuery, IsNext, IsNextKey, asked, comes_again, left_keys, path_keys, name_keys, part_keys, end_keys, suffix_keys};
 
 use crate::component;
 use crate::component::{split_first, split_last};
-use crate::filter::Filter;
+use crate::filter::{Filter, Place};
 use crate::letters::Bytes;
 use crate::separators::Separators;
 use std::alloc::Allocator;
 
-/// Which lists are left. A list for keys of a kind is there only where there are such keys.
+/// Which lists are left. There are lists for keys of a kind only where there are such keys.
 #[derive(Clone, Copy)]
 pub(crate) enum Stage<'s, 'p> {
     /// All of them.
-    Others,
-    /// Those of keys.
     Path,
     /// Those of keys that aren't the whole path.
     Name,
@@ -78,29 +76,74 @@ impl<'s, 'p, A: Allocator> Query<'s, 'p, A> {
         }
     }
 
-    /// The next list of indices, and the stage after it.
+    /// The next list of places, and the stage after it.
     #[inline(always)]
-    pub fn next(&self, stage: Stage<'s, 'p>) -> Option<(&'s [usize], Stage<'s, 'p>)>
-        ensures { IsNext self.now (left_lists self.now stage.entry) result }
+    pub fn next(&self, stage: Stage<'s, 'p>) -> Option<(&'s [Place], Stage<'s, 'p>)>
+        ensures { IsNext self.now (left_keys self.now stage.entry) result }
+    {
+        let (key, more) = self.next_key(stage)?;
+        Some((self.asked(key, more), more))
+    }
+
+    /// The places of a key's bucket. It is handed out for the last key that has it, and for no other, so
+    /// that each place is handed out once.
+    #[inline(always)]
+    fn asked(&self, key: &[u8], later: Stage<'s, 'p>) -> &'s [Place]
+        ensures { result.now ≡ asked self.now key.now (left_keys self.now later.entry) }
+    {
+        let slot = self.filter.slot(key);
+        let places = self.filter.places(slot);
+        if places.is_empty() {
+            return &[];
+        }
+        if self.comes_again(slot, later) {
+            return &[];
+        }
+        places
+    }
+
+    /// Whether one of the keys that are left has the bucket of this index.
+    fn comes_again(&self, slot: usize, stage: Stage<'s, 'p>) -> bool
+        ensures { result ≡ comes_again self.now slot (left_keys self.now stage.entry) }
+    {
+        let mut left = stage;
+        while let Some((key, more)) = self.next_key(left) {
+            if self.filter.slot(key) == slot {
+                return true;
+            }
+            left = more;
+        }
+        false
+    }
+
+    /// The next key, and the stage after it.
+    #[inline(always)]
+    fn next_key(&self, stage: Stage<'s, 'p>) -> Option<(&'p [u8], Stage<'s, 'p>)>
+        ensures { IsNextKey self.now (left_keys self.now stage.entry) result }
     {
         match stage {
-            Stage::Others => Some((&self.filter.others, Stage::Path)),
-            Stage::Path => {
-                if self.filter.paths {
-                    return Some((self.filter.bucket(self.path), Stage::Name));
-                }
-                self.next_name()
-            }
+            Stage::Path => self.next_path(),
             Stage::Name => self.next_name(),
             Stage::Component(rest) => self.next_component(rest),
             Stage::Suffix(lengths) => self.next_suffix(lengths),
         }
     }
 
-    /// The next list after that of the whole path.
+    /// The next key, from the whole path on.
     #[inline(always)]
-    fn next_name(&self) -> Option<(&'s [usize], Stage<'s, 'p>)>
-        ensures { IsNext self.now (name_lists self.now) result }
+    fn next_path(&self) -> Option<(&'p [u8], Stage<'s, 'p>)>
+        ensures { IsNextKey self.now (path_keys self.now) result }
+    {
+        if self.filter.paths {
+            return Some((self.path, Stage::Name));
+        }
+        self.next_name()
+    }
+
+    /// The next key after the whole path.
+    #[inline(always)]
+    fn next_name(&self) -> Option<(&'p [u8], Stage<'s, 'p>)>
+        ensures { IsNextKey self.now (name_keys self.now) result }
     {
         let rest = if self.filter.components {
             Some(self.path)
@@ -108,45 +151,43 @@ impl<'s, 'p, A: Allocator> Query<'s, 'p, A> {
             None
         };
         if self.filter.names {
-            return Some((self.filter.bucket(self.name), Stage::Component(rest)));
+            return Some((self.name, Stage::Component(rest)));
         }
         self.next_component(rest)
     }
 
-    /// The next list of these components, and of ends.
+    /// The next key of these components, and of ends.
     #[inline(always)]
-    fn next_component(&self, rest: Option<&'p [u8]>) -> Option<(&'s [usize], Stage<'s, 'p>)>
-        ensures { IsNext self.now (part_lists_of self.now rest.entry) result }
+    fn next_component(&self, rest: Option<&'p [u8]>) -> Option<(&'p [u8], Stage<'s, 'p>)>
+        ensures { IsNextKey self.now (part_keys self.now rest.entry) result }
     {
         let Some(path) = rest else {
             return self.next_end();
         };
         let (component, more) = split_first::<Bytes>(self.separators, path);
-        Some((self.filter.bucket(component), Stage::Component(more)))
+        Some((component, Stage::Component(more)))
     }
 
-    /// The next list of ends.
+    /// The next key of ends.
     #[inline(always)]
-    fn next_end(&self) -> Option<(&'s [usize], Stage<'s, 'p>)>
-        ensures { IsNext self.now (end_lists self.now) result }
+    fn next_end(&self) -> Option<(&'p [u8], Stage<'s, 'p>)>
+        ensures { IsNextKey self.now (end_keys self.now) result }
     {
         let lengths = self.filter.lengths.as_slice();
         if let Some(extension) = self.extension {
-            return Some((self.filter.bucket(extension), Stage::Suffix(lengths)));
+            return Some((extension, Stage::Suffix(lengths)));
         }
         self.next_suffix(lengths)
     }
 
-    /// The next list of suffixes of these lengths.
+    /// The next suffix of these lengths.
     #[inline(always)]
-    fn next_suffix(&self, lengths: &'s [usize]) -> Option<(&'s [usize], Stage<'s, 'p>)>
-        ensures { IsNext self.now (suffix_lists self.now lengths.entry.now) result }
+    fn next_suffix(&self, lengths: &'s [usize]) -> Option<(&'p [u8], Stage<'s, 'p>)>
+        ensures { IsNextKey self.now (suffix_keys self.now lengths.entry.now) result }
     {
-        let Some((length, more)) = lengths.split_first() else {
-            return None;
-        };
+        let (length, more) = lengths.split_first()?;
         let at = self.name.len().saturating_sub(*length);
         let (_, suffix) = self.name.split_at(at);
-        Some((self.filter.bucket(suffix), Stage::Suffix(more)))
+        Some((suffix, Stage::Suffix(more)))
     }
 }

@@ -1,11 +1,10 @@
 //! Classes of letters.
-ghost use Rattle.std.specs.Prelude.{◌≡◌};
-ghost use Rattle.wildcards.specs.Pages.{ArePages};
-ghost use Rattle.wildcards.specs.Ranges.{is_in, AreOrdered, IsTable};
+ghost use Rattle.std.specs.Prelude.{◌≡◌, ℕ};
+ghost use Rattle.wildcards.specs.Ranges.{AreOrdered, IsTable};
 
-use crate::pages::{PAGE, Pages, has_bit, pages_of};
-use crate::range::{Range, in_order, is_in, is_within};
+use crate::range::{Range, in_order, is_in};
 use std::alloc::{AllocError, Allocator, Global};
+use std::sync::Arc;
 
 /// What a class is made of.
 #[derive(Drop)]
@@ -15,42 +14,21 @@ struct Table<A: Allocator> {
     ranges: Vec<Range, A>,
     // Whether it permits each letter of ASCII.
     ascii: [bool; 128],
-    pages: Pages<A>,
     ghost ordered: { AreOrdered ranges.items },
     ghost table: { IsTable negated ranges.items ascii },
-    ghost paged: { ArePages ranges.items pages.indices.items pages.words.items },
 }
 
-impl<A: Allocator> Table<A> {
-    /// Whether a letter is in one of the ranges.
-    #[inline(always)]
-    fn has(&self, letter: u32) -> bool
-        ensures { result ≡ is_in self.now.ranges.items letter }
-    {
-        let page = (letter / PAGE) as usize;
-        if page < self.pages.indices.len() {
-            let word = self.pages.words[self.pages.indices[page] as usize];
-            return has_bit(word, letter % PAGE);
-        }
-        is_within(&self.ranges, letter)
-    }
-}
-
-/// A class: the letters of its ranges or, if it is negated, all other letters. It is in one box, so that
-/// a pattern of literals, which has as much room for each letter, takes less memory.
+/// A class: the letters of its ranges or, if it is negated, all other letters. A clone shares its memory,
+/// which is eight bytes for each range and less than 256 more.
 ///
-/// A letter takes the same time whatever the number of ranges, unless one of them has letters from
-/// 0x11_0000 on: those letters take time in proportion to its logarithm.
-///
-/// A class of more than four ranges takes two bytes for each 128 letters from 0 to the last one, at most
-/// 17 KB, and 16 bytes for each 128 of them that it permits only in part, at most two for each range.
+/// A letter beyond ASCII takes time in proportion to the logarithm of the number of ranges.
 #[derive(Drop)]
 pub struct Class<A: Allocator = Global> {
-    table: Box<Table<A>, A>,
+    table: Arc<Table<A>, A>,
 }
 
 impl<A: Allocator> Class<A> {
-    ghost use Rattle.std.specs.Prelude.{◌≡◌, ℕ, IfOk};
+    ghost use Rattle.std.specs.Prelude.{IfOk};
     ghost use Rattle.wildcards.specs.Ranges.{permits};
     ghost use Rattle.wildcards.specs.Classes.{permitted};
 
@@ -80,15 +58,13 @@ impl<A: Allocator> Class<A> {
             ascii[at] = is_in(&ordered, at as u32) != negated;
             at += 1;
         }
-        let pages = pages_of(alloc, &ordered)?;
         let table = Table {
             negated,
             ranges: ordered,
             ascii,
-            pages,
         };
         Ok(Class {
-            table: Box::new(alloc, table)?,
+            table: Arc::new(alloc, table)?,
         })
     }
 
@@ -109,6 +85,23 @@ impl<A: Allocator> Class<A> {
         if letter < 128 {
             return self.table.ascii[letter as usize];
         }
-        self.table.has(letter) != self.table.negated
+        is_in(&self.table.ranges, letter) != self.table.negated
+    }
+}
+
+impl<A: Allocator> Clone for Class<A> {
+    ghost use Rattle.wildcards.specs.Classes.{AreAlike};
+
+    ghost is_clone = { AreAlike };
+
+    /// The same class, with the same memory.
+    ///
+    /// # Errors
+    ///
+    /// `AllocError` if there are 2<sup>63</sup> clones.
+    fn clone(&self) -> Result<Self, AllocError> {
+        Ok(Class {
+            table: Arc::try_clone(&self.table)?,
+        })
     }
 }

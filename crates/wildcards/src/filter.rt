@@ -1,6 +1,6 @@
-//! Which patterns of a set a path may match, by the keys that they need.
+//! Which choices of a set a path may match, by the keys that they need.
 ghost use Rattle.std.specs.Prelude.{◌≡◌, ◌⊎◌, true, length, OnOk, IfOk};
-ghost use Rattle.wildcards.specs.Tables.{slot_of, bucket};
+ghost use Rattle.wildcards.specs.Tables.{slot_of, places_at, bucket};
 ghost use Rattle.wildcards.specs.Sets.{Has};
 ghost use Rattle.wildcards.specs.Filters.{Asks, AsksName, Grows, IsCovered};
 
@@ -12,12 +12,19 @@ use crate::part::Part;
 use crate::piece::Piece;
 use std::alloc::{AllocError, Allocator};
 
-/// The indices of patterns in buckets, by their keys. Indices of different keys may be in one.
+/// Where a choice is: the index of its pattern, and its own in that.
+#[derive(Clone, Copy)]
+pub(crate) struct Place {
+    pub pattern: usize,
+    pub choice: usize,
+}
+
+/// The places of choices in buckets, by their keys. Places of different keys may be in one.
 #[derive(Drop)]
 pub(crate) struct Filter<A: Allocator> {
-    pub buckets: Vec<Vec<usize, A>, A>,
-    /// Those of patterns that need no key.
-    pub others: Vec<usize, A>,
+    pub buckets: Vec<Vec<Place, A>, A>,
+    /// Those of choices that need no key.
+    pub others: Vec<Place, A>,
     /// Which kinds of keys there are.
     pub paths: bool,
     pub names: bool,
@@ -25,17 +32,6 @@ pub(crate) struct Filter<A: Allocator> {
     pub extensions: bool,
     /// The lengths of the suffixes.
     pub lengths: Vec<usize, A>,
-}
-
-/// The index of a key's bucket. There are as many as a power of two, or none.
-#[inline(always)]
-fn slot<A: Allocator>(buckets: &[Vec<usize, A>], key: &[u8]) -> usize
-    ensures { result ≡ slot_of (length buckets.now) key.now }
-{
-    if buckets.len() == 0 {
-        return 0;
-    }
-    digest(key) as usize & (buckets.len() - 1)
 }
 
 /// The text of a key, if that is an extension.
@@ -69,13 +65,24 @@ impl<A: Allocator> Filter<A> {
         })
     }
 
-    /// The indices of a key's bucket.
+    /// The index of a key's bucket. There are as many as a power of two, or none.
     #[inline(always)]
-    pub fn bucket(&self, key: &[u8]) -> &[usize]
-        ensures { result.now ≡ bucket self.now.buckets.items key.now }
+    pub fn slot(&self, key: &[u8]) -> usize
+        ensures { result ≡ slot_of (length self.now.buckets.items) key.now }
+    {
+        let count = self.buckets.len();
+        if count == 0 {
+            return 0;
+        }
+        digest(key) as usize & (count - 1)
+    }
+
+    /// The places in the bucket of an index.
+    #[inline(always)]
+    pub fn places(&self, slot: usize) -> &[Place]
+        ensures { result.now ≡ places_at self.now.buckets.items slot }
     {
         let buckets = self.buckets.as_slice();
-        let slot = slot(buckets, key);
         if slot < buckets.len() {
             return buckets[slot].as_slice();
         }
@@ -112,42 +119,42 @@ impl<A: Allocator> Filter<A> {
         Ok(())
     }
 
-    /// Puts an index into a key's bucket.
-    fn list(&mut self, key: &[u8], index: usize) -> Result<(), AllocError>
-        ensures listed { OnOk result (Has self.new.others.items index
-            ⊎ Has (bucket self.new.buckets.items key.now) index) }
+    /// Puts a place into a key's bucket.
+    fn list(&mut self, key: &[u8], place: Place) -> Result<(), AllocError>
+        ensures listed { OnOk result (Has self.new.others.items place
+            ⊎ Has (bucket self.new.buckets.items key.now) place) }
         ensures grows { OnOk result (Grows self.old self.new) }
     {
-        let slot = slot(&self.buckets, key);
+        let slot = self.slot(key);
         if slot < self.buckets.len() {
-            self.buckets[slot].push(index)?;
+            self.buckets[slot].push(place)?;
             return Ok(());
         }
-        self.others.push(index)?;
+        self.others.push(place)?;
         Ok(())
     }
 
-    /// Adds the index of a pattern, one of whose choices has these pieces; the extension by which they
-    /// are listed, if they are by one.
+    /// Adds the place of a choice that has these pieces; the extension by which it is listed, if it is
+    /// by one.
     pub fn add(
         &mut self,
         alloc: A,
         options: Options,
         pieces: &[Piece<Part<A>>],
-        index: usize,
+        place: Place,
     ) -> Result<Option<Vec<u8, A>>, AllocError>
     where
         A: Copy,
-        ensures covered { OnOk result (IsCovered options self.new index pieces.now) }
+        ensures covered { OnOk result (IsCovered options self.new place pieces.now) }
         ensures grows { OnOk result (Grows self.old self.new) }
     {
         let Some(key) = key_of(alloc, options, pieces)? else {
-            self.others.push(index)?;
+            self.others.push(place)?;
             return Ok(None);
         };
         let text = key.text.as_slice();
         self.note(key.kind, text.len())?;
-        self.list(text, index)?;
+        self.list(text, place)?;
         Ok(if_extension(key))
     }
 }

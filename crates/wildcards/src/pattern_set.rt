@@ -1,23 +1,24 @@
 //! Sets of patterns that a path is matched with at once.
-ghost use Rattle.std.specs.Prelude.{◌≡◌, ◌↔◌, ℕ, IsTrue, IfOk, IfSome, OnOk};
+ghost use Rattle.std.specs.Prelude.{◌≡◌, ◌↔◌, ℕ, [], IsTrue, IfOk, IfSome, OnOk, OnErr};
 ghost use Rattle.wildcards.specs.Components.{components};
 ghost use Rattle.wildcards.specs.Enough.{AreEnough, IsEnough};
 ghost use Rattle.wildcards.specs.Extensions.{IsExtension};
-ghost use Rattle.wildcards.specs.Filters.{AddsHits, AreCovered, CoversAll, Grows};
-ghost use Rattle.wildcards.specs.Sets.{Ascends, Has, IsHit, AreHits};
+ghost use Rattle.wildcards.specs.Filters.{AddsHits, AreCovered, CoversAll, Grows, IsHitAt};
+ghost use Rattle.wildcards.specs.Sets.{Has, IsHit, AreFound, AreHits};
 
 use crate::candidates::{Query, Stage};
 use crate::enough::{if_enough, is_text};
-use crate::filter::Filter;
-use crate::indices::add_ascending;
+use crate::filter::{Filter, Place};
 use crate::letters::Letters;
 use crate::options::Options;
+use crate::path::matches;
 use crate::pattern::Choice;
-use crate::set::{Pattern, is_hit};
+use crate::set::Pattern;
 use std::alloc::{AllocError, Allocator, Global};
 
-/// A set of patterns. A path is matched only with those whose literal parts it has: each is listed
-/// by its whole text, by a component, or by the extension or a suffix of its last component.
+/// A set of patterns. A path is matched only with those choices of patterns whose literal parts it has:
+/// each is listed once, by its whole text, by a component, or by the extension or a suffix of its last
+/// component. So a path takes at most the time that it takes with each choice by itself.
 #[derive(Drop)]
 pub struct PatternSet<A: Allocator = Global> {
     options: Options,
@@ -29,65 +30,96 @@ pub struct PatternSet<A: Allocator = Global> {
     ghost texts: { AreEnough options patterns.items enough.items },
 }
 
-/// How many buckets there are for so many patterns: a power of two, most of them empty, since a wrong
+/// How many choices there are.
+fn choice_count<A: Allocator>(patterns: &[Pattern<A>]) -> usize {
+    let mut count: usize = 0;
+    for pattern in patterns {
+        count = count.saturating_add(pattern.choices.len());
+    }
+    count
+}
+
+/// How many buckets there are for so many choices: a power of two, most of them empty, since a wrong
 /// candidate costs a match.
-fn bucket_count(patterns: usize) -> usize {
+fn bucket_count(choices: usize) -> usize {
     let mut count = 64;
-    while count < patterns && count < 0x1000_0000 {
+    while count < choices && count < 0x1000_0000 {
         count *= 2;
     }
     count * 4
 }
 
-/// Adds the index of a pattern of these choices to a filter; the extension that is enough for a path to
+/// Adds the choices of the pattern of an index to a filter; the extension that is enough for a path to
 /// match it, if there is one.
 fn add_choices<A: Allocator + Copy>(
     filter: &mut Filter<A>,
     alloc: A,
     options: Options,
     choices: &[Choice<A>],
-    index: usize,
+    pattern: usize,
 ) -> Result<Option<Vec<u8, A>>, AllocError>
-    ensures covered { OnOk result (AreCovered options filter.new index choices.entry.now) }
+    ensures covered { OnOk result (AreCovered options filter.new pattern 0 choices.entry.now) }
     ensures grows { OnOk result (Grows filter.old filter.new) }
     ensures enough { IfOk result (λ text. IfSome text (λ text. IsEnough options choices.entry.now
         text.items)) }
 {
     let mut extension = None;
     let mut left = choices;
-    while let Some((choice, rest)) = left.split_first() {
-        extension = filter.add(alloc, options, &choice.pieces, index)?;
+    while let Some((first, rest)) = left.split_first() {
+        let choice = choices.len() - left.len();
+        extension = filter.add(alloc, options, &first.pieces, Place { pattern, choice })?;
         left = rest;
     }
     Ok(if_enough(options, choices, extension))
 }
 
 impl<A: Allocator> PatternSet<A> {
-    /// Whether the pattern of an index matches a path of this extension.
+    /// Whether the choice of a place matches a path.
     #[inline(always)]
-    fn is_hit<L: Letters>(&self, path: &[u8], extension: Option<&[u8]>, index: usize) -> bool
-        requires formed { L.formed path.now }
-        requires extension { IfSome extension (λ text. IsExtension (components
-            self.now.options.separators path.now) text.now) }
-        ensures { IsTrue result ↔ IsHit self.now.options self.now.patterns.items
-            (L.letters path.now) index }
+    fn is_hit_at<L: Letters>(&self, path: &[u8], place: Place) -> bool
+        requires { L.formed path.now }
+        ensures { IsTrue result ↔ IsHitAt self.now.options self.now.patterns.items
+            (L.letters path.now) place }
     {
-        is_text(&self.enough, index, extension)
-            || is_hit::<L, A>(self.options, &self.patterns, path, index)
+        if place.pattern < self.patterns.len() {
+            let choices = self.patterns[place.pattern].choices.as_slice();
+            if place.choice < choices.len() {
+                return matches::<L, A>(self.options, &choices[place.choice].pieces, path);
+            }
+        }
+        false
     }
 
-    /// Whether the pattern of one of the indices matches a path of this extension.
+    /// Whether a pattern matches a path of this extension: if the choice of this place does, and only
+    /// if one of its choices does.
     #[inline(always)]
-    fn any_hit<L: Letters>(&self, path: &[u8], extension: Option<&[u8]>, indices: &[usize]) -> bool
+    fn is_hit<L: Letters>(&self, path: &[u8], extension: Option<&[u8]>, place: Place) -> bool
         requires formed { L.formed path.now }
         requires extension { IfSome extension (λ text. IsExtension (components
             self.now.options.separators path.now) text.now) }
-        ensures { IsTrue result ↔ ((i : ℕ) × (Has indices.entry.now i
-            × IsHit self.now.options self.now.patterns.items (L.letters path.now) i)) }
+        ensures sound { IsTrue result → IsHit self.now.options self.now.patterns.items
+            (L.letters path.now) place.pattern }
+        ensures complete { IsHitAt self.now.options self.now.patterns.items
+            (L.letters path.now) place → IsTrue result }
     {
-        let mut left = indices;
-        while let Some((index, rest)) = left.split_first() {
-            if self.is_hit::<L>(path, extension, *index) {
+        is_text(&self.enough, place.pattern, extension) || self.is_hit_at::<L>(path, place)
+    }
+
+    /// Whether a pattern matches a path of this extension: if the choice of one of the places does, and
+    /// only if one of its choices does.
+    #[inline(always)]
+    fn any_hit<L: Letters>(&self, path: &[u8], extension: Option<&[u8]>, places: &[Place]) -> bool
+        requires formed { L.formed path.now }
+        requires extension { IfSome extension (λ text. IsExtension (components
+            self.now.options.separators path.now) text.now) }
+        ensures sound { IsTrue result → (i : ℕ) × IsHit self.now.options self.now.patterns.items
+            (L.letters path.now) i }
+        ensures complete { (place : Place) → Has places.entry.now place → IsHitAt self.now.options
+            self.now.patterns.items (L.letters path.now) place → IsTrue result }
+    {
+        let mut left = places;
+        while let Some((place, rest)) = left.split_first() {
+            if self.is_hit::<L>(path, extension, *place) {
                 return true;
             }
             left = rest;
@@ -95,29 +127,50 @@ impl<A: Allocator> PatternSet<A> {
         false
     }
 
-    /// Adds those of the indices whose pattern matches a path of this extension to an ascending list.
+    /// Appends the indices of patterns that match a path of this extension: of those whose choice of one
+    /// of the places does.
     #[inline(always)]
     fn add_hits<L: Letters, B: Allocator>(
         &self,
         path: &[u8],
         extension: Option<&[u8]>,
-        indices: &[usize],
+        places: &[Place],
         found: &mut Vec<usize, B>,
     ) -> Result<(), AllocError>
         requires formed { L.formed path.now }
         requires extension { IfSome extension (λ text. IsExtension (components
             self.now.options.separators path.now) text.now) }
-        requires ascends { Ascends found.old.items }
-        ensures ascends { OnOk result (Ascends found.new.items) }
-        ensures has { OnOk result (AddsHits self.now.options self.now.patterns.items
-            (L.letters path.now) indices.entry.now found.old.items found.new.items) }
+        ensures { OnOk result (AddsHits self.now.options self.now.patterns.items
+            (L.letters path.now) places.entry.now found.old.items found.new.items) }
     {
-        let mut left = indices;
-        while let Some((index, rest)) = left.split_first() {
+        let mut left = places;
+        while let Some((place, rest)) = left.split_first() {
             left = rest;
-            if self.is_hit::<L>(path, extension, *index) {
-                add_ascending(found, *index)?;
+            if self.is_hit::<L>(path, extension, *place) {
+                found.push(place.pattern)?;
             }
+        }
+        Ok(())
+    }
+
+    /// Puts the indices of the patterns that match a whole path into an empty vector, in any order.
+    #[inline(always)]
+    fn add_matches<L: Letters, B: Allocator>(
+        &self,
+        path: &[u8],
+        found: &mut Vec<usize, B>,
+    ) -> Result<(), AllocError>
+        requires formed { L.formed path.now }
+        requires empty { found.old.items ≡ [] }
+        ensures { OnOk result (AreFound self.now.options self.now.patterns.items
+            (L.letters path.now) found.new.items) }
+    {
+        let query = Query::new(&self.filter, self.options.separators, path);
+        self.add_hits::<L, B>(path, query.extension, &self.filter.others, found)?;
+        let mut stage = Stage::Path;
+        while let Some((places, more)) = query.next(stage) {
+            self.add_hits::<L, B>(path, query.extension, places, found)?;
+            stage = more;
         }
         Ok(())
     }
@@ -142,7 +195,7 @@ impl<A: Allocator> PatternSet<A> {
         A: Copy,
         ensures { IfOk result (λ set. (set.options ≡ options) × (set.patterns ≡ patterns)) }
     {
-        let mut filter = Filter::new(alloc, bucket_count(patterns.len()))?;
+        let mut filter = Filter::new(alloc, bucket_count(choice_count(&patterns)))?;
         let mut enough = Vec::new(alloc);
         enough.reserve_exact(patterns.len())?;
         let mut at = 0;
@@ -197,9 +250,12 @@ impl<A: Allocator> PatternSet<A> {
             (L.letters path.now) i) }
     {
         let query = Query::new(&self.filter, self.options.separators, path);
-        let mut stage = Stage::Others;
-        while let Some((indices, more)) = query.next(stage) {
-            if self.any_hit::<L>(path, query.extension, indices) {
+        if self.any_hit::<L>(path, query.extension, &self.filter.others) {
+            return true;
+        }
+        let mut stage = Stage::Path;
+        while let Some((places, more)) = query.next(stage) {
+            if self.any_hit::<L>(path, query.extension, places) {
                 return true;
             }
             stage = more;
@@ -212,7 +268,7 @@ impl<A: Allocator> PatternSet<A> {
     ///
     /// # Errors
     ///
-    /// `AllocError` if memory is refused.
+    /// `AllocError` if memory is refused: the vector is empty then.
     ///
     /// ```
     /// use wildcards::{Bytes, Choice, Options, Pattern, PatternSet, Piece, Separators};
@@ -236,16 +292,21 @@ impl<A: Allocator> PatternSet<A> {
         found: &mut Vec<usize, B>,
     ) -> Result<(), AllocError>
         requires { L.formed path.now }
-        ensures { OnOk result (AreHits self.now.options self.now.patterns.items
+        ensures hits { OnOk result (AreHits self.now.options self.now.patterns.items
             (L.letters path.now) found.new.items) }
+        ensures none { OnErr result (found.new.items ≡ []) }
     {
         found.clear();
-        let query = Query::new(&self.filter, self.options.separators, path);
-        let mut stage = Stage::Others;
-        while let Some((indices, more)) = query.next(stage) {
-            self.add_hits::<L, B>(path, query.extension, indices, found)?;
-            stage = more;
+        match self.add_matches::<L, B>(path, found) {
+            Ok(()) => {
+                found.sort_unstable();
+                found.dedup();
+                Ok(())
+            }
+            Err(error) => {
+                found.clear();
+                Err(error)
+            }
         }
-        Ok(())
     }
 }

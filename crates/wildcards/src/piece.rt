@@ -3,7 +3,7 @@ ghost use Rattle.std.specs.Prelude.{◌↔◌, IsTrue};
 ghost use Rattle.wildcards.specs.Match.{Fits};
 
 use crate::class::Class;
-use std::alloc::{Allocator, Global};
+use std::alloc::{AllocError, Allocator, Global};
 
 /// A wildcard, or what matches one letter or one component.
 #[derive(Clone, Copy, Drop)]
@@ -35,6 +35,25 @@ impl<A: Allocator> Item<A> {
             Item::Any => true,
             Item::Literal(own) => *own == letter,
             Item::OneOf(class) => class.permits(letter),
+        }
+    }
+}
+
+impl<A: Allocator> Clone for Item<A> {
+    ghost use Rattle.wildcards.specs.Classes.{IsItemClone};
+
+    ghost is_clone = { IsItemClone };
+
+    /// The same item. A class shares its memory.
+    ///
+    /// # Errors
+    ///
+    /// As for a class.
+    fn clone(&self) -> Result<Self, AllocError> {
+        match self {
+            Item::Any => Ok(Item::Any),
+            Item::Literal(letter) => Ok(Item::Literal(*letter)),
+            Item::OneOf(class) => Ok(Item::OneOf(class.clone()?)),
         }
     }
 }

@@ -59,20 +59,3 @@ pub(crate) fn is_in(ranges: &[Range], letter: u32) -> bool
     }
     false
 }
-
-/// Whether a letter is in one of the ranges, whose first and last letters ascend. One after all of
-/// them isn't sought.
-pub(crate) fn is_within(ranges: &[Range], letter: u32) -> bool
-    requires { AreOrdered ranges.now }
-    ensures { result ≡ is_in ranges.now letter }
-{
-    let count = ranges.len();
-    if count == 0 {
-        return false;
-    }
-    let last = ranges[count - 1].last;
-    if last < letter {
-        return false;
-    }
-    is_in(ranges, letter)
-}

@@ -9,7 +9,7 @@ use Rattle.os_ignore.specs.Verdicts as rule
 use Rattle.os_ignore.proofs.lemmas.Cuts.{cut_at}
 use Rattle.os_ignore.proofs.lemmas.Rests.{take_front}
 
-at_front : (front back : List ℕ) (s : ℕ) → get_or (front ++ s ∷ back) (length front) 0 ≡ s
+pub at_front : (front back : List ℕ) (s : ℕ) → get_or (front ++ s ∷ back) (length front) 0 ≡ s
 at_front [] back s = refl
 at_front (x ∷ front) back s = at_front front back s
 

@@ -2,8 +2,8 @@ use Rattle.std.proofs.Common.{length}
 use Rattle.wildcards.proofs.Covers.{CoversSoFar}
 use Rattle.wildcards.proofs.pattern_set.add_choices.Given as goal
 
-abbrev pub invariant-loop-choice : goal.invariant-loop-choice
-invariant-loop-choice g l = CoversSoFar l.options l.fn.filter l.index l.choices l.filter l.left
+abbrev pub invariant-loop-first : goal.invariant-loop-first
+invariant-loop-first g l = CoversSoFar l.options l.fn.filter l.pattern l.choices l.filter l.left
 
-abbrev pub decreases-loop-choice : goal.decreases-loop-choice
-decreases-loop-choice g l = length l.left
+abbrev pub decreases-loop-first : goal.decreases-loop-first
+decreases-loop-first g l = length l.left

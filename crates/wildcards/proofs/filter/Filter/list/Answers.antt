@@ -1,7 +1,6 @@
 use Rattle.std.proofs.Common.{◌<◌, ◌∙◌, ◌∷◌, ◌++◌, [], inl, inr, length, refl, ap, sym, subst, arith}
 use Rattle.wildcards.specs.Sets.{Has}
-use Rattle.wildcards.specs.Tables.{slot_of}
-use Rattle.wildcards.proofs.Ascending.{has_pushed}
+use Rattle.wildcards.proofs.Found.{has_pushed}
 use Rattle.wildcards.proofs.Covers.{more_others, more_listed, pushed_all, pushed_one}
 use Rattle.wildcards.proofs.filter.Filter.list.Goals as goal
 
@@ -12,7 +11,7 @@ returns-then-slot-len-clause-listed g c =
     let len = c.len.ensures in
     let size = c.args.self.now.buckets.ok.0 in
     let l : c.slot-slot.result < length bs = omega (arith, below, len, size) in
-    inr (pushed_one bs _ c.slot-slot.result c.args.index c.push.new.self c.index_mut.result.now l refl (c.in_ok-push.ensures.items ∙ ap (λ z. z.items ++ c.args.index ∷ []) c.index_mut.ensures.value) c.args.key.now (c.slot-slot.ensures ∙ ap (λ z. slot_of (length z) c.args.key.now) c.deref.ensures.value))
+    inr (pushed_one bs _ c.slot-slot.result c.args.place c.push.new.self c.index_mut.result.now l refl (c.in_ok-push.ensures.items ∙ ap (λ z. z.items ++ c.args.place ∷ []) c.index_mut.ensures.value) c.args.key.now (c.slot-slot.ensures))
 
 pub returns-then-slot-len-clause-grows : goal.returns-then-slot-len-clause-grows
 returns-then-slot-len-clause-grows g c =
@@ -21,10 +20,10 @@ returns-then-slot-len-clause-grows g c =
     let len = c.len.ensures in
     let size = c.args.self.now.buckets.ok.0 in
     let l : c.slot-slot.result < length bs = omega (arith, below, len, size) in
-    more_listed c.args.self.now _ (pushed_all bs _ c.slot-slot.result c.args.index c.push.new.self c.index_mut.result.now l refl (c.in_ok-push.ensures.items ∙ ap (λ z. z.items ++ c.args.index ∷ []) c.index_mut.ensures.value))
+    more_listed c.args.self.now _ (pushed_all bs _ c.slot-slot.result c.args.place c.push.new.self c.index_mut.result.now l refl (c.in_ok-push.ensures.items ∙ ap (λ z. z.items ++ c.args.place ∷ []) c.index_mut.ensures.value))
 
 pub returns-clause-listed : goal.returns-clause-listed
-returns-clause-listed g c = inl (subst (λ z. Has z c.args.index) (sym c.in_ok-push-2.ensures.items) (has_pushed c.args.self.now.others.items c.args.index))
+returns-clause-listed g c = inl (subst (λ z. Has z c.args.place) (sym c.in_ok-push-2.ensures.items) (has_pushed c.args.self.now.others.items c.args.place))
 
 pub returns-clause-grows : goal.returns-clause-grows
-returns-clause-grows g c = more_others c.args.self.now _ c.args.index c.in_ok-push-2.ensures.items
+returns-clause-grows g c = more_others c.args.self.now _ c.args.place c.in_ok-push-2.ensures.items

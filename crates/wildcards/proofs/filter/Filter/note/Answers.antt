@@ -1,6 +1,6 @@
 use Rattle.std.proofs.Common.{sym, subst}
 use Rattle.wildcards.specs.Sets.{Has}
-use Rattle.wildcards.proofs.Ascending.{has_pushed}
+use Rattle.wildcards.proofs.Found.{has_pushed}
 use Rattle.wildcards.proofs.Covers.{asks_suffix, more_lengths}
 use Rattle.wildcards.proofs.filter.Filter.note.Goals as goal
 

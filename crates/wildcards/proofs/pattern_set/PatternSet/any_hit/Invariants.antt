@@ -1,11 +1,11 @@
-use Rattle.std.proofs.Common.{ℕ, length}
-use Rattle.wildcards.specs.Sets.{Has, IsHit}
+use Rattle.std.proofs.Common.{length}
+use Rattle.wildcards.specs.declared.filter.Place.{Place}
+use Rattle.wildcards.specs.Filters.{IsHitAt}
+use Rattle.wildcards.specs.Sets.{Has}
 use Rattle.wildcards.proofs.pattern_set.PatternSet.any_hit.Given as goal
 
-abbrev pub invariant-loop-index : goal.invariant-loop-index
-invariant-loop-index g l =
-    ((i : ℕ) → Has l.left i → Has l.indices i)
-    × ((i : ℕ) → Has l.indices i → IsHit l.self.options l.self.patterns.items (g.L.Letters.letters l.path) i → Has l.left i)
+abbrev pub invariant-loop-place : goal.invariant-loop-place
+invariant-loop-place g l = (place : Place) → Has l.places place → IsHitAt l.self.options l.self.patterns.items (g.L.Letters.letters l.path) place → Has l.left place
 
-abbrev pub decreases-loop-index : goal.decreases-loop-index
-decreases-loop-index g l = length l.left
+abbrev pub decreases-loop-place : goal.decreases-loop-place
+decreases-loop-place g l = length l.left

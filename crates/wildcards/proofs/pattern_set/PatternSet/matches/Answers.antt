@@ -1,13 +1,12 @@
-use Rattle.wildcards.proofs.Adding.{none_found, list_found}
-use Rattle.wildcards.proofs.Queries.{of_hit}
+use Rattle.std.proofs.Common.{subst, sym}
+use Rattle.std.proofs.lemmas.List.Filters.{dedup_is}
+use Rattle.wildcards.specs.Sets.{AreHits}
+use Rattle.wildcards.proofs.Found.{in_order}
 use Rattle.wildcards.proofs.pattern_set.PatternSet.matches.Goals as goal
 
-pub loop-indices-init : goal.loop-indices-init
-loop-indices-init g c =
-    none_found c.args.self.now.options c.args.self.now.patterns.items (g.L.Letters.letters c.args.path.now) _ _ c.clear.ensures.items
-    (λ i hit. of_hit g.L.Letters.formed g.L.Letters.letters g.met.L.Letters.laws c.args.self.now.options c.new-query.result c.args.self.now.filter c.args.path.now c.new-query.ensures c.requires i c.args.self.now.patterns.items c.args.self.now.covered hit)
-
-pub loop-indices-preserved : goal.loop-indices-preserved
-loop-indices-preserved g c =
-    list_found c.args.self.now.options c.args.self.now.patterns.items (g.L.Letters.letters c.args.path.now) _ _ c.in-Some.indices.now c.loop-indices.found.items c.add_hits.new.found.items c.in-Some.ensures c.loop-indices.invariant c.in_ok-add_hits.ensures.ascends
-    c.in_ok-add_hits.ensures.has
+pub returns-in-Ok-clause-hits : goal.returns-in-Ok-clause-hits
+returns-in-Ok-clause-hits g c =
+    let set = c.args.self.now in
+    let path = g.L.Letters.letters c.args.path.now in
+    subst (AreHits set.options set.patterns.items path) (sym (dedup_is _ _ _ c.dedup.ensures.filtered))
+    (in_order set.options set.patterns.items path c.add_matches.new.found.items c.sort_unstable.new.self.items c.sort_unstable.ensures.permutation c.sort_unstable.ensures.sorted c.in-Ok.ensures)
