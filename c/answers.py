@@ -99,9 +99,9 @@ def index(call: Call, string: bytes, pattern: bytes) -> str:
     return str(at.value) if status == OK else "!"
 
 
-def told(status: int) -> str:
-    assert status in (OK, NONE), status
-    return "1" if status == OK else "0"
+def told(answer: int) -> str:
+    assert answer in (0, 1), answer
+    return str(answer)
 
 
 def decode(osb: CDLL, string: str, before: str, fault: str) -> Answers:
@@ -222,7 +222,7 @@ def paths(osb: CDLL, platform: str, call: str, path: str, *more: str) -> Answers
         status = getattr(osb, f"osb_path_{call}")(whose, string, len(string), byref(part))
         assert status in (OK, NONE), status
         if call == "prefix":
-            yield told(status), "0" if more[0] == "!" else "1"
+            yield told(int(status == OK)), "0" if more[0] == "!" else "1"
         else:
             yield shown(bytes(part)) if status == OK else "!", more[0]
     elif call in ("has_root", "is_absolute"):
@@ -265,7 +265,9 @@ def words(osb: CDLL, name: str, plain: str, line: str, fish: str) -> Answers:
     yield word(osb.osb_shell_quote, room, raw(name)), plain
     yield word(osb.osb_shell_quote_line, room, raw(name)), line
     yield word(osb.osb_fish_quote, room, raw(name)), fish
-    yield line_of(osb, raw(name), b"a b", raw(name)), raw(plain) + b" 'a b' " + raw(plain)
+    yield line_of(osb, b"a b", raw(name), raw(name)), b"'a b' " + raw(plain) + b" " + raw(plain)
+    # first on a line a reserved word is in quotes
+    yield line_of(osb, raw(name)) in (raw(plain), b"'" + raw(name) + b"'"), True
 
 
 LINE_FAULTS = dict(enumerate(("unclosed_single", "unclosed_double", "unclosed_dollar", "trailing_backslash", "metacharacter"), 1))
@@ -337,6 +339,11 @@ def glob(
     status = osb.osb_glob_matches(UNIX, options, *given, told, 1, byref(count), None)
     assert status in (OK, BAD_PATTERN) and (status != OK or count.value == 1), status
     yield str(told.raw[0]) if status == OK else "error", answer
+    kept, string = c_void_p(), raw(path)
+    status = osb.osb_globs_new(UNIX, options, patterns, len(patterns), byref(kept), None)
+    assert status in (OK, BAD_PATTERN), status
+    yield str(osb.osb_globs_is_match(kept, string, len(string))) if status == OK else "error", answer
+    osb.osb_globs_free(kept)
 
 
 def ignore(osb: CDLL, file: str, path: str, is_dir: str, answer: str) -> Answers:

@@ -9,6 +9,7 @@
  * It is included by osbytes.c after the declarations of the exports. OSB_HIGHEST is the highest level that is
  * chosen, for tests. CPUID is asked by hand, since __builtin_cpu_supports needs a part of libgcc. */
 #include <cpuid.h>
+#include <sys/mman.h>
 
 #ifndef OSB_HIGHEST
 #define OSB_HIGHEST 3
@@ -24,11 +25,13 @@
     each(path_starts_with) each(path_ends_with) each(path_strip_prefix) each(path_join)            \
     each(path_join_checked) each(path_relative) each(path_normalize) each(path_clean)              \
     each(path_convert) each(path_with_file_name) each(path_with_extension)                         \
-    each(path_with_added_extension) each(shell_quote)                                              \
+    each(path_with_added_extension) each(shell_quote) each(shell_quote_first)                      \
     each(shell_quote_line) each(fish_quote) each(powershell_quote) each(shell_words)               \
     each(windows_quote) each(windows_quote_name) each(windows_arguments) each(option) each(flag)    \
     each(split_fill) each(rsplit_fill) each(chunks_fill) each(symbols_fill)             \
-    each(glob_matches) each(ignore_matches)
+    each(glob_matches) each(globs_new) each(globs_is_match) each(globs_matches)                     \
+    each(globs_share) each(globs_free) each(ignore_matches) each(ignores_new) each(ignores_add)     \
+    each(ignores_match) each(ignores_free)
 
 #define DECLARED(name)                                                                             \
     __attribute__((visibility("hidden"))) __typeof__(osb_core_##name) osb_core_##name##_v1,        \
@@ -37,9 +40,15 @@ EXPORTS(DECLARED)
 
 #define POINTER(name) __typeof__(osb_core_##name) *name;
 #define LOWEST(name) osb_core_##name##_v1,
-static struct {
-    EXPORTS(POINTER)
-} chosen = {EXPORTS(LOWEST)};
+/* It has a page of its own, which is read-only once the level is chosen: what it points to is called. */
+#define PAGE 4096
+static union {
+    struct {
+        EXPORTS(POINTER)
+    };
+    char page[PAGE];
+} chosen __attribute__((aligned(PAGE))) = {{EXPORTS(LOWEST)}};
+_Static_assert(sizeof chosen == PAGE, "the table is in one page");
 
 /* Whether the processor has all of x86-64-v2, as the ABI for x86-64 lists it. */
 static bool is_v2(void) {
@@ -64,11 +73,16 @@ static bool is_v3(void) {
 
 #define TAKE_V2(name) __atomic_store_n(&chosen.name, osb_core_##name##_v2, __ATOMIC_RELAXED);
 #define TAKE_V3(name) __atomic_store_n(&chosen.name, osb_core_##name##_v3, __ATOMIC_RELAXED);
-__attribute__((constructor(101))) static void choose(void) {
+static void take_highest(void) {
     if (OSB_HIGHEST < 2 || !is_v2()) return;
     EXPORTS(TAKE_V2)
     if (OSB_HIGHEST < 3 || !is_v3()) return;
     EXPORTS(TAKE_V3)
+}
+
+__attribute__((constructor(101))) static void choose(void) {
+    take_highest();
+    mprotect(&chosen, PAGE, PROT_READ);
 }
 
 /* From here on the name of an export is the one that is chosen. */
@@ -119,6 +133,7 @@ __attribute__((constructor(101))) static void choose(void) {
 #define osb_core_path_with_extension CHOSEN(path_with_extension)
 #define osb_core_path_with_added_extension CHOSEN(path_with_added_extension)
 #define osb_core_shell_quote CHOSEN(shell_quote)
+#define osb_core_shell_quote_first CHOSEN(shell_quote_first)
 #define osb_core_shell_quote_line CHOSEN(shell_quote_line)
 #define osb_core_fish_quote CHOSEN(fish_quote)
 #define osb_core_powershell_quote CHOSEN(powershell_quote)
@@ -133,4 +148,13 @@ __attribute__((constructor(101))) static void choose(void) {
 #define osb_core_chunks_fill CHOSEN(chunks_fill)
 #define osb_core_symbols_fill CHOSEN(symbols_fill)
 #define osb_core_glob_matches CHOSEN(glob_matches)
+#define osb_core_globs_new CHOSEN(globs_new)
+#define osb_core_globs_is_match CHOSEN(globs_is_match)
+#define osb_core_globs_matches CHOSEN(globs_matches)
+#define osb_core_globs_share CHOSEN(globs_share)
+#define osb_core_globs_free CHOSEN(globs_free)
 #define osb_core_ignore_matches CHOSEN(ignore_matches)
+#define osb_core_ignores_new CHOSEN(ignores_new)
+#define osb_core_ignores_add CHOSEN(ignores_add)
+#define osb_core_ignores_match CHOSEN(ignores_match)
+#define osb_core_ignores_free CHOSEN(ignores_free)

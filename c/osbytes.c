@@ -39,6 +39,12 @@ struct core_filled {
     bool ended;
 };
 
+/* A place for what is kept: whether it is there, and room for it. */
+struct core_held {
+    bool full;
+    void *at;
+};
+
 /* What a request for memory is answered by: the block, if there is one. */
 struct core_block {
     bool is;
@@ -46,6 +52,13 @@ struct core_block {
 };
 
 _Static_assert(sizeof(size_t) == 8 && sizeof(bool) == 1, "a 64-bit machine");
+/* The exports have numbers of 32 bits where the header has an enum. */
+_Static_assert(sizeof(osb_status) == 4 && sizeof(osb_platform) == 4, "an enum of the header");
+_Static_assert(sizeof(osb_fault_kind) == 4 && sizeof(osb_symbol_kind) == 4, "an enum of the header");
+_Static_assert(sizeof(osb_component_kind) == 4 && sizeof(osb_glob_fault_kind) == 4,
+               "an enum of the header");
+_Static_assert(sizeof(osb_verdict_kind) == 4 && sizeof(osb_option_kind) == 4,
+               "an enum of the header");
 _Static_assert(sizeof(struct core_block) == 16 && _Alignof(max_align_t) >= 16, "core_block");
 _Static_assert(sizeof(osb_view) == 16 && offsetof(osb_view, len) == 8, "osb_view");
 _Static_assert(sizeof(osb_fault) == 24 && sizeof(struct core_fault) == 24, "osb_fault");
@@ -65,6 +78,9 @@ _Static_assert(offsetof(osb_component, start) == 8 && offsetof(osb_component, en
 _Static_assert(sizeof(osb_options) == 40 && offsetof(osb_options, taken) == 16, "osb_options");
 _Static_assert(offsetof(osb_options, at) == 24 && offsetof(osb_options, flags) == 32,
                "osb_options");
+_Static_assert(sizeof(osb_decision) == 24 && offsetof(osb_decision, file) == 8 &&
+                   offsetof(osb_decision, line) == 16,
+               "osb_decision");
 _Static_assert(sizeof(osb_verdict) == 16 && offsetof(osb_verdict, line) == 8, "osb_verdict");
 _Static_assert(sizeof(osb_glob_fault) == 24 && offsetof(osb_glob_fault, index) == 8 &&
                    offsetof(osb_glob_fault, kind) == 16,
@@ -154,6 +170,8 @@ uint32_t osb_core_path_with_added_extension(uint32_t platform, const char *at, s
                                             size_t room, size_t *count);
 uint32_t osb_core_shell_quote(const char *at, size_t len, char *out, size_t room, size_t *count,
                               size_t *index);
+uint32_t osb_core_shell_quote_first(const char *at, size_t len, char *out, size_t room,
+                                    size_t *count, size_t *index);
 uint32_t osb_core_shell_quote_line(const char *at, size_t len, char *out, size_t room,
                                    size_t *count, size_t *index);
 uint32_t osb_core_fish_quote(const char *at, size_t len, char *out, size_t room, size_t *count,
@@ -176,6 +194,19 @@ void rattle_dealloc(void *at);
 uint32_t osb_core_glob_matches(uint32_t platform, uint32_t options, const char *patterns,
                                size_t patterns_len, const char *paths, size_t paths_len,
                                uint8_t *matched, size_t room, size_t *count, osb_glob_fault *fault);
+uint32_t osb_core_globs_new(uint32_t platform, uint32_t options, const char *patterns,
+                            size_t patterns_len, struct core_held *held, osb_glob_fault *fault);
+uint32_t osb_core_globs_is_match(struct core_held *held, const char *path, size_t len);
+uint32_t osb_core_globs_matches(struct core_held *held, const char *paths, size_t paths_len,
+                                uint8_t *matched, size_t room, size_t *count);
+uint32_t osb_core_globs_share(struct core_held *held, struct core_held *other);
+uint32_t osb_core_globs_free(struct core_held *held);
+uint32_t osb_core_ignores_new(struct core_held *held);
+uint32_t osb_core_ignores_add(struct core_held *held, const char *directory, size_t directory_len,
+                              const char *file, size_t file_len);
+uint32_t osb_core_ignores_match(struct core_held *held, const char *path, size_t len,
+                                uint32_t is_dir, osb_decision *decision);
+uint32_t osb_core_ignores_free(struct core_held *held);
 uint32_t osb_core_ignore_matches(const char *file, size_t file_len, const char *paths,
                                  size_t paths_len, const char *dirs, size_t dirs_len,
                                  osb_verdict *out, size_t room, size_t *count);
@@ -231,8 +262,8 @@ static const char *bytes(const char *at) {
     return at == NULL ? (const char *)nothing : at;
 }
 
-/* The memory of the exports that build something, which is malloc's. They free it before they answer,
- * and ask for no alignment past 16. A block of no bytes has as many as its alignment, since malloc may
+/* The memory of the exports that build something, which is malloc's. They free it before they return,
+ * except for a compiled set, which has it until it is freed. They request no alignment past 16. A block of no bytes has as many as its alignment, since malloc may
  * answer null for none; and where there is no block, the pointer is another than null. */
 INLINED struct core_block block_at(void *at) {
     return (struct core_block){at != NULL, at == NULL ? no_room : at};
@@ -255,6 +286,12 @@ uint32_t osb_version(void) {
     return OSB_VERSION;
 }
 
+/* What a predicate returns, by the status of its export: 1 it holds, 0 it doesn't, else minus the
+ * status. */
+INLINED int answer(uint32_t status) {
+    return status == OSB_OK ? 1 : status == OSB_NONE ? 0 : -(int)status;
+}
+
 const char *osb_status_text(osb_status status) {
     switch (status) {
     case OSB_OK: return "success";
@@ -265,20 +302,20 @@ const char *osb_status_text(osb_status status) {
     case OSB_BAD_ESCAPE: return "a backslash of the escape begins no token";
     case OSB_NO_STRING: return "no string of the platform has this escape";
     case OSB_HAS_NUL: return "there is a NUL";
-    case OSB_BAD_LINE: return "the line isn't words";
+    case OSB_BAD_LINE: return "the line isn't words of a shell";
     case OSB_HAS_QUOTE: return "the program's name has a quotation mark";
     case OSB_UNEXPECTED: return "an option has a value that nothing took";
-    case OSB_NO_MEMORY: return "there is no memory";
-    case OSB_BAD_PATH: return "the path is refused";
+    case OSB_NO_MEMORY: return "out of memory";
+    case OSB_BAD_PATH: return "the path is rejected";
     case OSB_BAD_PLATFORM: return "there is no such platform";
-    case OSB_BAD_PATTERN: return "the text isn't UTF-8, or the pattern is empty";
+    case OSB_BAD_PATTERN: return "the pattern or the escape isn't UTF-8, is empty, or has a fault";
     case OSB_BAD_INDEX: return "the index is past the end";
     case OSB_BAD_FAULT: return "there is no such fault";
     case OSB_BAD_STATE: return "there is no such state of a checker";
     case OSB_TOO_LONG: return "the string is too long";
     case OSB_BAD_OPTION: return "there is no such option";
     case OSB_BAD_EXTENSION: return "the extension has a separator";
-    case OSB_BAD_POINTER: return "a pointer or a length is refused";
+    case OSB_BAD_POINTER: return "a pointer or a length is rejected";
     default: return "there is no such status";
     }
 }
@@ -464,36 +501,36 @@ osb_status osb_rfind(const char *at, size_t len, const char *pattern, size_t pat
     return status;
 }
 
-osb_status osb_contains(const char *at, size_t len, const char *pattern, size_t pattern_len) {
-    if (is_bad(at, len) || is_bad(pattern, pattern_len)) return OSB_BAD_POINTER;
-    return osb_core_contains(bytes(at), len, bytes(pattern), pattern_len);
+int osb_contains(const char *at, size_t len, const char *pattern, size_t pattern_len) {
+    if (is_bad(at, len) || is_bad(pattern, pattern_len)) return answer(OSB_BAD_POINTER);
+    return answer(osb_core_contains(bytes(at), len, bytes(pattern), pattern_len));
 }
 
-osb_status osb_starts_with(const char *at, size_t len, const char *pattern, size_t pattern_len) {
-    if (is_bad(at, len) || is_bad(pattern, pattern_len)) return OSB_BAD_POINTER;
-    return osb_core_starts_with(bytes(at), len, bytes(pattern), pattern_len);
+int osb_starts_with(const char *at, size_t len, const char *pattern, size_t pattern_len) {
+    if (is_bad(at, len) || is_bad(pattern, pattern_len)) return answer(OSB_BAD_POINTER);
+    return answer(osb_core_starts_with(bytes(at), len, bytes(pattern), pattern_len));
 }
 
-osb_status osb_ends_with(const char *at, size_t len, const char *pattern, size_t pattern_len) {
-    if (is_bad(at, len) || is_bad(pattern, pattern_len)) return OSB_BAD_POINTER;
-    return osb_core_ends_with(bytes(at), len, bytes(pattern), pattern_len);
+int osb_ends_with(const char *at, size_t len, const char *pattern, size_t pattern_len) {
+    if (is_bad(at, len) || is_bad(pattern, pattern_len)) return answer(OSB_BAD_POINTER);
+    return answer(osb_core_ends_with(bytes(at), len, bytes(pattern), pattern_len));
 }
 
-osb_status osb_starts_with_units(osb_platform platform, const char *at, size_t len,
-                                 const char *prefix, size_t prefix_len) {
-    if (is_bad(at, len) || is_bad(prefix, prefix_len)) return OSB_BAD_POINTER;
-    return osb_core_starts_with_units(platform, bytes(at), len, bytes(prefix), prefix_len);
+int osb_starts_with_units(osb_platform platform, const char *at, size_t len, const char *prefix,
+                          size_t prefix_len) {
+    if (is_bad(at, len) || is_bad(prefix, prefix_len)) return answer(OSB_BAD_POINTER);
+    return answer(osb_core_starts_with_units(platform, bytes(at), len, bytes(prefix), prefix_len));
 }
 
-osb_status osb_ends_with_units(osb_platform platform, const char *at, size_t len,
-                               const char *suffix, size_t suffix_len) {
-    if (is_bad(at, len) || is_bad(suffix, suffix_len)) return OSB_BAD_POINTER;
-    return osb_core_ends_with_units(platform, bytes(at), len, bytes(suffix), suffix_len);
+int osb_ends_with_units(osb_platform platform, const char *at, size_t len, const char *suffix,
+                        size_t suffix_len) {
+    if (is_bad(at, len) || is_bad(suffix, suffix_len)) return answer(OSB_BAD_POINTER);
+    return answer(osb_core_ends_with_units(platform, bytes(at), len, bytes(suffix), suffix_len));
 }
 
-osb_status osb_is_boundary(const char *at, size_t len, size_t index) {
-    if (is_bad(at, len)) return OSB_BAD_POINTER;
-    return osb_core_is_boundary(bytes(at), len, index);
+int osb_is_boundary(const char *at, size_t len, size_t index) {
+    if (is_bad(at, len)) return answer(OSB_BAD_POINTER);
+    return answer(osb_core_is_boundary(bytes(at), len, index));
 }
 
 osb_status osb_compare(const char *a, size_t a_len, const char *b, size_t b_len, int32_t *order) {
@@ -654,26 +691,26 @@ osb_status osb_path_extension(osb_platform platform, const char *at, size_t len,
     return find_part(osb_core_path_extension, platform, at, len, extension);
 }
 
-osb_status osb_path_has_root(osb_platform platform, const char *at, size_t len) {
-    if (is_bad(at, len)) return OSB_BAD_POINTER;
-    return osb_core_path_has_root(platform, bytes(at), len);
+int osb_path_has_root(osb_platform platform, const char *at, size_t len) {
+    if (is_bad(at, len)) return answer(OSB_BAD_POINTER);
+    return answer(osb_core_path_has_root(platform, bytes(at), len));
 }
 
-osb_status osb_path_is_absolute(osb_platform platform, const char *at, size_t len) {
-    if (is_bad(at, len)) return OSB_BAD_POINTER;
-    return osb_core_path_is_absolute(platform, bytes(at), len);
+int osb_path_is_absolute(osb_platform platform, const char *at, size_t len) {
+    if (is_bad(at, len)) return answer(OSB_BAD_POINTER);
+    return answer(osb_core_path_is_absolute(platform, bytes(at), len));
 }
 
-osb_status osb_path_starts_with(osb_platform platform, const char *at, size_t len,
-                                const char *base, size_t base_len) {
-    if (is_bad(at, len) || is_bad(base, base_len)) return OSB_BAD_POINTER;
-    return osb_core_path_starts_with(platform, bytes(at), len, bytes(base), base_len);
+int osb_path_starts_with(osb_platform platform, const char *at, size_t len, const char *base,
+                         size_t base_len) {
+    if (is_bad(at, len) || is_bad(base, base_len)) return answer(OSB_BAD_POINTER);
+    return answer(osb_core_path_starts_with(platform, bytes(at), len, bytes(base), base_len));
 }
 
-osb_status osb_path_ends_with(osb_platform platform, const char *at, size_t len, const char *child,
-                              size_t child_len) {
-    if (is_bad(at, len) || is_bad(child, child_len)) return OSB_BAD_POINTER;
-    return osb_core_path_ends_with(platform, bytes(at), len, bytes(child), child_len);
+int osb_path_ends_with(osb_platform platform, const char *at, size_t len, const char *child,
+                       size_t child_len) {
+    if (is_bad(at, len) || is_bad(child, child_len)) return answer(OSB_BAD_POINTER);
+    return answer(osb_core_path_ends_with(platform, bytes(at), len, bytes(child), child_len));
 }
 
 osb_status osb_path_strip_prefix(osb_platform platform, const char *at, size_t len,
@@ -730,7 +767,7 @@ osb_status osb_path_join(osb_platform platform, const char *base, size_t base_le
 
 osb_status osb_path_join_checked(osb_platform platform, const char *base, size_t base_len,
                                  const char *at, size_t len, char *out, size_t room, size_t *count,
-                                 uint32_t *reason) {
+                                 osb_join_reason *reason) {
     size_t own = 0;
     uint32_t own_reason = 0;
     if (count == NULL || are_bad_strings(base, base_len, at, len, out, room))
@@ -739,7 +776,7 @@ osb_status osb_path_join_checked(osb_platform platform, const char *base, size_t
         osb_core_path_join_checked(platform, bytes(base), base_len, bytes(at), len,
                                    room == 0 ? (char *)no_room : out, room, &own, &own_reason);
     if (status == OSB_OK || status == OSB_NO_ROOM) *count = own;
-    if (status == OSB_BAD_PATH && reason != NULL) *reason = own_reason;
+    if (status == OSB_BAD_PATH && reason != NULL) *reason = (osb_join_reason)own_reason;
     return status;
 }
 
@@ -874,8 +911,9 @@ osb_status osb_shell_join(const osb_view *names, size_t len, char *out, size_t r
             own++;
         }
         size_t left = room_after(room, own);
-        osb_status status = osb_shell_quote(names[i].at, names[i].len, left == 0 ? NULL : out + own,
-                                            left, &more, index);
+        core_word *call = i == 0 ? osb_core_shell_quote_first : osb_core_shell_quote;
+        osb_status status = write_word(call, names[i].at, names[i].len, left == 0 ? NULL : out + own,
+                                       left, &more, index);
         status = add_word(status, more, &own);
         if (status != OSB_OK) {
             if (which != NULL) *which = i;
@@ -1029,10 +1067,11 @@ osb_status osb_options_optional_value(osb_options *options, osb_view *value) {
     osb_view word = {(const char *)nothing, 0};
     if (options == NULL || value == NULL || are_bad_views(options->words, options->len))
         return OSB_BAD_POINTER;
-    if (options->at == 0) return OSB_NONE;
-    osb_status status = read_left(options, &word, &own);
+    const osb_options now = *options;
+    if (now.at == 0) return OSB_NONE;
+    osb_status status = read_left(&now, &word, &own);
     if (status != OSB_OK && status != OSB_NONE) return status;
-    size_t start = options->at + (status == OSB_NONE);
+    size_t start = now.at + (status == OSB_NONE);
     *value = (osb_view){word.at + start, word.len - start};
     options->at = 0;
     return OSB_OK;
@@ -1056,13 +1095,13 @@ static bool is_name(osb_view text, const char *name) {
     return name[text.len] == 0;
 }
 
-osb_status osb_option_is(const osb_option *option, uint32_t character, const char *name) {
-    if (option == NULL || is_bad(option->text.at, option->text.len)) return OSB_BAD_POINTER;
+int osb_option_is(const osb_option *option, uint32_t character, const char *name) {
+    if (option == NULL || is_bad(option->text.at, option->text.len)) return answer(OSB_BAD_POINTER);
     switch (option->kind) {
     case OSB_SHORT:
-        return character != 0 && option->value == character ? OSB_OK : OSB_NONE;
-    case OSB_LONG: return name != NULL && is_name(option->text, name) ? OSB_OK : OSB_NONE;
-    default: return OSB_NONE;
+        return character != 0 && option->value == character;
+    case OSB_LONG: return name != NULL && is_name(option->text, name);
+    default: return 0;
     }
 }
 
@@ -1172,4 +1211,104 @@ osb_status osb_ignore_matches(const char *file, size_t file_len, const char *pat
                                 bytes((const char *)dirs), dirs_len, room == 0 ? &none : out, room, &own);
     if (status == OSB_OK || status == OSB_NO_ROOM) *count = own;
     return status;
+}
+
+/* A set that is kept: the place of the exports, and what it has room for. The user has its address alone,
+ * so that nobody copies it or writes to it. */
+struct osb_globs {
+    struct core_held held;
+    void *set;
+};
+
+_Static_assert(sizeof(struct core_held) == 16 && offsetof(struct core_held, at) == 8, "core_held");
+_Static_assert(sizeof(void *) == 8 && _Alignof(void *) == 8, "room for a pointer");
+
+/* An empty place, or null. */
+static osb_globs *empty_globs(void) {
+    osb_globs *globs = malloc(sizeof *globs);
+    if (globs != NULL) *globs = (osb_globs){{false, &globs->set}, NULL};
+    return globs;
+}
+
+osb_status osb_globs_new(osb_platform platform, uint32_t options, const char *patterns,
+                         size_t patterns_len, osb_globs **globs, osb_glob_fault *fault) {
+    osb_glob_fault own_fault = {0, 0, 0};
+    if (globs == NULL || is_bad(patterns, patterns_len)) return OSB_BAD_POINTER;
+    osb_globs *made = empty_globs();
+    if (made == NULL) return OSB_NO_MEMORY;
+    osb_status status = osb_core_globs_new(platform, options, bytes(patterns), patterns_len,
+                                           &made->held, &own_fault);
+    if (fault != NULL && status == OSB_BAD_PATTERN) *fault = own_fault;
+    if (status == OSB_OK) *globs = made;
+    else free(made);
+    return status;
+}
+
+int osb_globs_is_match(osb_globs *globs, const char *path, size_t len) {
+    if (globs == NULL || is_bad(path, len)) return answer(OSB_BAD_POINTER);
+    return answer(osb_core_globs_is_match(&globs->held, bytes(path), len));
+}
+
+osb_status osb_globs_matches(osb_globs *globs, const char *paths, size_t paths_len,
+                             uint8_t *matched, size_t room, size_t *count) {
+    size_t own = 0;
+    if (globs == NULL || count == NULL || is_bad(paths, paths_len) || is_bad(matched, room) ||
+        do_overlap(paths, paths_len, matched, room))
+        return OSB_BAD_POINTER;
+    osb_status status = osb_core_globs_matches(&globs->held, bytes(paths), paths_len,
+                                               room == 0 ? (uint8_t *)no_room : matched, room, &own);
+    if (status == OSB_OK || status == OSB_NO_ROOM) *count = own;
+    return status;
+}
+
+osb_status osb_globs_share(osb_globs *globs, osb_globs **other) {
+    if (globs == NULL || other == NULL) return OSB_BAD_POINTER;
+    osb_globs *made = empty_globs();
+    if (made == NULL) return OSB_NO_MEMORY;
+    osb_status status = osb_core_globs_share(&globs->held, &made->held);
+    if (status == OSB_OK) *other = made;
+    else free(made);
+    return status;
+}
+
+void osb_globs_free(osb_globs *globs) {
+    if (globs == NULL) return;
+    osb_core_globs_free(&globs->held);
+    free(globs);
+}
+
+/* Ignore files that are kept, in the same way. What the exports keep is a vector: three words. */
+struct osb_ignores {
+    struct core_held held;
+    void *files[3];
+};
+
+osb_status osb_ignores_new(osb_ignores **ignores) {
+    if (ignores == NULL) return OSB_BAD_POINTER;
+    osb_ignores *made = malloc(sizeof *made);
+    if (made == NULL) return OSB_NO_MEMORY;
+    *made = (osb_ignores){{false, made->files}, {NULL, NULL, NULL}};
+    osb_status status = osb_core_ignores_new(&made->held);
+    if (status == OSB_OK) *ignores = made;
+    else free(made);
+    return status;
+}
+
+osb_status osb_ignores_add(osb_ignores *ignores, const char *directory, size_t directory_len,
+                           const char *file, size_t file_len) {
+    if (ignores == NULL || is_bad(directory, directory_len) || is_bad(file, file_len))
+        return OSB_BAD_POINTER;
+    return osb_core_ignores_add(&ignores->held, bytes(directory), directory_len, bytes(file), file_len);
+}
+
+osb_status osb_ignores_match(osb_ignores *ignores, const char *path, size_t len, bool is_dir,
+                             osb_decision *decision) {
+    if (ignores == NULL || decision == NULL || is_bad(path, len)) return OSB_BAD_POINTER;
+    return osb_core_ignores_match(&ignores->held, bytes(path), len, is_dir, decision);
+}
+
+void osb_ignores_free(osb_ignores *ignores) {
+    if (ignores == NULL) return;
+    osb_core_ignores_free(&ignores->held);
+    free(ignores);
 }

@@ -53,7 +53,7 @@ class Symbol(Structure):
 
 
 class Component(Structure):
-    _fields_ = [("kind", c_size_t), ("start", c_size_t), ("end", c_size_t)]
+    _fields_ = [("kind", c_uint32), ("start", c_size_t), ("end", c_size_t)]
 
 
 class Verdict(Structure):
@@ -99,6 +99,10 @@ def load(name: str) -> CDLL:
     given = [c_char_p, c_size_t]
     osb.osb_ignore_matches.argtypes = [*given, *given, *given, POINTER(Verdict), c_size_t, POINTER(c_size_t)]
     osb.osb_glob_matches.argtypes = [c_uint32, c_uint32, *given, *given, c_char_p, c_size_t, POINTER(c_size_t), c_void_p]
+    osb.osb_globs_new.argtypes = [c_uint32, c_uint32, *given, POINTER(c_void_p), c_void_p]
+    osb.osb_globs_is_match.argtypes = [c_void_p, *given]
+    osb.osb_globs_free.argtypes = [c_void_p]
+    osb.osb_globs_free.restype = None
     osb.osb_rsplit_start.argtypes = osb.osb_split_start.argtypes
     osb.osb_rsplit_next.argtypes = osb.osb_split_next.argtypes
     osb.osb_checker_start.argtypes = [POINTER(Checker)]
@@ -302,9 +306,9 @@ def compare_more(osb: CDLL, numbers: random.Random, string: bytes, other: bytes,
     found = osb.osb_rfind(string, len(string), pattern, len(pattern), byref(index))
     assert (index.value if found == OK else -1) == string.rfind(pattern), (string, pattern)
     asked = string, len(string), pattern, len(pattern)
-    assert (osb.osb_contains(*asked) == OK) == (pattern in string), asked
-    assert (osb.osb_starts_with(*asked) == OK) == string.startswith(pattern), asked
-    assert (osb.osb_ends_with(*asked) == OK) == string.endswith(pattern), asked
+    assert (osb.osb_contains(*asked) == 1) == (pattern in string), asked
+    assert (osb.osb_starts_with(*asked) == 1) == string.startswith(pattern), asked
+    assert (osb.osb_ends_with(*asked) == 1) == string.endswith(pattern), asked
     assert rsplit(osb, string, pattern) == rsplit_by_python(string, pattern), asked
     assert osb.osb_compare(string, len(string), other, len(other), byref(order)) == OK
     assert order.value == (string > other) - (string < other), (string, other)
@@ -334,9 +338,9 @@ def compare_more(osb: CDLL, numbers: random.Random, string: bytes, other: bytes,
         ), string
         if osb.osb_check(WINDOWS, other, len(other), None) == OK:
             asked = WINDOWS, string, len(string), other, len(other)
-            assert (osb.osb_starts_with_units(*asked) == OK) == units.startswith(units_of(other)), asked
+            assert (osb.osb_starts_with_units(*asked) == 1) == units.startswith(units_of(other)), asked
             ends = units.endswith(units_of(other))
-            assert (osb.osb_ends_with_units(*asked) == OK) == ends, asked
+            assert (osb.osb_ends_with_units(*asked) == 1) == ends, asked
 
 
 def chunks(osb: CDLL, string: bytes) -> list[tuple[bytes, bytes]]:

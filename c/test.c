@@ -233,11 +233,11 @@ static void patterns(void) {
         for (size_t len = 1; from + len < sizeof text; len++) {
             const char *at = text + from;
             bool whole = (at[0] & 0xC0) != 0x80 && (at[len] & 0xC0) != 0x80;
-            EXPECT(osb_contains(at, len, at, len) == (whole ? OSB_OK : OSB_BAD_PATTERN));
+            EXPECT(osb_contains(at, len, at, len) == (whole ? 1 : -OSB_BAD_PATTERN));
             for (size_t i = 0; i < len && from == 0 && whole; i++) {
                 char kept = text[i];
                 text[i] = '\xFF';
-                EXPECT(osb_ends_with(text, len, text, len) == OSB_BAD_PATTERN);
+                EXPECT(osb_ends_with(text, len, text, len) == -OSB_BAD_PATTERN);
                 text[i] = kept;
             }
         }
@@ -508,7 +508,7 @@ static void lossies(void) {
 }
 
 /* A call that tests a prefix or a suffix by units. */
-typedef osb_status with_units(osb_platform, const char *, size_t, const char *, size_t);
+typedef int with_units(osb_platform, const char *, size_t, const char *, size_t);
 
 /* Either string may be none, also where the other is empty, or isn't one either. */
 static void faulty_units(with_units *call) {
@@ -528,16 +528,16 @@ static void faulty_units(with_units *call) {
         osb_platform platform = bad[i].platform;
         const char *at = bad[i].at;
         size_t len = bad[i].len;
-        EXPECT(call(platform, at, len, TEXT("a")) == OSB_FAULTY);
-        EXPECT(call(platform, at, len, TEXT("b")) == OSB_FAULTY);
-        EXPECT(call(platform, at, len, TEXT("")) == OSB_FAULTY);
-        EXPECT(call(platform, at, len, NULL, 0) == OSB_FAULTY);
-        EXPECT(call(platform, TEXT("a"), at, len) == OSB_FAULTY);
-        EXPECT(call(platform, TEXT(""), at, len) == OSB_FAULTY);
-        EXPECT(call(platform, at, len, at, len) == OSB_FAULTY);
-        EXPECT(call(OSB_UNIX, at, len, at, len) == OSB_OK);
-        EXPECT(call(platform, TEXT("a"), TEXT("")) == OSB_OK);
-        EXPECT(call(platform, TEXT(""), TEXT("a")) == OSB_NONE);
+        EXPECT(call(platform, at, len, TEXT("a")) == -OSB_FAULTY);
+        EXPECT(call(platform, at, len, TEXT("b")) == -OSB_FAULTY);
+        EXPECT(call(platform, at, len, TEXT("")) == -OSB_FAULTY);
+        EXPECT(call(platform, at, len, NULL, 0) == -OSB_FAULTY);
+        EXPECT(call(platform, TEXT("a"), at, len) == -OSB_FAULTY);
+        EXPECT(call(platform, TEXT(""), at, len) == -OSB_FAULTY);
+        EXPECT(call(platform, at, len, at, len) == -OSB_FAULTY);
+        EXPECT(call(OSB_UNIX, at, len, at, len) == 1);
+        EXPECT(call(platform, TEXT("a"), TEXT("")) == 1);
+        EXPECT(call(platform, TEXT(""), TEXT("a")) == 0);
     }
 }
 
@@ -554,44 +554,44 @@ static void edges(void) {
     EXPECT(osb_rfind(TEXT("foobar"), NULL, 1, &index) == OSB_BAD_POINTER);
     EXPECT(osb_rfind(NULL, 1, TEXT("a"), &index) == OSB_BAD_POINTER);
     EXPECT(osb_rfind(TEXT("foobar"), TEXT("a"), NULL) == OSB_BAD_POINTER);
-    EXPECT(osb_contains(TEXT("foobar"), TEXT("oba")) == OSB_OK);
-    EXPECT(osb_contains(TEXT("foobar"), TEXT("of")) == OSB_NONE);
-    EXPECT(osb_contains(TEXT("foobar"), TEXT("\xFF")) == OSB_BAD_PATTERN);
-    EXPECT(osb_contains(NULL, 1, TEXT("o")) == OSB_BAD_POINTER);
-    EXPECT(osb_contains(TEXT("o"), NULL, 1) == OSB_BAD_POINTER);
-    EXPECT(osb_contains(NULL, 0, NULL, 0) == OSB_OK);
-    EXPECT(osb_starts_with(TEXT("foobar"), TEXT("foo")) == OSB_OK);
-    EXPECT(osb_starts_with(TEXT("foobar"), TEXT("bar")) == OSB_NONE);
-    EXPECT(osb_starts_with(TEXT("foobar"), TEXT("\xFF")) == OSB_BAD_PATTERN);
-    EXPECT(osb_starts_with(NULL, 1, TEXT("o")) == OSB_BAD_POINTER);
-    EXPECT(osb_starts_with(TEXT("o"), NULL, 1) == OSB_BAD_POINTER);
-    EXPECT(osb_ends_with(TEXT("foobar"), TEXT("bar")) == OSB_OK);
-    EXPECT(osb_ends_with(TEXT("foobar"), TEXT("foo")) == OSB_NONE);
-    EXPECT(osb_ends_with(TEXT("foobar"), TEXT("\xFF")) == OSB_BAD_PATTERN);
-    EXPECT(osb_ends_with(NULL, 1, TEXT("o")) == OSB_BAD_POINTER);
-    EXPECT(osb_ends_with(TEXT("o"), NULL, 1) == OSB_BAD_POINTER);
-    EXPECT(osb_starts_with_units(OSB_WINDOWS, halves, 4, TEXT("\xED\xA0\xBD")) == OSB_OK);
-    EXPECT(osb_starts_with_units(OSB_UNIX, halves, 4, TEXT("\xED\xA0\xBD")) == OSB_NONE);
-    EXPECT(osb_starts_with_units(OSB_UNIX, halves, 4, TEXT("\xF0\x9F")) == OSB_OK);
-    EXPECT(osb_starts_with_units(OSB_WINDOWS, halves, 4, TEXT("\xED\xB8\x80")) == OSB_NONE);
-    EXPECT(osb_starts_with_units(OSB_WINDOWS, halves, 4, TEXT("\xF0\x9F")) == OSB_FAULTY);
-    EXPECT(osb_starts_with_units(OSB_WINDOWS, halves, 3, TEXT("a")) == OSB_FAULTY);
-    EXPECT(osb_starts_with_units(OSB_WASM, halves, 4, TEXT("\xED\xA0\xBD")) == OSB_FAULTY);
-    EXPECT(osb_starts_with_units(3, halves, 4, TEXT("a")) == OSB_BAD_PLATFORM);
-    EXPECT(osb_starts_with_units(OSB_UNIX, NULL, 1, TEXT("a")) == OSB_BAD_POINTER);
-    EXPECT(osb_starts_with_units(OSB_UNIX, TEXT("a"), NULL, 1) == OSB_BAD_POINTER);
-    EXPECT(osb_ends_with_units(OSB_WINDOWS, halves, 4, TEXT("\xED\xB8\x80")) == OSB_OK);
-    EXPECT(osb_ends_with_units(OSB_WINDOWS, halves, 4, TEXT("\xED\xA0\xBD")) == OSB_NONE);
-    EXPECT(osb_ends_with_units(OSB_UNIX, halves, 4, TEXT("\x98\x80")) == OSB_OK);
-    EXPECT(osb_ends_with_units(OSB_WASM, halves, 4, TEXT("\x98\x80")) == OSB_FAULTY);
-    EXPECT(osb_ends_with_units(3, halves, 4, TEXT("a")) == OSB_BAD_PLATFORM);
-    EXPECT(osb_ends_with_units(OSB_UNIX, NULL, 1, TEXT("a")) == OSB_BAD_POINTER);
-    EXPECT(osb_ends_with_units(OSB_UNIX, TEXT("a"), NULL, 1) == OSB_BAD_POINTER);
+    EXPECT(osb_contains(TEXT("foobar"), TEXT("oba")) == 1);
+    EXPECT(osb_contains(TEXT("foobar"), TEXT("of")) == 0);
+    EXPECT(osb_contains(TEXT("foobar"), TEXT("\xFF")) == -OSB_BAD_PATTERN);
+    EXPECT(osb_contains(NULL, 1, TEXT("o")) == -OSB_BAD_POINTER);
+    EXPECT(osb_contains(TEXT("o"), NULL, 1) == -OSB_BAD_POINTER);
+    EXPECT(osb_contains(NULL, 0, NULL, 0) == 1);
+    EXPECT(osb_starts_with(TEXT("foobar"), TEXT("foo")) == 1);
+    EXPECT(osb_starts_with(TEXT("foobar"), TEXT("bar")) == 0);
+    EXPECT(osb_starts_with(TEXT("foobar"), TEXT("\xFF")) == -OSB_BAD_PATTERN);
+    EXPECT(osb_starts_with(NULL, 1, TEXT("o")) == -OSB_BAD_POINTER);
+    EXPECT(osb_starts_with(TEXT("o"), NULL, 1) == -OSB_BAD_POINTER);
+    EXPECT(osb_ends_with(TEXT("foobar"), TEXT("bar")) == 1);
+    EXPECT(osb_ends_with(TEXT("foobar"), TEXT("foo")) == 0);
+    EXPECT(osb_ends_with(TEXT("foobar"), TEXT("\xFF")) == -OSB_BAD_PATTERN);
+    EXPECT(osb_ends_with(NULL, 1, TEXT("o")) == -OSB_BAD_POINTER);
+    EXPECT(osb_ends_with(TEXT("o"), NULL, 1) == -OSB_BAD_POINTER);
+    EXPECT(osb_starts_with_units(OSB_WINDOWS, halves, 4, TEXT("\xED\xA0\xBD")) == 1);
+    EXPECT(osb_starts_with_units(OSB_UNIX, halves, 4, TEXT("\xED\xA0\xBD")) == 0);
+    EXPECT(osb_starts_with_units(OSB_UNIX, halves, 4, TEXT("\xF0\x9F")) == 1);
+    EXPECT(osb_starts_with_units(OSB_WINDOWS, halves, 4, TEXT("\xED\xB8\x80")) == 0);
+    EXPECT(osb_starts_with_units(OSB_WINDOWS, halves, 4, TEXT("\xF0\x9F")) == -OSB_FAULTY);
+    EXPECT(osb_starts_with_units(OSB_WINDOWS, halves, 3, TEXT("a")) == -OSB_FAULTY);
+    EXPECT(osb_starts_with_units(OSB_WASM, halves, 4, TEXT("\xED\xA0\xBD")) == -OSB_FAULTY);
+    EXPECT(osb_starts_with_units(3, halves, 4, TEXT("a")) == -OSB_BAD_PLATFORM);
+    EXPECT(osb_starts_with_units(OSB_UNIX, NULL, 1, TEXT("a")) == -OSB_BAD_POINTER);
+    EXPECT(osb_starts_with_units(OSB_UNIX, TEXT("a"), NULL, 1) == -OSB_BAD_POINTER);
+    EXPECT(osb_ends_with_units(OSB_WINDOWS, halves, 4, TEXT("\xED\xB8\x80")) == 1);
+    EXPECT(osb_ends_with_units(OSB_WINDOWS, halves, 4, TEXT("\xED\xA0\xBD")) == 0);
+    EXPECT(osb_ends_with_units(OSB_UNIX, halves, 4, TEXT("\x98\x80")) == 1);
+    EXPECT(osb_ends_with_units(OSB_WASM, halves, 4, TEXT("\x98\x80")) == -OSB_FAULTY);
+    EXPECT(osb_ends_with_units(3, halves, 4, TEXT("a")) == -OSB_BAD_PLATFORM);
+    EXPECT(osb_ends_with_units(OSB_UNIX, NULL, 1, TEXT("a")) == -OSB_BAD_POINTER);
+    EXPECT(osb_ends_with_units(OSB_UNIX, TEXT("a"), NULL, 1) == -OSB_BAD_POINTER);
     faulty_units(osb_starts_with_units);
     faulty_units(osb_ends_with_units);
     for (size_t i = 0; i < 7; i++)
-        EXPECT(osb_is_boundary(TEXT("\x80\xC3\xA9" "a\xFF"), i) == (i == 2 || i > 5 ? OSB_NONE : OSB_OK));
-    EXPECT(osb_is_boundary(NULL, 0, 0) == OSB_OK && osb_is_boundary(NULL, 1, 0) == OSB_BAD_POINTER);
+        EXPECT(osb_is_boundary(TEXT("\x80\xC3\xA9" "a\xFF"), i) == (i == 2 || i > 5 ? 0 : 1));
+    EXPECT(osb_is_boundary(NULL, 0, 0) == 1 && osb_is_boundary(NULL, 1, 0) == -OSB_BAD_POINTER);
     EXPECT(osb_compare(TEXT("ab"), TEXT("b"), &order) == OSB_OK && order == -1);
     EXPECT(osb_compare(TEXT("ab"), TEXT("a"), &order) == OSB_OK && order == 1);
     EXPECT(osb_compare(TEXT("\xFF"), TEXT("a"), &order) == OSB_OK && order == 1);
@@ -894,7 +894,7 @@ static bool has_components(osb_platform platform, const char *at, size_t len, co
     size_t count = 0, used = 0;
     if (osb_path_components(platform, at, len, out, 40, &count) != OSB_OK || count > len + 1) return false;
     for (size_t i = 0; i < count; i++)
-        used += (size_t)sprintf(text + used, "%zu/%zu:%zu ", out[i].kind, out[i].start, out[i].end);
+        used += (size_t)sprintf(text + used, "%u/%zu:%zu ", (unsigned)out[i].kind, out[i].start, out[i].end);
     bool right = strcmp(text, wanted) == 0;
     if (!right) printf("  %s\n", text);
     for (size_t room = 0; room < count + 2 && right; room++) {
@@ -902,9 +902,10 @@ static bool has_components(osb_platform platform, const char *at, size_t len, co
         size_t end = room < count ? room : count, own = 99;
         memset(some, 0x55, room * sizeof *some);
         osb_status status = osb_path_components(platform, at, len, room == 0 ? NULL : some, room, &own);
-        right = own == count && status == (room < count ? OSB_NO_ROOM : OSB_OK) &&
-                memcmp(some, out, end * sizeof *some) == 0;
-        for (size_t i = end; i < room; i++) right = right && some[i].kind == (size_t)0x5555555555555555;
+        right = own == count && status == (room < count ? OSB_NO_ROOM : OSB_OK);
+        for (size_t i = 0; i < end; i++)
+            right = right && some[i].kind == out[i].kind && some[i].start == out[i].start && some[i].end == out[i].end;
+        for (size_t i = end; i < room; i++) right = right && some[i].start == (size_t)0x5555555555555555;
         free(some);
     }
     free(out);
@@ -1011,45 +1012,45 @@ static void path_parts(void) {
 }
 
 static void path_tests(void) {
-    EXPECT(osb_path_has_root(OSB_UNIX, TEXT("/a")) == OSB_OK);
-    EXPECT(osb_path_has_root(OSB_UNIX, TEXT("\\a")) == OSB_NONE);
-    EXPECT(osb_path_has_root(OSB_WASM, TEXT("\\a")) == OSB_NONE);
-    EXPECT(osb_path_has_root(OSB_WINDOWS, TEXT("\\a")) == OSB_OK);
-    EXPECT(osb_path_has_root(OSB_WINDOWS, TEXT("C:a")) == OSB_NONE);
-    EXPECT(osb_path_has_root(OSB_UNIX, NULL, 0) == OSB_NONE);
-    EXPECT(osb_path_has_root(3, TEXT("/a")) == OSB_BAD_PLATFORM);
-    EXPECT(osb_path_has_root(OSB_UNIX, NULL, 1) == OSB_BAD_POINTER);
-    EXPECT(osb_path_has_root(OSB_UNIX, "/a", SIZE_MAX) == OSB_BAD_POINTER);
-    EXPECT(osb_path_is_absolute(OSB_UNIX, TEXT("/a")) == OSB_OK);
-    EXPECT(osb_path_is_absolute(OSB_WINDOWS, TEXT("\\a")) == OSB_NONE);
-    EXPECT(osb_path_is_absolute(OSB_WINDOWS, TEXT("C:\\a")) == OSB_OK);
-    EXPECT(osb_path_is_absolute(OSB_WASM, TEXT("C:\\a")) == OSB_NONE);
-    EXPECT(osb_path_is_absolute(OSB_UNIX, NULL, 0) == OSB_NONE);
-    EXPECT(osb_path_is_absolute(3, TEXT("/a")) == OSB_BAD_PLATFORM);
-    EXPECT(osb_path_is_absolute(OSB_UNIX, NULL, 1) == OSB_BAD_POINTER);
-    EXPECT(osb_path_is_absolute(OSB_UNIX, "/a", SIZE_MAX) == OSB_BAD_POINTER);
-    EXPECT(osb_path_starts_with(OSB_UNIX, TEXT("/usr//lib"), TEXT("/usr/")) == OSB_OK);
-    EXPECT(osb_path_starts_with(OSB_UNIX, TEXT("/usr/lib"), TEXT("/us")) == OSB_NONE);
-    EXPECT(osb_path_starts_with(OSB_UNIX, TEXT("/us"), TEXT("/us/lib")) == OSB_NONE);
-    EXPECT(osb_path_starts_with(OSB_WINDOWS, TEXT("C:\\a\\b"), TEXT("c:/a")) == OSB_OK);
-    EXPECT(osb_path_starts_with(OSB_WASM, TEXT("C:\\a\\b"), TEXT("c:/a")) == OSB_NONE);
-    EXPECT(osb_path_starts_with(OSB_UNIX, TEXT("a"), NULL, 0) == OSB_OK);
-    EXPECT(osb_path_starts_with(OSB_UNIX, NULL, 0, TEXT("a")) == OSB_NONE);
-    EXPECT(osb_path_starts_with(3, TEXT("a"), TEXT("a")) == OSB_BAD_PLATFORM);
-    EXPECT(osb_path_starts_with(OSB_UNIX, NULL, 1, TEXT("a")) == OSB_BAD_POINTER);
-    EXPECT(osb_path_starts_with(OSB_UNIX, TEXT("a"), NULL, 1) == OSB_BAD_POINTER);
-    EXPECT(osb_path_starts_with(OSB_UNIX, TEXT("a"), "a", SIZE_MAX) == OSB_BAD_POINTER);
-    EXPECT(osb_path_ends_with(OSB_UNIX, TEXT("/usr/lib/"), TEXT("lib")) == OSB_OK);
-    EXPECT(osb_path_ends_with(OSB_UNIX, TEXT("/usr/lib"), TEXT("ib")) == OSB_NONE);
-    EXPECT(osb_path_ends_with(OSB_UNIX, TEXT("lib"), TEXT("usr/lib")) == OSB_NONE);
-    EXPECT(osb_path_ends_with(OSB_WINDOWS, TEXT("a\\b/c"), TEXT("b\\c")) == OSB_OK);
-    EXPECT(osb_path_ends_with(OSB_WASM, TEXT("a\\b/c"), TEXT("b/c")) == OSB_NONE);
-    EXPECT(osb_path_ends_with(OSB_UNIX, TEXT("a"), NULL, 0) == OSB_OK);
-    EXPECT(osb_path_ends_with(OSB_UNIX, NULL, 0, TEXT("a")) == OSB_NONE);
-    EXPECT(osb_path_ends_with(3, TEXT("a"), TEXT("a")) == OSB_BAD_PLATFORM);
-    EXPECT(osb_path_ends_with(OSB_UNIX, NULL, 1, TEXT("a")) == OSB_BAD_POINTER);
-    EXPECT(osb_path_ends_with(OSB_UNIX, TEXT("a"), NULL, 1) == OSB_BAD_POINTER);
-    EXPECT(osb_path_ends_with(OSB_UNIX, TEXT("a"), "a", SIZE_MAX) == OSB_BAD_POINTER);
+    EXPECT(osb_path_has_root(OSB_UNIX, TEXT("/a")) == 1);
+    EXPECT(osb_path_has_root(OSB_UNIX, TEXT("\\a")) == 0);
+    EXPECT(osb_path_has_root(OSB_WASM, TEXT("\\a")) == 0);
+    EXPECT(osb_path_has_root(OSB_WINDOWS, TEXT("\\a")) == 1);
+    EXPECT(osb_path_has_root(OSB_WINDOWS, TEXT("C:a")) == 0);
+    EXPECT(osb_path_has_root(OSB_UNIX, NULL, 0) == 0);
+    EXPECT(osb_path_has_root(3, TEXT("/a")) == -OSB_BAD_PLATFORM);
+    EXPECT(osb_path_has_root(OSB_UNIX, NULL, 1) == -OSB_BAD_POINTER);
+    EXPECT(osb_path_has_root(OSB_UNIX, "/a", SIZE_MAX) == -OSB_BAD_POINTER);
+    EXPECT(osb_path_is_absolute(OSB_UNIX, TEXT("/a")) == 1);
+    EXPECT(osb_path_is_absolute(OSB_WINDOWS, TEXT("\\a")) == 0);
+    EXPECT(osb_path_is_absolute(OSB_WINDOWS, TEXT("C:\\a")) == 1);
+    EXPECT(osb_path_is_absolute(OSB_WASM, TEXT("C:\\a")) == 0);
+    EXPECT(osb_path_is_absolute(OSB_UNIX, NULL, 0) == 0);
+    EXPECT(osb_path_is_absolute(3, TEXT("/a")) == -OSB_BAD_PLATFORM);
+    EXPECT(osb_path_is_absolute(OSB_UNIX, NULL, 1) == -OSB_BAD_POINTER);
+    EXPECT(osb_path_is_absolute(OSB_UNIX, "/a", SIZE_MAX) == -OSB_BAD_POINTER);
+    EXPECT(osb_path_starts_with(OSB_UNIX, TEXT("/usr//lib"), TEXT("/usr/")) == 1);
+    EXPECT(osb_path_starts_with(OSB_UNIX, TEXT("/usr/lib"), TEXT("/us")) == 0);
+    EXPECT(osb_path_starts_with(OSB_UNIX, TEXT("/us"), TEXT("/us/lib")) == 0);
+    EXPECT(osb_path_starts_with(OSB_WINDOWS, TEXT("C:\\a\\b"), TEXT("c:/a")) == 1);
+    EXPECT(osb_path_starts_with(OSB_WASM, TEXT("C:\\a\\b"), TEXT("c:/a")) == 0);
+    EXPECT(osb_path_starts_with(OSB_UNIX, TEXT("a"), NULL, 0) == 1);
+    EXPECT(osb_path_starts_with(OSB_UNIX, NULL, 0, TEXT("a")) == 0);
+    EXPECT(osb_path_starts_with(3, TEXT("a"), TEXT("a")) == -OSB_BAD_PLATFORM);
+    EXPECT(osb_path_starts_with(OSB_UNIX, NULL, 1, TEXT("a")) == -OSB_BAD_POINTER);
+    EXPECT(osb_path_starts_with(OSB_UNIX, TEXT("a"), NULL, 1) == -OSB_BAD_POINTER);
+    EXPECT(osb_path_starts_with(OSB_UNIX, TEXT("a"), "a", SIZE_MAX) == -OSB_BAD_POINTER);
+    EXPECT(osb_path_ends_with(OSB_UNIX, TEXT("/usr/lib/"), TEXT("lib")) == 1);
+    EXPECT(osb_path_ends_with(OSB_UNIX, TEXT("/usr/lib"), TEXT("ib")) == 0);
+    EXPECT(osb_path_ends_with(OSB_UNIX, TEXT("lib"), TEXT("usr/lib")) == 0);
+    EXPECT(osb_path_ends_with(OSB_WINDOWS, TEXT("a\\b/c"), TEXT("b\\c")) == 1);
+    EXPECT(osb_path_ends_with(OSB_WASM, TEXT("a\\b/c"), TEXT("b/c")) == 0);
+    EXPECT(osb_path_ends_with(OSB_UNIX, TEXT("a"), NULL, 0) == 1);
+    EXPECT(osb_path_ends_with(OSB_UNIX, NULL, 0, TEXT("a")) == 0);
+    EXPECT(osb_path_ends_with(3, TEXT("a"), TEXT("a")) == -OSB_BAD_PLATFORM);
+    EXPECT(osb_path_ends_with(OSB_UNIX, NULL, 1, TEXT("a")) == -OSB_BAD_POINTER);
+    EXPECT(osb_path_ends_with(OSB_UNIX, TEXT("a"), NULL, 1) == -OSB_BAD_POINTER);
+    EXPECT(osb_path_ends_with(OSB_UNIX, TEXT("a"), "a", SIZE_MAX) == -OSB_BAD_POINTER);
 }
 
 /* The rest of a path after a base, at this index of the path itself. */
@@ -1184,6 +1185,15 @@ static bool leaves(osb_platform platform, const char *base, const char *at, uint
            reason == why && count == 7;
 }
 
+/* The same of strings that have a NUL. */
+static bool leaves_with_nul(osb_platform platform, const char *base, size_t base_len, const char *at, size_t len,
+                            uint32_t why) {
+    char out[64] = "";
+    size_t count = 7;
+    reason = 9;
+    return checked(platform, base, base_len, at, len, out, 64, &count) == OSB_BAD_PATH && reason == why && count == 7;
+}
+
 static void path_joins_checked(void) {
     reason = 9;
     EXPECT(builds(checked, OSB_UNIX, TEXT("/srv/files"), TEXT("./a/../b//c"), "/srv/files/b/c"));
@@ -1198,7 +1208,12 @@ static void path_joins_checked(void) {
     EXPECT(leaves(OSB_WASM, "/srv", "..", OSB_JOIN_LEAVES));
     EXPECT(leaves(OSB_WINDOWS, "C:\\a", "b\\c:d", OSB_JOIN_STREAM));
     EXPECT(leaves(OSB_WINDOWS, "C:\\a", "b\\NUL.txt", OSB_JOIN_RESERVED));
-    EXPECT(leaves(OSB_WINDOWS, "\\\\?\\C:", "b", OSB_JOIN_BASE));
+    EXPECT(builds(checked, OSB_WINDOWS, TEXT("\\\\?\\C:"), TEXT("b"), "\\\\?\\C:\\b"));
+    EXPECT(leaves(OSB_WINDOWS, "\\\\?\\UNC\\server", "b", OSB_JOIN_BASE));
+    EXPECT(leaves(OSB_WINDOWS, "\\\\server", "share\\x", OSB_JOIN_BASE));
+    EXPECT(leaves_with_nul(OSB_UNIX, TEXT("/srv/files"), TEXT("..\0x"), OSB_JOIN_NUL));
+    EXPECT(leaves_with_nul(OSB_WASM, TEXT("/srv/files"), TEXT("a\0"), OSB_JOIN_NUL));
+    EXPECT(leaves_with_nul(OSB_WINDOWS, TEXT("C:\\a\0b"), TEXT("/x\0"), OSB_JOIN_BASE_NUL));
     bad_paths(checked);
 }
 
@@ -1432,6 +1447,9 @@ static void joins(void) {
     EXPECT(has_names(names, 1, "cp"));
     EXPECT(has_names(names + 2, 1, "''"));
     EXPECT(has_names(names, 5, "cp 'a b' '' 'it'\\''s\xFF' -x"));
+    osb_view reserved[] = {{TEXT("time")}, {TEXT("time")}, {TEXT("if")}};
+    EXPECT(has_names(reserved, 3, "'time' time if"));
+    EXPECT(has_names(reserved + 2, 1, "'if'"));
     char out[8] = "abcdefg";
     size_t count = 7, which = 7, index = 7;
     osb_view bad[] = {{TEXT("a")}, {TEXT("b\0\0")}, {TEXT("\0")}};
@@ -1696,10 +1714,10 @@ static bool reads(const char *const *words, uint32_t flags, const char *wanted) 
         if ((status == OSB_UNEXPECTED) != (option.kind == 0)) break;
         if ((option.value != 0) != (option.kind == OSB_SHORT)) break;
         to = add_text(to, marks[option.kind], option.text);
-        if (osb_option_is(&option, 'o', "foo") == OSB_OK) {
+        if (osb_option_is(&option, 'o', "foo") == 1) {
             if (osb_options_value(&options, &value) == OSB_OK) to = add_text(to, "=", value);
             else to += sprintf(to, "=?");
-        } else if (osb_option_is(&option, 'p', NULL) == OSB_OK)
+        } else if (osb_option_is(&option, 'p', NULL) == 1)
             if (osb_options_optional_value(&options, &value) == OSB_OK) to = add_text(to, "[", value);
         to += sprintf(to, " ");
     }
@@ -1798,16 +1816,16 @@ static void bad_options(void) {
     EXPECT(osb_options_value(&same, &value) == OSB_OK && value.at == words[2].at && same.taken == 3);
     EXPECT(osb_options_value(&same, &value) == OSB_NONE && same.taken == 3);
     option = (osb_option){OSB_LONG, 0, {TEXT("foo")}};
-    EXPECT(osb_option_is(&option, 0, "foo") == OSB_OK && osb_option_is(&option, 'f', NULL) == OSB_NONE);
-    EXPECT(osb_option_is(&option, 0, "fo") == OSB_NONE && osb_option_is(&option, 0, "fooo") == OSB_NONE);
+    EXPECT(osb_option_is(&option, 0, "foo") == 1 && osb_option_is(&option, 'f', NULL) == 0);
+    EXPECT(osb_option_is(&option, 0, "fo") == 0 && osb_option_is(&option, 0, "fooo") == 0);
     option.text = (osb_view){TEXT("f\0")};
-    EXPECT(osb_option_is(&option, 0, "f") == OSB_NONE);
+    EXPECT(osb_option_is(&option, 0, "f") == 0);
     option.kind = OSB_LONG_BYTES;
-    EXPECT(osb_option_is(&option, 0, "f") == OSB_NONE);
+    EXPECT(osb_option_is(&option, 0, "f") == 0);
     option = (osb_option){OSB_SHORT, 0, {TEXT("\0")}};
-    EXPECT(osb_option_is(&option, 0, "f") == OSB_NONE && osb_option_is(NULL, 'f', "f") == OSB_BAD_POINTER);
+    EXPECT(osb_option_is(&option, 0, "f") == 0 && osb_option_is(NULL, 'f', "f") == -OSB_BAD_POINTER);
     option = (osb_option){OSB_LONG, 0, {NULL, 1}};
-    EXPECT(osb_option_is(&option, 'f', "f") == OSB_BAD_POINTER);
+    EXPECT(osb_option_is(&option, 'f', "f") == -OSB_BAD_POINTER);
 }
 
 /* Filled arrays: the items are those of the calls that step, whatever room there is, and what is beyond
@@ -2017,26 +2035,121 @@ static bool tells(osb_platform platform, uint32_t options, const char *patterns,
 }
 #define LIST(s) (s), sizeof(s)
 
+/* What a set that is kept tells of the same paths, of each and of all, and a set that shares its patterns when the
+ * first is freed. No block of memory is left; with each request for memory refused nothing is kept. */
+static bool keeps(osb_platform platform, uint32_t options, const char *patterns, size_t patterns_len,
+                  const char *paths, size_t paths_len, const char *wanted) {
+    size_t all = strlen(wanted), count = 99, before = blocks;
+    osb_globs *globs = NULL, *other = NULL, *const none = (osb_globs *)&count;
+#ifdef OSB_WRAPPED
+    for (size_t given = 0; globs == NULL; given++) {
+        osb_globs *made = none;
+        left = given;
+        osb_status status = osb_globs_new(platform, options, patterns, patterns_len, &made, NULL);
+        left = SIZE_MAX;
+        if (status == OSB_OK) globs = made;
+        else if (status != OSB_NO_MEMORY || made != none || blocks != before) return false;
+    }
+    other = none;
+    left = 0;
+    if (osb_globs_share(globs, &other) != OSB_NO_MEMORY || other != none) return false;
+    left = SIZE_MAX;
+#else
+    (void)none;
+    if (osb_globs_new(platform, options, patterns, patterns_len, &globs, NULL) != OSB_OK) return false;
+#endif
+    if (osb_globs_share(globs, &other) != OSB_OK || other == globs) return false;
+    for (int turn = 0; turn < 2; turn++) {
+        const char *at = paths;
+        size_t kept = blocks;
+        for (size_t i = 0; i < all; i++) {
+            const char *end = memchr(at, 0, paths_len - (size_t)(at - paths));
+            size_t len = end == NULL ? paths_len - (size_t)(at - paths) : (size_t)(end - at);
+            if (osb_globs_is_match(turn == 0 ? globs : other, at, len) != wanted[i] - '0') return false;
+            at += len + 1;
+        }
+        for (size_t room = 0; room < all + 2; room++) {
+            uint8_t told[20];
+            memset(told, 77, sizeof told);
+            osb_status status = osb_globs_matches(turn == 0 ? globs : other, paths, paths_len,
+                                                  room == 0 ? NULL : told, room, &count);
+            if (count != all || status != (room < all ? OSB_NO_ROOM : OSB_OK) || blocks != kept) return false;
+            for (size_t i = 0; i < all && i < room; i++)
+                if (told[i] != wanted[i] - '0') return false;
+            if (told[room < all ? room : all] != 77) return false;
+        }
+        if (turn == 0) osb_globs_free(globs);
+    }
+    osb_globs_free(other);
+    return blocks == before;
+}
+
+static void kept_globs(void) {
+    const uint32_t usual = OSB_GLOB_SLASH | OSB_GLOB_ESCAPES;
+    char both[16] = "a";
+    size_t count = 99;
+    osb_glob_fault fault = {9, 9, 9};
+    osb_globs *const none = (osb_globs *)&count, *globs = none, *other = none;
+    size_t before = blocks;
+#define NEW(platform, options, ...) osb_globs_new(platform, options, __VA_ARGS__, &globs, &fault)
+    EXPECT(NEW(3, usual, TEXT("a")) == OSB_BAD_PLATFORM);
+    EXPECT(NEW(OSB_UNIX, 64, TEXT("a")) == OSB_BAD_OPTION);
+    EXPECT(NEW(OSB_UNIX, OSB_GLOB_BACKSLASH, TEXT("a")) == OSB_BAD_OPTION);
+    EXPECT(NEW(OSB_WINDOWS, usual, TEXT("\xFF")) == OSB_FAULTY);
+    EXPECT(NEW(OSB_WINDOWS, usual, TEXT("[\0\xFF")) == OSB_FAULTY);
+    EXPECT(NEW(OSB_UNIX, usual, NULL, 1) == OSB_BAD_POINTER);
+    EXPECT(NEW(OSB_UNIX, usual, "a", SIZE_MAX) == OSB_BAD_POINTER);
+    EXPECT(osb_globs_new(OSB_UNIX, usual, TEXT("a"), NULL, &fault) == OSB_BAD_POINTER);
+    EXPECT(fault.which == 9 && fault.index == 9 && fault.kind == 9);
+    EXPECT(osb_globs_new(OSB_UNIX, usual, TEXT("a\0b[c"), &globs, NULL) == OSB_BAD_PATTERN);
+    EXPECT(NEW(OSB_UNIX, usual, TEXT("a\0b[c")) == OSB_BAD_PATTERN);
+    EXPECT(fault.which == 1 && fault.index == 1 && fault.kind == OSB_GLOB_UNCLOSED_CLASS);
+    EXPECT(globs == none && blocks == before);
+    EXPECT(NEW(OSB_WINDOWS, usual, TEXT("*.c")) == OSB_OK && globs != none);
+    EXPECT(osb_globs_is_match(globs, TEXT("a.c")) == 1 && osb_globs_is_match(globs, TEXT("a.h")) == 0);
+    EXPECT(osb_globs_is_match(globs, TEXT("\xFF")) == -OSB_FAULTY);
+    EXPECT(osb_globs_is_match(globs, NULL, 0) == 0);
+    EXPECT(osb_globs_is_match(globs, NULL, 1) == -OSB_BAD_POINTER);
+    EXPECT(osb_globs_is_match(globs, "a.c", SIZE_MAX) == -OSB_BAD_POINTER);
+    EXPECT(osb_globs_is_match(NULL, TEXT("a.c")) == -OSB_BAD_POINTER);
+    uint8_t told[4] = {77, 77, 77, 77};
+    EXPECT(osb_globs_matches(globs, TEXT("a.c\0\xFF"), told, 4, &count) == OSB_FAULTY && count == 99);
+    EXPECT(osb_globs_matches(NULL, TEXT("a"), told, 4, &count) == OSB_BAD_POINTER);
+    EXPECT(osb_globs_matches(globs, NULL, 1, told, 4, &count) == OSB_BAD_POINTER);
+    EXPECT(osb_globs_matches(globs, TEXT("a"), NULL, 1, &count) == OSB_BAD_POINTER);
+    EXPECT(osb_globs_matches(globs, TEXT("a"), told, 4, NULL) == OSB_BAD_POINTER);
+    EXPECT(osb_globs_matches(globs, both, 4, (uint8_t *)both + 3, 4, &count) == OSB_BAD_POINTER);
+    EXPECT(count == 99 && told[0] == 77);
+    EXPECT(osb_globs_share(NULL, &other) == OSB_BAD_POINTER && osb_globs_share(globs, NULL) == OSB_BAD_POINTER);
+    EXPECT(other == none);
+    osb_globs_free(globs);
+    osb_globs_free(NULL);
+    EXPECT(blocks == before);
+#undef NEW
+}
+
 static void globs(void) {
     const uint32_t usual = OSB_GLOB_SLASH | OSB_GLOB_ESCAPES;
-    EXPECT(tells(OSB_UNIX, usual, TEXT("*.c\0*.h"), TEXT("a.c\0b/a.c\0b.h\0c"), "1010"));
-    EXPECT(tells(OSB_UNIX, usual, LIST("*.c\0*.h"), LIST("a.c\0b/a.c\0b.h\0c"), "1010"));
-    EXPECT(tells(OSB_UNIX, usual, TEXT("**/*.c"), TEXT("a.c\0b/a.c\0\0b.h"), "1100"));
-    EXPECT(tells(OSB_UNIX, usual, NULL, 0, TEXT("a\0"), "0"));
-    EXPECT(tells(OSB_UNIX, usual, TEXT("\0"), TEXT("\0a"), "10"));
-    EXPECT(tells(OSB_UNIX, usual, TEXT("a"), NULL, 0, ""));
-    EXPECT(tells(OSB_UNIX, usual, TEXT("?\0\\*"), TEXT("\xFF\0\xC3\xA9\0*\0ab"), "1110"));
-    EXPECT(tells(OSB_UNIX, OSB_GLOB_ESCAPES, TEXT("*.c"), TEXT("b/a.c"), "1"));
-    EXPECT(tells(OSB_UNIX, OSB_GLOB_SLASH, TEXT("\\*"), TEXT("*\0\\a"), "01"));
-    EXPECT(tells(OSB_UNIX, usual, TEXT("*"), TEXT(".a"), "1"));
-    EXPECT(tells(OSB_UNIX, usual | OSB_GLOB_LITERAL_DOT, TEXT("*"), TEXT(".a"), "0"));
-    EXPECT(tells(OSB_UNIX, usual, TEXT("[\\]]"), TEXT("]\0\\]"), "01"));
-    EXPECT(tells(OSB_UNIX, usual | OSB_GLOB_CLASS_ESCAPES, TEXT("[\\]]"), TEXT("]\0\\]"), "10"));
-    EXPECT(tells(OSB_UNIX, usual, TEXT("a"), TEXT("A"), "0"));
-    EXPECT(tells(OSB_UNIX, usual | OSB_GLOB_ANY_CASE, TEXT("a"), TEXT("A"), "1"));
-    EXPECT(tells(OSB_WINDOWS, OSB_GLOB_SLASH | OSB_GLOB_BACKSLASH, TEXT("a/?"),
+#define TELLS(...) (tells(__VA_ARGS__) && keeps(__VA_ARGS__))
+    EXPECT(TELLS(OSB_UNIX, usual, TEXT("*.c\0*.h"), TEXT("a.c\0b/a.c\0b.h\0c"), "1010"));
+    EXPECT(TELLS(OSB_UNIX, usual, LIST("*.c\0*.h"), LIST("a.c\0b/a.c\0b.h\0c"), "1010"));
+    EXPECT(TELLS(OSB_UNIX, usual, TEXT("**/*.c"), TEXT("a.c\0b/a.c\0\0b.h"), "1100"));
+    EXPECT(TELLS(OSB_UNIX, usual, NULL, 0, TEXT("a\0"), "0"));
+    EXPECT(TELLS(OSB_UNIX, usual, TEXT("\0"), TEXT("\0a"), "10"));
+    EXPECT(TELLS(OSB_UNIX, usual, TEXT("a"), NULL, 0, ""));
+    EXPECT(TELLS(OSB_UNIX, usual, TEXT("?\0\\*"), TEXT("\xFF\0\xC3\xA9\0*\0ab"), "1110"));
+    EXPECT(TELLS(OSB_UNIX, OSB_GLOB_ESCAPES, TEXT("*.c"), TEXT("b/a.c"), "1"));
+    EXPECT(TELLS(OSB_UNIX, OSB_GLOB_SLASH, TEXT("\\*"), TEXT("*\0\\a"), "01"));
+    EXPECT(TELLS(OSB_UNIX, usual, TEXT("*"), TEXT(".a"), "1"));
+    EXPECT(TELLS(OSB_UNIX, usual | OSB_GLOB_LITERAL_DOT, TEXT("*"), TEXT(".a"), "0"));
+    EXPECT(TELLS(OSB_UNIX, usual, TEXT("[\\]]"), TEXT("]\0\\]"), "01"));
+    EXPECT(TELLS(OSB_UNIX, usual | OSB_GLOB_CLASS_ESCAPES, TEXT("[\\]]"), TEXT("]\0\\]"), "10"));
+    EXPECT(TELLS(OSB_UNIX, usual, TEXT("a"), TEXT("A"), "0"));
+    EXPECT(TELLS(OSB_UNIX, usual | OSB_GLOB_ANY_CASE, TEXT("a"), TEXT("A"), "1"));
+    EXPECT(TELLS(OSB_WINDOWS, OSB_GLOB_SLASH | OSB_GLOB_BACKSLASH, TEXT("a/?"),
                  TEXT("a\\\xED\xA0\xBD\0a/b\0a"), "110"));
-    EXPECT(tells(OSB_WASM, usual, TEXT("[\xC3\xA9]"), TEXT("\xC3\xA9"), "1"));
+    EXPECT(TELLS(OSB_WASM, usual, TEXT("[\xC3\xA9]"), TEXT("\xC3\xA9"), "1"));
+#undef TELLS
 }
 
 static void bad_globs(void) {
@@ -2049,6 +2162,8 @@ static void bad_globs(void) {
     osb_glob_matches(platform, options, __VA_ARGS__, told, 4, &count, &fault)
     EXPECT(GLOB(OSB_WINDOWS, usual, TEXT("\xFF"), TEXT("a")) == OSB_FAULTY);
     EXPECT(GLOB(OSB_WINDOWS, usual, TEXT("a"), TEXT("a\0\xFF")) == OSB_FAULTY);
+    EXPECT(GLOB(OSB_WINDOWS, usual, TEXT("\xFF\0["), TEXT("a")) == OSB_FAULTY);
+    EXPECT(GLOB(OSB_WINDOWS, usual, TEXT("[\0\xFF"), TEXT("a")) == OSB_FAULTY);
     EXPECT(GLOB(OSB_WASM, usual, TEXT("a"), TEXT("\xED\xA0\x80")) == OSB_FAULTY);
     EXPECT(GLOB(3, usual, TEXT("a"), TEXT("a")) == OSB_BAD_PLATFORM);
     EXPECT(GLOB(OSB_UNIX, OSB_GLOB_BACKSLASH, TEXT("a"), TEXT("a")) == OSB_BAD_OPTION);
@@ -2077,6 +2192,7 @@ static void bad_globs(void) {
         EXPECT(osb_glob_matches(0, usual, FAULTS[i].patterns, FAULTS[i].len, TEXT("a"), told, 4, &count, NULL) ==
                OSB_BAD_PATTERN);
     }
+    EXPECT(GLOB(OSB_WINDOWS, usual, TEXT("["), TEXT("\xFF")) == OSB_BAD_PATTERN);
     EXPECT(count == 99 && told[0] == 77);
 #undef GLOB
 }
@@ -2145,7 +2261,80 @@ static void ignore_files(void) {
     EXPECT(count == 99 && out[0].line == 77 && both.text[0] == 'a');
 }
 
+/* Ignore files of several directories that are kept, with each request for memory refused in turn. */
+static void kept_ignores(void) {
+    static const struct {
+        const char *directory, *file;
+    } files[] = {{"", "*.o\nbuild/\n"}, {"src", "!keep.o\n"}, {"src/deep", "keep.o\n\n"}};
+    static const struct {
+        const char *path;
+        bool is_dir;
+        osb_verdict_kind kind;
+        size_t file, line;
+    } wanted[] = {
+        {"a.o", false, OSB_IGNORED, 0, 1},          {"keep.o", false, OSB_IGNORED, 0, 1},
+        {"src/keep.o", false, OSB_TAKEN_IN, 1, 1},  {"src/a.o", false, OSB_IGNORED, 0, 1},
+        {"src/deep/keep.o", false, OSB_IGNORED, 2, 1}, {"build", true, OSB_IGNORED, 0, 2},
+        {"build", false, OSB_NEITHER, 0, 0},        {"build/x", false, OSB_IGNORED, 0, 2},
+        {"", true, OSB_NEITHER, 0, 0},
+    };
+    size_t before = blocks;
+    osb_decision decision = {OSB_TAKEN_IN, 7, 7};
+    osb_ignores *const none = (osb_ignores *)&before, *ignores = none;
+#ifdef OSB_WRAPPED
+    left = 0;
+    EXPECT(osb_ignores_new(&ignores) == OSB_NO_MEMORY && ignores == none);
+    left = SIZE_MAX;
+#endif
+    EXPECT(osb_ignores_new(NULL) == OSB_BAD_POINTER);
+    EXPECT(osb_ignores_new(&ignores) == OSB_OK && ignores != none);
+    EXPECT(osb_ignores_match(ignores, TEXT("a.o"), false, &decision) == OSB_OK);
+    EXPECT(decision.kind == OSB_NEITHER && decision.file == 0 && decision.line == 0);
+    for (size_t i = 0; i < 3; i++) {
+        const char *directory = files[i].directory, *file = files[i].file;
+#ifdef OSB_WRAPPED
+        for (size_t given = 0;; given++) {
+            size_t kept = blocks;
+            left = given;
+            osb_status status = osb_ignores_add(ignores, directory, strlen(directory), file, strlen(file));
+            left = SIZE_MAX;
+            if (status == OSB_OK) break;
+            EXPECT(status == OSB_NO_MEMORY && blocks == kept && given < 100);
+            EXPECT(osb_ignores_match(ignores, TEXT("src/deep/keep.o"), false, &decision) == OSB_OK);
+            EXPECT(decision.kind == (i == 0 ? OSB_NEITHER : i == 1 ? OSB_IGNORED : OSB_TAKEN_IN));
+        }
+#else
+        EXPECT(osb_ignores_add(ignores, directory, strlen(directory), file, strlen(file)) == OSB_OK);
+#endif
+    }
+    size_t kept = blocks;
+    for (size_t i = 0; i < sizeof wanted / sizeof *wanted; i++) {
+        decision = (osb_decision){OSB_TAKEN_IN, 7, 7};
+        EXPECT(osb_ignores_match(ignores, wanted[i].path, strlen(wanted[i].path), wanted[i].is_dir, &decision) == OSB_OK);
+        EXPECT(decision.kind == wanted[i].kind && decision.file == wanted[i].file && decision.line == wanted[i].line);
+    }
+    EXPECT(blocks == kept);
+    decision = (osb_decision){OSB_TAKEN_IN, 7, 7};
+    EXPECT(osb_ignores_match(NULL, TEXT("a"), false, &decision) == OSB_BAD_POINTER);
+    EXPECT(osb_ignores_match(ignores, NULL, 1, false, &decision) == OSB_BAD_POINTER);
+    EXPECT(osb_ignores_match(ignores, TEXT("a"), false, NULL) == OSB_BAD_POINTER);
+    EXPECT(osb_ignores_add(NULL, TEXT(""), TEXT("a")) == OSB_BAD_POINTER);
+    EXPECT(osb_ignores_add(ignores, NULL, 1, TEXT("a")) == OSB_BAD_POINTER);
+    EXPECT(osb_ignores_add(ignores, TEXT("a"), NULL, 1) == OSB_BAD_POINTER);
+    EXPECT(decision.file == 7);
+    osb_ignores_free(ignores);
+    osb_ignores_free(NULL);
+    EXPECT(blocks == before);
+}
+
+#ifdef OSB_INSIDE
+bool osb_inside(void);
+#endif
+
 int main(void) {
+#ifdef OSB_INSIDE
+    EXPECT(osb_inside());
+#endif
     checks();
     escapes();
     unescapes();
@@ -2154,6 +2343,8 @@ int main(void) {
     bad_arrays();
     globs();
     bad_globs();
+    kept_globs();
+    kept_ignores();
     ignore_files();
     views();
     bounds();

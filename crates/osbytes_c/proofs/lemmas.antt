@@ -5,7 +5,10 @@ pub mod CommandLines
 pub mod Conversions
 pub mod Digits
 pub mod Fills
+pub mod GlobPlaces
+pub mod GlobSets
 pub mod Globs
+pub mod IgnorePlaces
 pub mod Ignores
 pub mod ItemLists
 pub mod Lines

@@ -1,5 +1,6 @@
 -- Which paths of a list a pattern of another list matches.
 use Rattle.std.specs.Prelude.{◌≡◌, ◌⊎◌, ◌<◌, ◌/◌, ◌%◌, nat_eq, ℕ, zero, suc, List, [], ◌∷◌}
+use Rattle.std.specs.List.{AllByRecursion}
 use Rattle.std.specs.declared.alloc.Global.{Global}
 use Rattle.wildcards.specs.Sets.{IsHit}
 use Rattle.wildcards.specs.declared.options.Options.{Options}
@@ -63,31 +64,58 @@ AreTold Is (item ∷ items) (answer ∷ answers) = IsTold (Is item) answer × Ar
 abbrev pub IsMatched : (List ℕ → List ℕ) → Options → List (Pattern Global) → List ℕ → Type 0
 IsMatched units matching compiled path = (i : ℕ) × IsHit matching compiled (letters_of units path) i
 
+-- of each path of the list, each a string, it is told whether one of the compiled patterns matches it
+pub record AreNamesTold (formed : List ℕ → Type 0) (units : List ℕ → List ℕ) (matching : Options) (compiled : List (Pattern Global)) (paths answers : List ℕ) : Type 0 where
+  pub names : List (List ℕ)
+  pub are_names : AreItems paths names
+  pub strings : AllByRecursion formed names
+  pub told : AreTold (IsMatched units matching compiled) names answers
+
 module _ (formed : List ℕ → Type 0) (units : List ℕ → List ℕ) (o : GlobOptions) (patterns : List ℕ) where
-  -- of each path of the list it is told whether one of the patterns of the other matches it
-  pub record AreMatchesTold (paths answers : List ℕ) : Type 0 where
+  -- the patterns of the list, each a string, compiled with these options
+  pub record AreCompiled (matching : Options) (compiled : List (Pattern Global)) : Type 0 where
     pub texts : List (List ℕ)
     pub are_texts : AreItems patterns texts
-    pub compiled : List (Pattern Global)
+    pub strings : AllByRecursion formed texts
+    pub options : matching ≡ options_of o
     pub meanings : AreMeanings formed (letters_of units) (syntax_of o) Global texts compiled
-    pub names : List (List ℕ)
-    pub are_names : AreItems paths names
-    pub told : AreTold (IsMatched units (options_of o) compiled) names answers
 
-  -- the first pattern of the list that has a fault, by its number, and its first fault
+  -- of each path of the list, each a string, it is told whether one of the patterns of the other matches it
+  pub record AreMatchesTold (paths answers : List ℕ) : Type 0 where
+    pub matching : Options
+    pub compiled : List (Pattern Global)
+    pub are_compiled : AreCompiled matching compiled
+    pub are_told : AreNamesTold formed units matching compiled paths answers
+
+  -- the first pattern of the list, each a string, that has a fault, by its number, and its first fault
   pub record IsGlobFault (fault : GlobFault) : Type 0 where
     pub texts : List (List ℕ)
     pub are_texts : AreItems patterns texts
+    pub strings : AllByRecursion formed texts
     pub first : PatternFault
     pub is : IsFirstFault formed (letters_of units) (syntax_of o) Global texts fault.which first
     pub kind : fault.kind ≡ fault_number first.kind
     pub index : fault.index ≡ first.index
 
-  -- why nothing is told: memory was refused, an item is no string, or a pattern has a fault
+  -- the patterns of the list can be compiled
+  abbrev pub CanBeCompiled : Type 0
+  CanBeCompiled = (matching : Options) × ((compiled : List (Pattern Global)) × AreCompiled matching compiled)
+
+  -- a pattern isn't a string; or the patterns can be compiled, and a path isn't a string
+  abbrev pub HasUnstring : List ℕ → Type 0
+  HasUnstring paths = HasOther formed patterns ⊎ (CanBeCompiled × HasOther formed paths)
+
+  -- why nothing is told: an allocation failed, an item isn't a string, or a pattern has a fault
   abbrev pub IsRefusal : List ℕ → Refusal → Type 0
   IsRefusal paths Memory = Unit {0}
-  IsRefusal paths Faulty = HasOther formed patterns ⊎ HasOther formed paths
+  IsRefusal paths Faulty = HasUnstring paths
   IsRefusal paths (Fault fault) = IsGlobFault fault
+
+  -- why the patterns aren't compiled: an allocation failed, a pattern isn't a string, or one has a fault
+  abbrev pub IsNoSet : Refusal → Type 0
+  IsNoSet Memory = Unit {0}
+  IsNoSet Faulty = HasOther formed patterns
+  IsNoSet (Fault fault) = IsGlobFault fault
 
 -- why a list isn't read: memory was refused, or an item is no string
 abbrev pub IsListRefusal : (List ℕ → Type 0) → List ℕ → Refusal → Type 0

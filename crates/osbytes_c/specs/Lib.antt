@@ -4,7 +4,11 @@ pub mod ChunkFills
 pub mod CommandLines
 pub mod Faults
 pub mod Fills
+pub mod GlobPlaces
+pub mod GlobSets
 pub mod Globs
+pub mod IgnorePlaces
+pub mod IgnoreSets
 pub mod Ignores
 pub mod ItemLists
 pub mod Lines

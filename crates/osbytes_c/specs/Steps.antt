@@ -1,5 +1,6 @@
 -- One step of an iterator, which knows only an index.
-use Rattle.std.specs.Prelude.{◌≡◌, ◌⊎◌, ◌+◌, ℕ, zero, suc, ◌≤◌, ◌<◌, true, false, List, [], ◌∷◌, length, take, drop}
+use Rattle.std.specs.Prelude.{◌≡◌, ◌⊎◌, ◌+◌, ◌-◌, slice_index_or, ℕ, zero, suc, ◌≤◌, ◌<◌, true, false, List, [], ◌∷◌, length, take, drop}
+use Rattle.std.specs.Char.{IsScalar, encode_utf8}
 use Rattle.std.specs.Str.{IsUtf8}
 use Rattle.wtf8_core.specs.Occurrence.{OccursNowhere, IsFirstIndex, IsLastIndex}
 use Rattle.os_str_ext.specs.Pieces.{SplitsAt}
@@ -90,3 +91,19 @@ StartsWithNoSymbol zero s = ⊥
 StartsWithNoSymbol (suc zero) s = StartsWithNoCharacter s × ((unit : ℕ) → ¬ (IsSurrogatePrefix s unit))
 StartsWithNoSymbol (suc (suc zero)) s = StartsWithNoCharacter s
 StartsWithNoSymbol (suc (suc (suc n))) s = ⊥
+
+-- bytes that begin with no whole character begin with this unit of the platform, of so many bytes: a byte of Unix, or a surrogate of Windows
+abbrev pub StartsWithUnit : ℕ → List ℕ → ℕ → ℕ → Type 0
+StartsWithUnit zero s value len = (value ≡ slice_index_or s 0 0) × (len ≡ 1)
+StartsWithUnit (suc zero) s value len = IsSurrogatePrefix s value × (len ≡ 3)
+StartsWithUnit (suc (suc n)) s value len = ⊥
+
+-- bytes begin with this symbol of the platform, which has as many bytes as the step's end says, whatever follows: with a whole character, or else with a unit
+abbrev pub StartsWithSymbol : ℕ → List ℕ → Step → Type 0
+StartsWithSymbol platform s step =
+    ((step.kind ≡ 1) × (IsScalar step.value × (take step.end s ≡ encode_utf8 step.value)))
+    ⊎ ((step.kind ≡ 2) × (StartsWithNoCharacter s × StartsWithUnit platform s step.value step.end))
+
+-- the same step, from an index on
+abbrev pub step_after : ℕ → Step → Step
+step_after at step = record { kind = step.kind; value = step.value; end = step.end - at }

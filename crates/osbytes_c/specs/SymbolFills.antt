@@ -7,11 +7,12 @@ use Rattle.osbytes_c.specs.declared.symbols_fill.SymbolView.{SymbolView}
 use Rattle.osbytes_c.specs.Faults.{IsString}
 use Rattle.osbytes_c.specs.Fills.{GiveInOrder, IsView}
 use Rattle.osbytes_c.specs.Platforms.{units_on}
-use Rattle.osbytes_c.specs.Steps.{IsSymbolAt, Reports}
+use Rattle.osbytes_c.specs.Steps.{IsSymbolAt, Reports, StartsWithNoSymbol, StartsWithSymbol, step_after}
 
--- after index `at` s has this first symbol, if what comes there is a string of the platform; else it is some part of s
+-- after index `at` s begins with this symbol; if what comes there is a string of the platform, it is the first of its symbols
 pub record IsSymbolStep (platform : ℕ) (s : List ℕ) (at : ℕ) (step : Step) : Type 0 where
   pub symbol : IsString platform (drop at s) → IsSymbolAt platform s at step
+  pub first : StartsWithSymbol platform (drop at s) (step_after at step)
   pub some : at < step.end
   pub within : step.end ≤ length s
 
@@ -26,6 +27,15 @@ abbrev pub SymbolViews : ℕ → List ℕ → ℕ → ℕ → List SymbolView �
 SymbolViews platform s address at items ended rest =
     GiveInOrder (IsSymbolStep platform s) (ShowsSymbol address) (λ step. step.end) (λ step. false) at items false rest
     × ((ended ≡ true) ↔ (rest ≡ length s))
+
+-- from index `at` on s has fewer symbols than there is room for, before an index at which no symbol begins
+pub record IsStuck (platform : ℕ) (s : List ℕ) (address at room : ℕ) : Type 0 where
+  pub items : List SymbolView
+  pub next : ℕ
+  pub are : GiveInOrder (IsSymbolStep platform s) (ShowsSymbol address) (λ step. step.end) (λ step. false) at items false next
+  pub fewer : length items < room
+  pub within : next < length s
+  pub none : StartsWithNoSymbol platform (drop next s)
 
 -- each of these symbols is reported
 abbrev pub AreReported : List Symbol → List SymbolView → Type 0

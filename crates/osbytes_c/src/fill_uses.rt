@@ -1,10 +1,10 @@
 //! For trying: what a caller concludes from the contracts of the calls that fill arrays.
-ghost use Rattle.std.specs.Prelude.{◌++◌, IfSome, map, take};
+ghost use Rattle.std.specs.Prelude.{◌≡◌, ◌++◌, IfSome, length, map, take, true};
 ghost use Rattle.wtf8_core.specs.Chunks.{AreChunks};
 ghost use Rattle.os_str_ext.specs.Pieces.{IsSplit, IsRSplit};
 ghost use Rattle.osbytes_c.specs.ChunkFills.{viewed_chunk};
 ghost use Rattle.osbytes_c.specs.Fills.{viewed};
-ghost use Rattle.osbytes_c.specs.SymbolFills.{AreSymbolsOf};
+ghost use Rattle.osbytes_c.specs.SymbolFills.{AreSymbolsOf, IsStuck};
 
 use crate::chunks_fill::{ChunkView, osb_core_chunks_fill};
 use crate::fill_laws::{filled_chunks, filled_splits, filled_symbols};
@@ -105,4 +105,12 @@ pub fn symbols_in(platform: u32, bytes: &[u8], out: &mut [SymbolView]) -> Option
     } else {
         None
     }
+}
+
+/// Whether an array isn't filled, since no symbol of a platform begins where there is still room for one.
+pub fn is_stuck(platform: u32, bytes: &[u8], out: &mut [SymbolView]) -> bool
+    ensures { result ≡ true → IsStuck platform bytes.now 0 0 (length out.old) }
+{
+    let mut filled = nothing_filled();
+    osb_core_symbols_fill(platform, bytes, 0, 0, out, &mut filled) == 1
 }

@@ -1,9 +1,10 @@
 //! Which paths of a list a pattern of another list matches.
-ghost use Rattle.std.specs.Prelude.{◌≡◌, ◌⊎◌, ◌<◌, ◌↔◌, ◌∷◌, [], ℕ, List, map, MatchOption, MatchResult};
+ghost use Rattle.std.specs.Prelude.{◌≡◌, ◌<◌, ◌↔◌, ◌∷◌, [], map, MatchOption, MatchResult};
+ghost use Rattle.std.specs.List.{AllByRecursion};
 ghost use Rattle.platform_str.specs.Strings.{bytes};
 ghost use Rattle.osbytes_c.specs.Answers.{IsOneOf, IsWritten};
-ghost use Rattle.osbytes_c.specs.Globs.{AreMatchesTold, AreNoOptions, AreTold, IsGlobFault, IsListRefusal, IsMatched, IsRefusal, IsTold, fault_number, glob_options};
-ghost use Rattle.osbytes_c.specs.ItemLists.{AreItems, HasOther};
+ghost use Rattle.osbytes_c.specs.Globs.{AreCompiled, AreMatchesTold, AreNamesTold, AreNoOptions, HasUnstring, IsGlobFault, IsListRefusal, IsMatched, IsNoSet, IsRefusal, IsTold, fault_number, glob_options};
+ghost use Rattle.osbytes_c.specs.ItemLists.{AreItems};
 ghost use Rattle.osbytes_c.specs.Platforms.{formed_on, units_on};
 
 use crate::built::write_list;
@@ -24,14 +25,15 @@ pub struct GlobFault {
     pub index: usize,
     /// 1 a class isn't closed, 2 a range is reversed, 3 the name of a class isn't known, 4 nothing
     /// comes after a `\`, 5 alternatives aren't closed, 6 a `}` closes none, 7 they are too many.
-    pub kind: usize,
+    pub kind: u32,
 }
 
-/// Why no answer is given.
-enum Refusal {
-    /// Memory was refused.
+/// Why there is no result.
+#[derive(Drop)]
+pub(crate) enum Refusal {
+    /// An allocation failed.
     Memory,
-    /// A pattern or a path is no string of the platform.
+    /// A pattern or a path isn't a string of the platform.
     Faulty,
     /// A pattern has a fault.
     Fault(GlobFault),
@@ -52,8 +54,8 @@ pub extern "C" fn osb_core_glob_matches(
 ) -> u32
     ensures written { IsWritten result (AreMatchesTold (formed_on platform) (units_on platform)
         (glob_options options) patterns.now paths.now) matched.old matched.new count.new }
-    ensures strings { result ≡ 1 → HasOther (formed_on platform) patterns.now
-        ⊎ HasOther (formed_on platform) paths.now }
+    ensures strings { result ≡ 1 → HasUnstring (formed_on platform) (units_on platform)
+        (glob_options options) patterns.now paths.now }
     ensures pattern { result ≡ 17 → IsGlobFault (formed_on platform) (units_on platform)
         (glob_options options) patterns.now fault.new }
     ensures options { (result ≡ 22) ↔ AreNoOptions options }
@@ -70,7 +72,7 @@ pub extern "C" fn osb_core_glob_matches(
 }
 
 /// The options with this number.
-fn options_of(options: u32) -> Option<GlobOptions>
+pub(crate) fn options_of(options: u32) -> Option<GlobOptions>
     ensures options { MatchOption result (AreNoOptions options)
         (λ read. read ≡ glob_options options) }
     ensures none { MatchOption result (AreNoOptions options) (λ _. ¬ (AreNoOptions options)) }
@@ -105,8 +107,8 @@ fn matches_on<E: Platform>(
 ) -> u32
     ensures written { IsWritten result (AreMatchesTold E.well_formed E.units options patterns.now
         paths.now) matched.old matched.new count.new }
-    ensures strings { result ≡ 1 → HasOther E.well_formed patterns.now
-        ⊎ HasOther E.well_formed paths.now }
+    ensures strings { result ≡ 1 → HasUnstring E.well_formed E.units options patterns.now
+        paths.now }
     ensures pattern { result ≡ 17 → IsGlobFault E.well_formed E.units options patterns.now
         fault.new }
     ensures answers { IsOneOf (0 ∷ 2 ∷ 1 ∷ 11 ∷ 17 ∷ []) result }
@@ -134,9 +136,24 @@ fn told_on<E: Platform>(
         answers.items)
         (λ refusal. IsRefusal E.well_formed E.units options patterns.now paths.now refusal) }
 {
+    let set = made_on::<E>(alloc, options, patterns)?;
+    told_of(alloc, &set, paths)
+}
+
+/// Compiles the patterns of a list.
+pub(crate) fn made_on<E: Platform>(
+    alloc: Global,
+    options: GlobOptions,
+    patterns: &[u8],
+) -> Result<GlobSet<E>, Refusal>
+    ensures { MatchResult result
+        (λ made. AreCompiled E.well_formed E.units options patterns.now made.set.options
+        made.set.patterns.items)
+        (λ refusal. IsNoSet E.well_formed E.units options patterns.now refusal) }
+{
     let texts = strings_of::<E>(alloc, patterns)?;
     match GlobSet::new(alloc, options, &texts) {
-        Ok(set) => told_of(alloc, &set, paths),
+        Ok(set) => Ok(set),
         Err(GlobSetError::Memory) => Err(Refusal::Memory),
         Err(GlobSetError::Pattern(which, fault)) => Err(Refusal::Fault(GlobFault {
             which,
@@ -148,7 +165,8 @@ fn told_on<E: Platform>(
 
 /// The strings that the items of a list are.
 fn strings_of<'a, E: Platform>(alloc: Global, list: &'a [u8]) -> Result<Vec<OsStr<'a, E>>, Refusal>
-    ensures { MatchResult result (λ strings. AreItems list.now (map bytes strings.items))
+    ensures { MatchResult result (λ strings. AreItems list.now (map bytes strings.items)
+        × AllByRecursion E.well_formed (map bytes strings.items))
         (λ refusal. IsListRefusal E.well_formed list.now refusal) }
 {
     let mut strings = Vec::new(alloc);
@@ -166,11 +184,14 @@ fn strings_of<'a, E: Platform>(alloc: Global, list: &'a [u8]) -> Result<Vec<OsSt
 }
 
 /// What a set tells of each path of a list.
-fn told_of<E: Platform>(alloc: Global, set: &GlobSet<E>, paths: &[u8]) -> Result<Vec<u8>, Refusal>
+pub(crate) fn told_of<E: Platform>(
+    alloc: Global,
+    set: &GlobSet<E>,
+    paths: &[u8],
+) -> Result<Vec<u8>, Refusal>
     ensures { MatchResult result
-        (λ answers. (names : List (List ℕ)) × (AreItems paths.now names
-        × AreTold (IsMatched E.units set.now.set.options set.now.set.patterns.items) names
-        answers.items))
+        (λ answers. AreNamesTold E.well_formed E.units set.now.set.options
+        set.now.set.patterns.items paths.now answers.items)
         (λ refusal. IsListRefusal E.well_formed paths.now refusal) }
 {
     let mut answers = Vec::new(alloc);
@@ -196,7 +217,7 @@ fn answer_of<E: Platform>(set: &GlobSet<E>, path: OsStr<'_, E>) -> u8
 }
 
 /// The number of what is wrong with a pattern.
-fn number_of(kind: FaultKind) -> usize
+fn number_of(kind: FaultKind) -> u32
     ensures { result ≡ fault_number kind }
 {
     match kind {

@@ -1,9 +1,15 @@
 //! For trying: what a caller of the call that reads ignore files concludes, in each outcome.
-ghost use Rattle.std.specs.Prelude.{◌≡◌, ◌<◌, ◌∷◌, [], ℕ, List, length, take, IfOk, IfErr};
+ghost use Rattle.std.specs.Prelude.{◌≡◌, ◌<◌, ◌∷◌, [], ℕ, List, length, take, true, IfOk, IfErr};
 ghost use Rattle.osbytes_c.specs.Answers.{IsOneOf};
+ghost use Rattle.osbytes_c.specs.IgnoreSets.{IsDecidedOf};
 ghost use Rattle.osbytes_c.specs.Ignores.{AreToldOf};
 ghost use Rattle.osbytes_c.specs.ItemLists.{AreItems};
 
+use crate::ignore_places::HeldIgnores;
+use crate::ignore_sets::{
+    Decision, osb_core_ignores_add, osb_core_ignores_free, osb_core_ignores_match,
+    osb_core_ignores_new,
+};
 use crate::ignores::{Told, osb_core_ignore_matches};
 use crate::status::DONE;
 use std::alloc::Global;
@@ -27,4 +33,25 @@ pub fn verdicts_in(
         DONE => Ok(count),
         status => Err(status),
     }
+}
+
+/// Whether it was reported what one file in a directory says of a path.
+pub fn is_decided(
+    alloc: Global,
+    directory: &[u8],
+    file: &[u8],
+    path: &[u8],
+    is_dir: u32,
+    held: &mut HeldIgnores,
+    decision: &mut Decision,
+) -> bool
+    ensures { result ≡ true → IsDecidedOf directory.now file.now path.now is_dir decision.new }
+{
+    if osb_core_ignores_new(alloc, held) != DONE {
+        return false;
+    }
+    let added = osb_core_ignores_add(alloc, held, directory, file);
+    let decided = osb_core_ignores_match(held, path, is_dir, decision);
+    let _freed = osb_core_ignores_free(held);
+    added == DONE && decided == DONE
 }

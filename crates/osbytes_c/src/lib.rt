@@ -5,7 +5,9 @@
 //! their order, one step of each iterator: [`split`], [`chunks`] and [`symbols`], and many at once:
 //! [`split_fill`], [`chunks_fill`] and [`symbols_fill`], [`paths`] and [`path_tests`] paths, whose
 //! components [`path_parts`] finds and [`part_list`] writes, [`path_joins`], [`path_forms`] and
-//! [`path_names`] paths that are built of others, [`globs`] path patterns, [`ignores`] ignore files,
+//! [`path_names`] paths that are built of others, [`globs`] path patterns, [`glob_sets`]
+//! compiled sets of them that C keeps in a [`glob_places`] place, [`ignores`] ignore files, [`ignore_sets`] those of several
+//! directories, which C keeps in an [`ignore_places`] place,
 //! and [`shell`] and [`powershell`] words of a shell, [`shell_words`] lines of them,
 //! [`windows_quote`], [`windows_name`] and [`windows_arguments`] command lines of Windows, and
 //! [`options`] options and operands. [`laws`] says what whole walks and whole lines give,
@@ -35,8 +37,12 @@ pub mod fault;
 pub mod fault_text;
 pub mod fill_laws;
 pub mod fill_uses;
+pub mod glob_places;
+pub mod glob_sets;
 pub mod glob_uses;
 pub mod globs;
+pub mod ignore_places;
+pub mod ignore_sets;
 pub mod ignore_uses;
 pub mod ignores;
 mod item_list;

@@ -1,5 +1,5 @@
 //! For trying: what a caller of words, command lines and options concludes from one call, in each outcome.
-ghost use Rattle.std.specs.Prelude.{◌≡◌, ◌⊎◌, ◌≤◌, ◌<◌, ◌↔◌, ◌*◌, ◌+◌, ◌∷◌, true, false, List, ℕ, Option, drop, length, take, IfSome, MatchOption};
+ghost use Rattle.std.specs.Prelude.{◌≡◌, ◌⊎◌, ◌≤◌, ◌<◌, ◌↔◌, ◌*◌, ◌+◌, ◌∷◌, ◌++◌, [], true, false, List, ℕ, Option, drop, length, take, IfSome, MatchOption};
 ghost use Rattle.std.specs.Str.{chars};
 ghost use Rattle.wtf8_core.specs.Occurrence.{IsPrefix};
 ghost use Rattle.wtf8_core.specs.UnitsOf.{units_of};
@@ -8,6 +8,7 @@ ghost use Rattle.os_args.specs.Word.{Kind, dashes, equals, IsFlag, IsReadAs};
 ghost use Rattle.os_command_line.specs.Fish.{IsFishText};
 ghost use Rattle.os_command_line.specs.PowerShell.{HasNulAt, IsPowerShellText};
 ghost use Rattle.os_command_line.specs.Shell.{AreWords};
+ghost use Rattle.os_command_line.specs.ReservedWords.{first_word};
 ghost use Rattle.os_command_line.specs.ShellWriting.{HasNoNul, IsFirstNul, IsLineWord, quoted_word};
 ghost use Rattle.os_command_line.specs.Windows.{IsCommandLine, IsTextOf};
 ghost use Rattle.os_command_line.specs.WindowsWriting.{IsFirstAt};
@@ -16,10 +17,15 @@ ghost use Rattle.osbytes_c.specs.Faults.{IsWtf8Report};
 ghost use Rattle.osbytes_c.specs.Lines.{AreEndedWords, IsFaultOf, ended, language_of};
 
 use crate::fault::Fault;
+use crate::laws::command_lines;
 use crate::options::{OptionSpan, osb_core_flag, osb_core_option};
 use crate::powershell::osb_core_powershell_quote;
-use crate::shell::{osb_core_fish_quote, osb_core_shell_quote, osb_core_shell_quote_line};
+use crate::shell::{
+    osb_core_fish_quote, osb_core_shell_quote, osb_core_shell_quote_first,
+    osb_core_shell_quote_line,
+};
 use crate::shell_words::{LineFault, osb_core_shell_words};
+use crate::status::DONE;
 use crate::windows_arguments::osb_core_windows_arguments;
 use crate::windows_name::osb_core_windows_quote_name;
 use crate::windows_quote::osb_core_windows_quote;
@@ -33,6 +39,21 @@ pub fn word_len(name: &[u8]) -> Option<usize>
     let mut count = 0;
     let mut index = 0;
     match osb_core_shell_quote(name, &mut [], &mut count, &mut index) {
+        0 | 2 => Some(count),
+        _ => None,
+    }
+}
+
+/// How long the word of a name is in a POSIX shell where it is first on a line, or `None` if it has a NUL or is too
+/// long.
+pub fn first_word_len(name: &[u8]) -> Option<usize>
+    ensures { MatchOption result
+        (((index : ℕ) × IsFirstNul name.now index) ⊎ (usize.MAX < 4 * length name.now + 3))
+        (λ len. (len ≡ length (first_word name.now)) × HasNoNul name.now) }
+{
+    let mut count = 0;
+    let mut index = 0;
+    match osb_core_shell_quote_first(name, &mut [], &mut count, &mut index) {
         0 | 2 => Some(count),
         _ => None,
     }
@@ -147,6 +168,37 @@ pub fn name_len(name: &[u8]) -> Option<usize>
         0 | 2 => Some(count),
         _ => None,
     }
+}
+
+/// How many units a program's name and one argument take in two buffers, if there is room for both: with a space
+/// between them they are a command line of these.
+pub fn line_of_two(
+    name: &[u8],
+    argument: &[u8],
+    first: &mut [u16],
+    second: &mut [u16],
+) -> Option<(usize, usize)>
+    ensures { IfSome result (λ lens. IsCommandLine
+        (take lens.0 first.new ++ 0x20 ∷ take lens.1 second.new) (units_of name.now)
+        (units_of argument.now ∷ [])) }
+{
+    command_lines();
+    let mut len = 0;
+    let mut more = 0;
+    let mut index = 0;
+    let mut fault = Fault {
+        kind: 0,
+        value: 0,
+        index: 0,
+        count: 0,
+    };
+    if osb_core_windows_quote_name(name, first, &mut len, &mut index, &mut fault) != DONE {
+        return None;
+    }
+    if osb_core_windows_quote(argument, second, &mut more, &mut index, &mut fault) != DONE {
+        return None;
+    }
+    Some((len, more))
 }
 
 /// How many bytes the words of a line have with a 0 after each; `None` if there are no such options, the

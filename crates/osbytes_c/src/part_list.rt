@@ -11,7 +11,7 @@ use path_rules::Component;
 #[derive(Clone, Copy)]
 pub struct Part {
     /// 1 a prefix, 2 the root, 3 `.`, 4 `..`, 5 a name.
-    pub kind: usize,
+    pub kind: u32,
     /// The index of its first byte.
     pub start: usize,
     /// The index after its last byte.
@@ -19,7 +19,7 @@ pub struct Part {
 }
 
 /// The number of a component's kind.
-pub(crate) fn kind_number(component: Component<&[u8]>) -> usize
+pub(crate) fn kind_number(component: Component<&[u8]>) -> u32
     ensures { result ≡ kind_number (item_of component.entry) }
 {
     match component {

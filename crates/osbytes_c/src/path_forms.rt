@@ -1,5 +1,5 @@
 //! Other forms of a path: normal, clean, and that of another platform.
-ghost use Rattle.std.specs.Prelude.{◌≡◌, ◌⊎◌, ◌<◌, ◌↔◌, ◌∷◌, []};
+ghost use Rattle.std.specs.Prelude.{◌≡◌, ◌⊎◌, ◌≤◌, ◌<◌, ◌↔◌, ◌∷◌, []};
 ghost use Rattle.path_building.specs.declared.styles.StyleError.TheVariants as style_error;
 ghost use Rattle.path_building.specs.Cleaned.{IsCleaned};
 ghost use Rattle.path_building.specs.Normalized.{HasNoNormalForm, IsNormalized};
@@ -80,8 +80,9 @@ pub extern "C" fn osb_core_path_convert(
 ) -> u32
     ensures written { IsWritten result (IsRestyled (style_on from) (style_on to) path.now) out.old
         out.new count.new }
-    ensures string { (result ≡ 0) ⊎ (result ≡ 2) → IsString to path.now }
+    ensures string { (result ≡ 0) ⊎ ((result ≡ 2) ⊎ (result ≡ 12)) → IsString to path.now }
     ensures fault { result ≡ 1 → IsReport to path.now fault.new }
+    ensures faulty { (result ≡ 1) ↔ ((from ≤ 2) × ((to ≤ 2) × (¬ (IsString to path.now)))) }
     ensures component { result ≡ 12 → IsStyleFault (style_on from) (style_on to) path.now
         (style_error.Component index.new) }
     ensures platform { (result ≡ 16) ↔ ((2 < from) ⊎ (2 < to)) }

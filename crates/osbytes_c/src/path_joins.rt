@@ -40,7 +40,7 @@ pub extern "C" fn osb_core_path_join(
 
 /// Writes a path below a base, or says why there is none: 1 the path has a prefix, 2 it has a root,
 /// 3 one of its `..` leaves the base, 4 a name of a Windows path has a colon, 5 one is reserved,
-/// 6 the base is a prefix alone to which a name would belong.
+/// 6 the base isn't a place of its own, 7 the path has a NUL, 8 the base has one.
 #[unsafe(no_mangle)]
 pub extern "C" fn osb_core_path_join_checked(
     alloc: Global,
@@ -78,6 +78,8 @@ fn refused(error: JoinError, reason: &mut u32) -> u32
         JoinError::Stream => 4,
         JoinError::Reserved => 5,
         JoinError::Base => 6,
+        JoinError::Nul(_) => 7,
+        JoinError::BaseNul(_) => 8,
         JoinError::Memory => return NO_MEMORY,
     };
     BAD_PATH

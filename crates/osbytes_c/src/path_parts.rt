@@ -101,7 +101,7 @@ fn push_start(start: Start, from: usize, to: usize, out: &mut [Part], count: usi
 }
 
 /// Appends a component of a kind.
-fn push_from(kind: usize, start: usize, end: usize, out: &mut [Part], count: usize) -> usize
+fn push_from(kind: u32, start: usize, end: usize, out: &mut [Part], count: usize) -> usize
     requires { count + 1 < 2 ^ 64 }
     ensures pushes { PushesPart (part_of kind start end ∷ []) out.old count out.new result }
     ensures count { result ≡ count + 1 }

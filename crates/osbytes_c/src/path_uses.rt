@@ -125,9 +125,10 @@ pub fn convert_in(
 ) -> Result<usize, u32>
     ensures ok { IfOk result (λ len. IsString to path.now
         × IsRestyled (style_on from) (style_on to) path.now (take len buffer.new)) }
-    ensures fault { IfErr result (λ status. status ≡ 1 → IsReport to path.now fault.new) }
-    ensures component { IfErr result (λ status. status ≡ 12
-        → IsStyleFault (style_on from) (style_on to) path.now (style_error.Component index.new)) }
+    ensures fault { IfErr result (λ status. status ≡ 1 → IsReport to path.now fault.new
+        × (¬ (IsString to path.now))) }
+    ensures component { IfErr result (λ status. status ≡ 12 → IsString to path.now
+        × IsStyleFault (style_on from) (style_on to) path.now (style_error.Component index.new)) }
 {
     let mut len = 0;
     match osb_core_path_convert(alloc, from, to, path, buffer, &mut len, index, fault) {

@@ -1,19 +1,24 @@
 //! Names as words of a shell.
 ghost use Rattle.std.specs.Prelude.{◌≡◌, ◌⊎◌, ◌<◌, ◌↔◌, ◌*◌, ◌+◌, ◌^◌, ◌∷◌, [], length, MatchResult, OnOk};
 ghost use Rattle.os_command_line.specs.Fish.{fish_word, IsFishText};
+ghost use Rattle.os_command_line.specs.ReservedWords.{first_word};
 ghost use Rattle.os_command_line.specs.ShellWriting.{quoted_word, IsLineWord, HasNoNul, IsFirstNul};
 ghost use Rattle.osbytes_c.specs.Answers.{IsOneOf, IsWritten, Writes};
 ghost use Rattle.osbytes_c.specs.Words.{IsWordOf};
 
 use crate::status::{HAS_NUL, TOO_LONG, fits};
 use crate::strings::unix;
-use os_command_line::shell::{NulError, write_quoted, write_quoted_fish, write_quoted_line};
+use os_command_line::shell::{
+    NulError, write_quoted, write_quoted_first, write_quoted_fish, write_quoted_line,
+};
 
 /// Whose word it is.
 #[derive(Clone, Copy)]
 pub(crate) enum Shell {
     /// That of every POSIX shell.
     Posix,
+    /// The same, first on a line.
+    First,
     /// That of the shells that read `$'..'`, on one line.
     Line,
     /// That of fish.
@@ -37,6 +42,24 @@ pub extern "C" fn osb_core_shell_quote(
     ensures answers { IsOneOf (0 ∷ 2 ∷ 7 ∷ 21 ∷ []) result }
 {
     quote(Shell::Posix, name, out, count, index)
+}
+
+/// Writes the word of a name that is first on a line, where a reserved word is quoted.
+#[unsafe(no_mangle)]
+pub extern "C" fn osb_core_shell_quote_first(
+    name: &[u8],
+    out: &mut [u8],
+    count: &mut usize,
+    index: &mut usize,
+) -> u32
+    ensures written { IsWritten result (λ word. word ≡ first_word name.now) out.old out.new
+        count.new }
+    ensures name { (result ≡ 0) ⊎ (result ≡ 2) → HasNoNul name.now }
+    ensures nul { result ≡ 7 → IsFirstNul name.now index.new }
+    ensures long { (result ≡ 21) ↔ (usize.MAX < 4 * length name.now + 3) }
+    ensures answers { IsOneOf (0 ∷ 2 ∷ 7 ∷ 21 ∷ []) result }
+{
+    quote(Shell::First, name, out, count, index)
 }
 
 /// The same on one line.
@@ -109,6 +132,7 @@ fn write_word(shell: Shell, name: &[u8], out: &mut [u8]) -> Result<usize, NulErr
 {
     match shell {
         Shell::Posix => write_quoted(unix(name), out),
+        Shell::First => write_quoted_first(unix(name), out),
         Shell::Line => write_quoted_line(unix(name), out),
         Shell::Fish => write_quoted_fish(unix(name), out),
     }

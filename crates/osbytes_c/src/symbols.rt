@@ -5,7 +5,7 @@ ghost use Rattle.wtf8_core.specs.Covered.{StartsWithNoCharacter};
 ghost use Rattle.wtf8_core.specs.Wtf8.{IsWtf8};
 ghost use Rattle.osbytes_c.specs.Faults.{IsString, IsUnstring};
 ghost use Rattle.osbytes_c.specs.SymbolFills.{IsSymbolStep};
-ghost use Rattle.osbytes_c.specs.Steps.{IsSymbolAt, IsFirstOf, IsSurrogatePrefix, StartsWithNoSymbol};
+ghost use Rattle.osbytes_c.specs.Steps.{IsSymbolAt, IsFirstOf, IsSurrogatePrefix, StartsWithNoSymbol, StartsWithSymbol, step_after};
 
 use crate::status::{DONE, ENDED, FAULTY, NO_INDEX, NO_PLATFORM};
 use crate::strings::unix;
@@ -29,6 +29,8 @@ pub struct Step {
 pub extern "C" fn osb_core_symbol(platform: u32, bytes: &[u8], at: usize, symbol: &mut Step) -> u32
     ensures symbol { result ≡ 0 → IsString platform (drop at bytes.now) → IsSymbolAt platform
         bytes.now at symbol.new }
+    ensures first { result ≡ 0 → StartsWithSymbol platform (drop at bytes.now)
+        (step_after at symbol.new) }
     ensures within { result ≡ 0 → (at < symbol.new.end) × (symbol.new.end ≤ length bytes.now) }
     ensures fault { result ≡ 1 → IsUnstring platform (drop at bytes.now) }
     ensures none { (result ≡ 1) ↔ ((at < length bytes.now)
@@ -83,6 +85,7 @@ fn first_symbol(platform: u32, bytes: &[u8]) -> Option<Step>
     requires some { 0 < length bytes.now }
     ensures first { MatchOption result (IsUnstring platform bytes.now)
         (λ step. IsString platform bytes.now → IsFirstOf platform bytes.now step) }
+    ensures starts { IfSome result (λ step. StartsWithSymbol platform bytes.now step) }
     ensures none { MatchOption result (StartsWithNoSymbol platform bytes.now)
         (λ _. ¬ (StartsWithNoSymbol platform bytes.now)) }
     ensures within { IfSome result (λ step. (0 < step.end) × (step.end ≤ length bytes.now)) }
@@ -116,6 +119,7 @@ fn character_step(bytes: &[u8], character: char, rest: &[u8]) -> Step
     requires { bytes.now ≡ encode_utf8 character ++ rest.now }
     ensures first { (platform : ℕ) → IsString platform bytes.now
         → IsFirstOf platform bytes.now result }
+    ensures starts { (platform : ℕ) → StartsWithSymbol platform bytes.now result }
     ensures some { (platform : ℕ) → ¬ (StartsWithNoSymbol platform bytes.now) }
     ensures within { (0 < result.end) × (result.end ≤ length bytes.now) }
 {

@@ -1,9 +1,10 @@
 //! Many symbols of a string at once.
-ghost use Rattle.std.specs.Prelude.{◌≡◌, ◌≤◌, ◌<◌, ◌+◌, ◌^◌, ◌↔◌, ◌∷◌, [], ℕ, length, drop, IfSome, MatchOption};
+ghost use Rattle.std.specs.Prelude.{◌≡◌, ◌≤◌, ◌<◌, ◌+◌, ◌^◌, ◌↔◌, ◌∷◌, [], ℕ, length, drop, IfNone, IfSome, MatchOption};
 ghost use Rattle.osbytes_c.specs.Answers.{IsOneOf};
 ghost use Rattle.osbytes_c.specs.Faults.{IsUnstring};
 ghost use Rattle.osbytes_c.specs.Fills.{Fills, IsOutside};
-ghost use Rattle.osbytes_c.specs.SymbolFills.{IsSymbolStep, ShowsSymbol, SymbolViews};
+ghost use Rattle.osbytes_c.specs.SymbolFills.{IsStuck, IsSymbolStep, ShowsSymbol, SymbolViews};
+ghost use Rattle.osbytes_c.specs.Steps.{StartsWithNoSymbol};
 
 use crate::status::{DONE, ENDED, FAULTY, NO_INDEX, NO_PLATFORM};
 use crate::symbols::{Step, symbol_after};
@@ -35,6 +36,7 @@ pub extern "C" fn osb_core_symbols_fill(
     ensures symbols { result ≡ 0 → Fills (SymbolViews platform bytes.now address at) out.old
         out.new filled.new }
     ensures fault { result ≡ 1 → IsUnstring platform (drop at bytes.now) }
+    ensures stuck { result ≡ 1 → IsStuck platform bytes.now address at (length out.old) }
     ensures index { (result ≡ 18) ↔ ((platform ≤ 2) × IsOutside address at bytes.now) }
     ensures ended { (result ≡ 4) ↔ ((platform ≤ 2) × ((¬ (IsOutside address at bytes.now))
         × (at ≡ length bytes.now))) }
@@ -69,8 +71,9 @@ fn fill_symbols(
     requires known { platform ≤ 2 }
     requires within { at ≤ length bytes.now }
     requires address { address + length bytes.now < 2 ^ 64 }
-    ensures { MatchOption result (IsUnstring platform (drop at bytes.now))
+    ensures fills { MatchOption result (IsUnstring platform (drop at bytes.now))
         (λ filled. Fills (SymbolViews platform bytes.now address at) out.old out.new filled) }
+    ensures stuck { IfNone result (IsStuck platform bytes.now address at (length out.old)) }
 {
     let mut next = at;
     let mut count = 0;
@@ -105,6 +108,7 @@ fn write_symbol(
     requires address { address + length bytes.now < 2 ^ 64 }
     ensures symbol { MatchOption result (IsUnstring platform (drop at bytes.now))
         (λ step. IsSymbolStep platform bytes.now at step) }
+    ensures none { IfNone result (StartsWithNoSymbol platform (drop at bytes.now)) }
     ensures shown { IfSome result (λ step. ShowsSymbol address at step out.new) }
 {
     if let Some(step) = ascii_after(bytes, at) {

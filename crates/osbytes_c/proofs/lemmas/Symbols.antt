@@ -1,5 +1,5 @@
 -- The first symbol of bytes, by what they begin with.
-use Rattle.std.proofs.Common.{◌≡◌, ⊎_elim, ℕ, zero, suc, get_or, slice_index_or, ◌+◌, ◌-◌, ◌<◌, ◌≤◌, List, [], ◌∷◌, ◌++◌, length, take, drop, refl, sym, ap, ◌∙◌, subst, arith, length-append, length-drop, take-append-drop}
+use Rattle.std.proofs.Common.{◌≡◌, inl, ⊎_elim, ℕ, zero, suc, get_or, slice_index_or, ◌+◌, ◌-◌, ◌<◌, ◌≤◌, List, [], ◌∷◌, ◌++◌, length, take, drop, refl, sym, ap, ◌∙◌, subst, arith, length-append, length-drop, take-append-drop}
 use Rattle.std.proofs.Math.Utf8.{low_scalar}
 use Rattle.std.proofs.lemmas.Bool.{cases_lt}
 use Rattle.std.proofs.lemmas.List.{length-take-le, take-take, take_at, drop_at, drop-drop, drop_all, drop_more}
@@ -32,7 +32,7 @@ use Rattle.os_str_ext.proofs.lemmas.SymbolSteps.{symbols_by_character, symbols_b
 use Rattle.osbytes_c.specs.Faults.{IsString, IsUnstring}
 use Rattle.osbytes_c.specs.Platforms.{units_on}
 use Rattle.osbytes_c.specs.SymbolFills.{IsSymbolStep}
-use Rattle.osbytes_c.specs.Steps.{Reports, IsSymbolAt, IsFirstOf, IsSurrogatePrefix, StartsWithNoSymbol}
+use Rattle.osbytes_c.specs.Steps.{Reports, IsSymbolAt, IsFirstOf, IsSurrogatePrefix, StartsWithNoSymbol, StartsWithSymbol, step_after}
 use Rattle.osbytes_c.specs.declared.symbols.Step.{Step}
 
 -- what follows a text within a text is one
@@ -130,6 +130,15 @@ character_first p c s rest step scalar starts is end w =
     (subst (IsString p) suffix (after_on p s n w (subst IsUtf8 (sym prefix) (IsUtf8-encode c scalar))))
     (omega (arith, same, some)) (omega (arith, same, sizes))
 
+-- bytes begin with it
+pub character_starts : (p c : ℕ) (s rest : List ℕ) (step : Step) → IsScalar c → s ≡ encode_utf8 c ++ rest → (step.kind ≡ 1) × (step.value ≡ c) → step.end ≡ length s - length rest → StartsWithSymbol p s step
+character_starts p c s rest step scalar starts is end =
+    let n = length (encode_utf8 c) in
+    let sizes = size c s rest scalar starts in
+    let same : step.end ≡ n = end ∙ omega (arith, sizes) in
+    let prefix : take n s ≡ encode_utf8 c = ap (take n) starts ∙ take_at (encode_utf8 c) rest n refl in
+    inl (is.0, (subst IsScalar (sym is.1) scalar, ap (λ k. take k s) same ∙ prefix ∙ ap encode_utf8 (sym is.1)))
+
 -- a byte of Unix
 unix_unit : (s : List ℕ) → 0 < length s → (m : ℕ) → 0 < m → IsFirstUnit (λ _. Unit {0}) itself (take m s) (slice_index_or s 0 0) 1
 unix_unit [] some m pos = absurd (omega (arith, some))
@@ -180,6 +189,9 @@ step_from p s at step le h =
       ordered = let o = h.ordered in omega (arith, o);
       within = let w = h.within in omega (arith, w, length-drop at s, le);
     }
+
+pub starts_from : (p : ℕ) (s : List ℕ) (at : ℕ) (step : Step) → StartsWithSymbol p (drop at s) step → StartsWithSymbol p (drop at s) (step_after at (record { kind = step.kind; value = step.value; end = at + step.end }))
+starts_from p s at step h = subst (λ e. StartsWithSymbol p (drop at s) (record { kind = step.kind; value = step.value; end = e })) (omega arith) h
 
 -- the first three bytes of WTF-8 that begins with no whole character
 pub prefix_uncovered : (s : List ℕ) → StartsWithNoCharacter s → StartsWithNoCharacter (take 3 s)
@@ -235,6 +247,7 @@ ascii_step p s at b less is ascii =
     let end : 1 ≡ length (drop at s) - length rest = omega (arith, less, length-drop at s, length-drop (at + 1) s) in
     record {
       symbol = λ w. step_from p s at step (omega (arith, less)) (character_first p b (drop at s) rest step scalar starts (refl, refl) end w);
+      first = starts_from p s at step (character_starts p b (drop at s) rest step scalar starts (refl, refl) end);
       some = omega arith;
       within = omega (arith, less);
     }

@@ -1,7 +1,7 @@
-use Rattle.std.proofs.Common.{refl, subst, sym}
+use Rattle.std.proofs.Common.{inr, refl, subst, sym}
 use Rattle.wtf8_core.specs.Covered.{StartsWithNoCharacter}
 use Rattle.osbytes_c.specs.Faults.{IsString}
-use Rattle.osbytes_c.specs.Steps.{IsFirstOf, StartsWithNoSymbol}
+use Rattle.osbytes_c.specs.Steps.{IsFirstOf, StartsWithNoSymbol, StartsWithSymbol}
 use Rattle.osbytes_c.proofs.lemmas.Symbols.{byte_first, surrogate_first, unstring_of_wasm, no_symbol_of_wasm}
 use Rattle.osbytes_c.proofs.symbols.first_symbol.Goals as goal
 
@@ -25,6 +25,18 @@ pub returns-clause-first : goal.returns-clause-first
 returns-clause-first c =
     let s = c.args.bytes.now in
     unstring_of_wasm c.args.platform s c.if-platform-eq0.false c.if-platform-eq1.false c.requires.known c.requires.some (subst StartsWithNoCharacter c.unix.ensures c.in_default.ensures.bytes)
+
+pub returns-then-platform-eq0-clause-starts : goal.returns-then-platform-eq0-clause-starts
+returns-then-platform-eq0-clause-starts c =
+    let s = c.args.bytes.now in
+    let uncovered = subst StartsWithNoCharacter c.unix.ensures c.in_default.ensures.bytes in
+    subst (λ p. StartsWithSymbol p s (record { kind = 2; value = c.from.result; end = 1 })) (sym c.if-platform-eq0.true) (inr (refl, (uncovered, (c.from.ensures, refl))))
+
+pub returns-then-platform-eq1-clause-starts : goal.returns-then-platform-eq1-clause-starts
+returns-then-platform-eq1-clause-starts c =
+    let s = c.args.bytes.now in
+    let uncovered = subst StartsWithNoCharacter c.unix.ensures c.in_default.ensures.bytes in
+    subst (λ p. StartsWithSymbol p s (record { kind = 2; value = c.in-Some-first_surrogate.unit; end = 3 })) (sym c.if-platform-eq1.true) (inr (refl, (uncovered, (c.in-Some-first_surrogate.ensures.unit, refl))))
 
 pub returns-in_default-first_surrogate-clause-none : goal.returns-in_default-first_surrogate-clause-none
 returns-in_default-first_surrogate-clause-none c =
