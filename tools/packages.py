@@ -1,34 +1,43 @@
 """The C library as files for those who have no kit: an archive of it, and a Python package.
 
 Both are made of what `tools/c-library` has built in a folder: libosbytes.a, the shared object and its name. The archive
-has the header, man pages that are made of the header's comments, the pkg-config file, docs/C.md and the example. The
-Python package is a wheel of the sources in python/osbytes with the shared object beside them.
+has the header, man pages that are made of the header's comments, the pkg-config file, docs/C.md and the examples, and
+at its top a README, the changes and the licence. A link of a document that leads to no file of the archive is its
+words alone. The Python package is a wheel of the sources in python/osbytes with the shared object beside them.
 """
 
 from __future__ import annotations
 
-import base64
 import gzip
 import hashlib
 import io
+import posixpath
 import re
+import sys
 import tarfile
-import zipfile
 from pathlib import Path
 from typing import NamedTuple
 
 from handed_on import version
 from sources import ROOT
 
+sys.path.insert(0, str(ROOT / "python"))
+import build_backend
+
 HEADER = ROOT / "c" / "osbytes.h"
-# The first comment of a header, a comment before declarations, and a declaration of a call.
+# The first comment of a header, a comment before declarations, a declaration of a call, and a type with its comment.
 OPENING = re.compile(r"/\* osbytes\.h: (.*?)\*/", re.S)
-BLOCK = re.compile(r"/\*(?P<said>(?:(?!\*/).)*)\*/\n(?P<calls>(?:[a-z][\w ]*\*?osb_\w+\((?:[^;]*)\);\n)+)", re.S)
-CALL = re.compile(r"[a-z][\w ]*\*?(osb_\w+)\([^;]*\);", re.S)
+SAID = r"/\*(?P<said>(?:(?!\*/).)*)\*/\n"
+DECLARATION = r"(?:OSB_NODISCARD )?(?P<type>[a-z][\w ]*?\*?)(?P<name>osb_\w+)\([^;]*\);"
+BLOCK = re.compile(SAID + r"(?P<calls>(?:" + re.sub(r"\?P<\w+>", "", DECLARATION) + r"\n)+)", re.S)
+CALL = re.compile(DECLARATION, re.S)
+TYPE = re.compile(r"(?:" + SAID + r")?(?P<text>typedef (?:struct|enum) (?P<name>osb_\w+)(?: \{[^}]*\} (?P=name)| (?P=name));)\n", re.S)
+STATUS = re.compile(r"^    (OSB_\w+) = \d+,?\s+/\* (.*?) \*/", re.S | re.M)
+# The lines on the syntax of patterns.
+SYNTAX = re.compile(r"^// Path patterns\..*?\n(?!//)", re.S | re.M)
+LINK = re.compile(r"\[([^\]]*)\]\(([^)#\s]+)(#[^)\s]*)?\)")
 # glibc 2.17 has all that the library asks for, and is that of this tag.
 TAG = "py3-none-manylinux2014_{}"
-# A fixed time, so that the same sources give the same files.
-MADE = (2026, 1, 1, 0, 0, 0)
 
 
 class Entry(NamedTuple):
@@ -52,36 +61,93 @@ def as_roff(text: str) -> str:
     return re.sub(r"\n\n+", "\n.PP\n", "\n".join(lines))
 
 
-def page(name: str, said: str, synopsis: str, more: str) -> str:
-    """Returns a man page."""
-    first = re.split(r"(?<=[.:])\s", " ".join(said.split()), maxsplit=1)[0].rstrip(".:")
-    parts = [
-        f'.TH {name.upper()} 3 "" "osbytes {version()}" "osbytes"',
-        f".SH NAME\n{name} \\- {as_roff(first)}",
-        f".SH SYNOPSIS\n.nf\n#include <osbytes.h>\n\n{as_roff(synopsis)}\n.fi",
-        f".SH DESCRIPTION\n{as_roff(said)}",
-        f".SH SEE ALSO\n{more}",
-    ]
-    return "\n".join(parts) + "\n"
+def first_words(said: str) -> str:
+    """Returns what a comment says first, as a line of names has it: up to a colon or the end of a sentence."""
+    first = re.split(r"(?<=[.:;])\s", " ".join(said.split()), maxsplit=1)[0].rstrip(".:;")
+    if len(first) > 100:
+        first = first[: first.rfind(",", 0, 100)] if "," in first[:100] else first
+    return first[:1].lower() + first[1:]
+
+
+def as_shown(text: str) -> str:
+    """Returns lines as roff shows them line for line."""
+    return ".nf\n" + as_roff(text).replace("\n.PP\n", "\n\n") + "\n.fi"
+
+
+def page(name: str, parts: dict[str, str]) -> str:
+    """Returns a man page of these sections, whose texts are roff."""
+    head = f'.TH {name.upper()} 3 "" "osbytes {version()}" "osbytes"'
+    return "\n".join([head, *(f".SH {title}\n{text}" for title, text in parts.items() if text)]) + "\n"
+
+
+def statuses(header: str) -> dict[str, str]:
+    """Returns what each status means."""
+    listed = header[header.index("typedef enum osb_status {") : header.index("} osb_status;")]
+    return {name: " ".join(re.sub(r"\n\s*\*", " ", said).split()) for name, said in STATUS.findall(listed)}
+
+
+def return_value(result: str, said: str, header: str) -> str:
+    """Returns the section on what a call returns, by the type of its result and the statuses that its comment names."""
+    means = statuses(header)
+    named = [name for name in dict.fromkeys(re.findall(r"OSB_[A-Z_]+", said)) if name in means]
+    minus = ""
+    if result == "int":
+        lines, minus = [".TP\n1\nit holds", ".TP\n0\nit doesn't hold"], "\\-"
+    elif result == "osb_status":
+        lines = [".TP\nOSB_OK\nsuccess"]
+    else:
+        return ""
+    named = [name for name in [*named, "OSB_BAD_POINTER"] if name != "OSB_OK"]
+    return "\n".join([*lines, *(f".TP\n{minus}{name}\n{as_roff(means[name])}" for name in dict.fromkeys(named))])
+
+
+def types_in(synopsis: str, types: dict[str, tuple[str, str]]) -> str:
+    """Returns the section on the structs and enums that a declaration names, and those that they name."""
+    found: dict[str, None] = {}
+
+    def find(text: str) -> None:
+        for name in re.findall(r"\bosb_\w+\b", text):
+            if name in types and name not in found and name != "osb_status":
+                found[name] = None
+                find(types[name][1])
+
+    find(synopsis)
+    return "\n.PP\n".join((as_roff(types[name][0]) + "\n.PP\n" if types[name][0] else "") + as_shown(types[name][1]) for name in found)
 
 
 def man_pages() -> dict[str, str]:
     """Returns the man pages by their names: one of the library, and one for each call."""
     header = HEADER.read_text(encoding="utf-8")
     opening = words_of(OPENING.search(header)[1])
-    pages, earlier = {}, ""
+    types = {it["name"]: (words_of(it["said"] or ""), it["text"]) for it in TYPE.finditer(header)}
+    syntax = "\n".join(line.removeprefix("//").removeprefix(" ") for line in SYNTAX.search(header)[0].splitlines() if line.startswith("//"))
+    pages = {}
     for block in BLOCK.finditer(header):
         said = words_of(block["said"])
-        # what begins with these words speaks of the calls before it, too
-        said = f"{earlier}\n\n{said}" if said.startswith("The same") else said
-        earlier = said
-        calls = [call[0] for call in CALL.finditer(block["calls"])]
-        for name in CALL.findall(block["calls"]):
-            pages[name] = page(name, said, "\n".join(calls), ".BR osbytes (3)")
-    for call in CALL.finditer(header):
-        pages.setdefault(call[1], page(call[1], "See the header osbytes.h", call[0], ".BR osbytes (3)"))
+        marked = "OSB_NODISCARD "
+        calls = [call[0].removeprefix(marked).replace("\n" + " " * len(marked), "\n") for call in CALL.finditer(block["calls"])]
+        for call in CALL.finditer(block["calls"]):
+            name, synopsis = call["name"], "\n".join(calls)
+            pages[name] = page(name, {
+                "NAME": f"{name} \\- {as_roff(first_words(said))}",
+                "SYNOPSIS": as_shown(f"#include <osbytes.h>\n\n{synopsis}"),
+                "DESCRIPTION": as_roff(said),
+                "RETURN VALUE": return_value(call["type"].strip(), said, header),
+                "TYPES": types_in(synopsis, types),
+                "PATTERNS": as_shown(syntax) if "glob" in name else "",
+                "SEE ALSO": ".BR osbytes (3)",
+            })
+    calls = {call["name"] for call in CALL.finditer(header)}
+    if missing := calls - pages.keys():
+        raise ValueError(f"no comment stands before {', '.join(sorted(missing))}")
     named = ",\n".join(f".BR {name} (3)" for name in sorted(pages))
-    return {"osbytes": page("osbytes", opening, "cc \\.\\.\\. \\-losbytes", named), **pages}
+    library = page("osbytes", {
+        "NAME": f"osbytes \\- {as_roff(first_words(opening))}",
+        "SYNOPSIS": as_shown("#include <osbytes.h>\n\ncc ... -losbytes"),
+        "DESCRIPTION": as_shown(opening),
+        "SEE ALSO": named,
+    })
+    return {"osbytes": library, **pages}
 
 
 def pkg_config() -> str:
@@ -95,18 +161,54 @@ Libs: -L${{prefix}}/lib -losbytes
 """
 
 
+# The documents and the examples of the archive, by where they are in the repository, and where in it.
+DOCUMENTS = {
+    "c/README.md": "README.md",
+    "docs/CHANGES.md": "CHANGES.md",
+    "LICENSE.md": "LICENSE.md",
+    "NOTICE": "NOTICE",
+    "docs/C.md": "share/doc/osbytes/C.md",
+    "c/names.c": "share/doc/osbytes/names.c",
+    "c/below.c": "share/doc/osbytes/below.c",
+    "c/outside.c": "share/doc/osbytes/outside.c",
+    "c/outside.cc": "share/doc/osbytes/outside.cc",
+    "c/outside.go": "share/doc/osbytes/outside.go",
+    "c/outside.rs": "share/doc/osbytes/outside.rs",
+    "c/osbytes.h": "include/osbytes.h",
+}
+
+
+def with_links(text: str, document: str) -> str:
+    """Returns a document whose links lead to files of the archive; of any other only the words are left."""
+    here = posixpath.dirname(document)
+
+    def linked(link: re.Match[str]) -> str:
+        if ":" in link[2]:
+            return link[0]
+        leads_to = DOCUMENTS.get(posixpath.normpath(posixpath.join(here, link[2])))
+        if leads_to is None or not (ROOT / posixpath.normpath(posixpath.join(here, link[2]))).exists():
+            return link[1]
+        return f"[{link[1]}]({posixpath.relpath(leads_to, posixpath.dirname(DOCUMENTS[document]) or '.')}{link[3] or ''})"
+
+    return LINK.sub(linked, text)
+
+
+def documents() -> dict[str, Entry]:
+    """Returns the documents and the examples that are there, by where they are in the archive."""
+    there = {path: to for path, to in DOCUMENTS.items() if (ROOT / path).exists()}
+    texts = {path: (ROOT / path).read_text(encoding="utf-8") for path in there}
+    return {to: Entry((with_links(texts[path], path) if path.endswith(".md") else texts[path]).encode()) for path, to in there.items()}
+
+
 def library_entries(built: Path) -> dict[str, Entry]:
     """Returns what the archive has of a library that is built in a folder, by paths in it."""
     soname = f"libosbytes.so.{version().rsplit('.', 1)[0]}"
     entries = {
-        "include/osbytes.h": Entry(HEADER.read_bytes()),
+        **documents(),
         "lib/libosbytes.a": Entry((built / "libosbytes.a").read_bytes()),
         f"lib/{soname}": Entry((built / soname).read_bytes(), 0o755),
         "lib/libosbytes.so": Entry(b"", 0o777, soname),
         "lib/pkgconfig/osbytes.pc": Entry(pkg_config().encode()),
-        "share/doc/osbytes/C.md": Entry((ROOT / "docs" / "C.md").read_bytes()),
-        "share/doc/osbytes/names.c": Entry((ROOT / "c" / "names.c").read_bytes()),
-        "share/doc/osbytes/below.c": Entry((ROOT / "c" / "below.c").read_bytes()),
     }
     for name, text in man_pages().items():
         entries[f"share/man/man3/{name}.3"] = Entry(text.encode())
@@ -131,43 +233,16 @@ def make_archive(built: Path, folder: Path, processor: str) -> Path:
     return file
 
 
-def metadata() -> str:
-    """Returns what an index shows of the Python package."""
-    return f"""Metadata-Version: 2.1
-Name: osbytes
-Version: {version()}
-Summary: Strings of operating systems, of any platform on any platform
-Requires-Python: >=3.9
-Description-Content-Type: text/markdown
-
-{(ROOT / "python" / "README.md").read_text(encoding="utf-8")}"""
-
-
-def record_of(path: str, content: bytes) -> str:
-    sum = base64.urlsafe_b64encode(hashlib.sha256(content).digest()).decode().rstrip("=")
-    return f"{path},sha256={sum},{len(content)}\n"
-
-
 def make_wheel(built: Path, folder: Path, processor: str) -> Path:
     """Makes the Python package with a library that is built in a folder."""
-    tag = TAG.format(processor)
-    info = f"osbytes-{version()}.dist-info"
-    sources = sorted(path for path in (ROOT / "python" / "osbytes").iterdir() if path.suffix in (".py", ".typed"))
-    entries = {f"osbytes/{path.name}": path.read_bytes() for path in sources}
-    entries["osbytes/libosbytes.so"] = (built / "libosbytes.so").read_bytes()
-    entries[f"{info}/METADATA"] = metadata().encode()
-    entries[f"{info}/WHEEL"] = f"Wheel-Version: 1.0\nGenerator: tools/packages\nRoot-Is-Purelib: false\nTag: {tag}\n".encode()
-    records = "".join(record_of(path, content) for path, content in entries.items())
-    entries[f"{info}/RECORD"] = f"{records}{info}/RECORD,,\n".encode()
-    file = folder / f"osbytes-{version()}-{tag}.whl"
-    with zipfile.ZipFile(file, "w", zipfile.ZIP_DEFLATED) as made:
-        for path, content in entries.items():
-            made.writestr(zipfile.ZipInfo(path, MADE), content, zipfile.ZIP_DEFLATED)
-    return file
+    return build_backend.make_wheel(folder, built / "libosbytes.so", TAG.format(processor), build_backend.compiler_for(processor))
 
 
 def make_packages(built: Path, folder: Path) -> list[Path]:
-    """Makes the archives and the wheels of what is built in a folder, for each processor that is there."""
+    """Makes the archives and the wheels of what is built in a folder, for each processor that is there, and the
+    source distribution of the Python package."""
     rooms = {"x86_64": built, "aarch64": built / "aarch64"}
     there = {processor: room for processor, room in rooms.items() if (room / "libosbytes.so").exists()}
-    return [make(room, folder, processor) for processor, room in there.items() for make in (make_archive, make_wheel)]
+    made = [make(room, folder, processor) for processor, room in there.items() for make in (make_archive, make_wheel)]
+    libraries = [(processor, room / "libosbytes.so") for processor, room in there.items()]
+    return [*made, build_backend.make_sdist(folder, libraries)] if libraries else made

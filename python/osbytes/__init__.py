@@ -1,9 +1,9 @@
 """Strings of operating systems, of any platform on any platform.
 
-A name on Unix is any bytes, one on Windows is 16-bit units of which some may be lone surrogates, one in
-wasm is UTF-8. These calls take and give such strings as `bytes` (of Windows as WTF-8, which is UTF-8 in which
-lone surrogates may occur) or as the `str` that Python makes of them: of Unix and wasm by `surrogateescape`, as
-`os.fsdecode` does, of Windows by `surrogatepass`.
+A name on Unix is any bytes. One on Windows is a sequence of 16-bit code units, some of which can be lone surrogates. One
+in wasm is UTF-8. The calls take such strings as `bytes` (of Windows as WTF-8, which is UTF-8 that can have lone
+surrogates) or as the `str` that Python makes of them: of Unix and wasm by `surrogateescape`, as `os.fsdecode` does, of
+Windows by `surrogatepass`. What is made of a `str` is a `str`, and what is made of `bytes` is `bytes`.
 
 >>> import osbytes
 >>> osbytes.escape_line(b"caf\\xe9\\n")
@@ -15,18 +15,15 @@ Traceback (most recent call last):
 ...
 osbytes.FaultError: invalid utf-8 sequence of 1 bytes from index 2
 
-The work is done by libosbytes, whose answers are proved. Each error is an `OsBytesError`, and a `ValueError`.
+The work is done by libosbytes, whose results are proved. A value that a call can't work with raises an `OsBytesError`,
+which is a `ValueError`; a wrong type raises `TypeError`, and an allocation failure `MemoryError`.
 """
 
 from __future__ import annotations
 
 from ._calls import (
-    UNIX,
-    WASM,
-    WINDOWS,
     Character,
     Checker,
-    Platform,
     Unit,
     check,
     chunks,
@@ -63,6 +60,7 @@ from ._errors import (
     NoStringError,
     NulError,
     OsBytesError,
+    PatternError,
     QuoteError,
     UnexpectedValueError,
 )
@@ -94,6 +92,7 @@ from ._path_building import (
     path_with_extension,
     path_with_file_name,
 )
+from ._path_classes import OsPath, UnixPath, WindowsPath
 from ._paths import (
     Component,
     Kind,
@@ -109,6 +108,9 @@ from ._paths import (
     path_starts_with,
     path_strip_prefix,
 )
+from ._strings import UNIX, WASM, WINDOWS, OsName, OsString, Platform
+
+__version__ = "0.2.0"
 
 __all__ = [
     "UNIX",
@@ -139,12 +141,19 @@ __all__ = [
     "OptionKind",
     "Options",
     "OsBytesError",
+    "OsName",
+    "OsPath",
+    "OsString",
+    "PatternError",
     "Platform",
     "QuoteError",
     "UnexpectedValueError",
     "Unit",
+    "UnixPath",
     "Verdict",
     "VerdictKind",
+    "WindowsPath",
+    "__version__",
     "check",
     "chunks",
     "compare",

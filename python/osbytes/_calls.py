@@ -1,21 +1,21 @@
-"""The calls of libosbytes, on `bytes` and `str`."""
+"""Checks, conversions, escapes, searches and iterators over strings."""
 
 from __future__ import annotations
 
 from array import array
-from ctypes import Structure, byref, c_int32, c_size_t, c_uint16, create_string_buffer
-from enum import IntEnum
-from typing import Callable, Iterator, NamedTuple, TypeVar, Union
+from ctypes import Structure, addressof, c_char_p, c_int32, c_size_t, c_void_p, cast, sizeof
+from typing import Dict, Iterable, Iterator, NamedTuple, Union
 
-from ._errors import BadEscapeError, FaultError, NoStringError, OsBytesError
+from . import _quick as quick
+from ._errors import BadEscapeError, FaultError, PatternError
 from ._library import (
     BAD_ESCAPE,
-    CHARACTER,
-    FAULT_TEXT_ROOM,
+    BAD_PATTERN,
+    ENDED,
     FAULTY,
-    FILLED,
-    NO_STRING,
+    NONE,
     OK,
+    Call,
     CheckerState,
     Chunk,
     Chunks,
@@ -24,80 +24,58 @@ from ._library import (
     Symbol,
     Symbols,
     View,
+    address_of,
+    is_so,
     library,
+    written,
 )
+from ._strings import ERRORS, UNIX, WINDOWS, AnyOsName, OsString, Platform, as_platform
+from ._strings import done, fault_text, only_bytes, only_list, only_str, read, read_two, read_valid, said
+
+_CHECK, _LOSSY, _ESCAPE, _ESCAPE_LINE, _FIND, _RFIND, _CONTAINS, _STARTS, _ENDS = map(
+    address_of,
+    (
+        library.osb_check,
+        library.osb_lossy,
+        library.osb_escape,
+        library.osb_escape_line,
+        library.osb_find,
+        library.osb_rfind,
+        library.osb_contains,
+        library.osb_starts_with_units,
+        library.osb_ends_with_units,
+    ),
+)
+_COMPARE = address_of(library.osb_compare)
+_SPLIT, _SPLIT_FILL = address_of(library.osb_split_start), address_of(library.osb_split_fill)
 
 
-class Platform(IntEnum):
-    """Whose strings they are."""
-
-    UNIX = 0
-    WINDOWS = 1
-    WASM = 2
-
-
-UNIX, WINDOWS, WASM = Platform
-
-# A string of a platform: its bytes, or the text that Python makes of them.
-OsString = Union[bytes, str]
-
-
-def encode(string: OsString, platform: Platform = UNIX) -> bytes:
+def encode(string: AnyOsName, platform: Platform = UNIX) -> bytes:
     """Returns the bytes of a string of the platform.
 
-    A `str` is read as `os.fsencode` does on the platform: for Unix and wasm by `surrogateescape`, for Windows by
-    `surrogatepass`, where halves of a surrogate pair that are beside each other are one character. `bytes` are as they
-    are.
+    A `str` is read as `os.fsencode` reads it on the platform: for Unix and wasm by `surrogateescape`, for Windows by
+    `surrogatepass`, where the two halves of a surrogate pair become one character. `bytes` are returned as they are.
 
-    Raises `FaultError` where the bytes aren't a string of the platform.
+    Raises `FaultError` if the argument isn't a string of the platform.
 
     >>> encode("\\udcff")
     b'\\xff'
     >>> encode("\\ud83d", WINDOWS)
     b'\\xed\\xa0\\xbd'
     """
-    raw = string if isinstance(string, bytes) else _bytes_of(string, platform)
-    check(raw, platform)
-    return raw
+    return read_valid(string, as_platform(platform))[0]
 
 
-def decode(string: bytes, platform: Platform = UNIX) -> str:
-    """Returns the `str` that Python makes of a string of the platform: `encode` gives the bytes again.
+def decode(string: AnyOsName, platform: Platform = UNIX) -> str:
+    """Returns the `str` that Python makes of a string of the platform, as `os.fsdecode` does. `encode` reverses it.
 
-    Raises `FaultError` where the bytes aren't a string of the platform.
+    Raises `FaultError` if the argument isn't a string of the platform.
 
     >>> decode(b"a\\xff")
     'a\\udcff'
     """
-    check(string, platform)
-    return string.decode("utf-8", "surrogatepass" if platform == WINDOWS else "surrogateescape")
-
-
-def _bytes_of(text: str, platform: Platform) -> bytes:
-    if platform != WINDOWS:
-        return text.encode("utf-8", "surrogateescape")
-    units = text.encode("utf-16-le", "surrogatepass")
-    return units.decode("utf-16-le", "surrogatepass").encode("utf-8", "surrogatepass")
-
-
-def _text_of(text: OsString) -> bytes:
-    return text if isinstance(text, bytes) else text.encode()
-
-
-def _fault_text(fault: Fault) -> str:
-    out, count = create_string_buffer(FAULT_TEXT_ROOM), c_size_t()
-    _done(library.osb_fault_text(byref(fault), out, FAULT_TEXT_ROOM, byref(count)))
-    return out.raw[: count.value].decode()
-
-
-def _done(status: int, fault: Fault | None = None) -> None:
-    """Raises what a status other than OK says."""
-    if status == FAULTY and fault is not None:
-        raise FaultError(_fault_text(fault), fault.index, fault.count)
-    if status == NO_STRING:
-        raise NoStringError()
-    if status != OK:
-        raise OsBytesError(f"libosbytes refuses it, with status {status}")
+    platform = as_platform(platform)
+    return read_valid(string, platform)[0].decode("utf-8", ERRORS[platform])
 
 
 def is_string(string: bytes, platform: Platform = UNIX) -> bool:
@@ -106,20 +84,32 @@ def is_string(string: bytes, platform: Platform = UNIX) -> bool:
     >>> is_string(b"\\xff"), is_string(b"\\xff", WINDOWS)
     (True, False)
     """
-    return library.osb_check(platform, string, len(string), None) == OK
+    answer = quick.checked(_CHECK, platform, string)
+    if isinstance(answer, bool):
+        return answer
+    platform = as_platform(platform)
+    only_bytes(string)
+    status = library.osb_check(platform, string, len(string), None)
+    if status != FAULTY:
+        done(status)
+    return status == OK
 
 
 def check(string: bytes, platform: Platform = UNIX) -> None:
-    """Raises `FaultError` with the first fault, unless bytes are a string of the platform.
+    """Raises `FaultError`, with the first fault, unless bytes are a string of the platform.
 
     >>> check(b"\\xed\\xa0\\x80", WINDOWS)
     """
+    if quick.checked(_CHECK, platform, string) is True:
+        return
+    platform = as_platform(platform)
+    only_bytes(string)
     fault = Fault()
-    _done(library.osb_check(platform, string, len(string), byref(fault)), fault)
+    done(library.osb_check(platform, string, len(string), addressof(fault)), fault)
 
 
 class Checker:
-    """A check of bytes that come in pieces, for Windows (WTF-8).
+    """Checks bytes that arrive in pieces, for Windows (WTF-8).
 
     >>> checker = Checker()
     >>> checker.feed(b"\\xed\\xa0")
@@ -129,113 +119,147 @@ class Checker:
 
     def __init__(self) -> None:
         self._state = CheckerState()
-        _done(library.osb_checker_start(byref(self._state)))
+        done(library.osb_checker_start(addressof(self._state)))
 
     def feed(self, piece: bytes) -> None:
-        """Reads one more piece. Raises `FaultError`, then and from then on, where no later byte can make the bytes WTF-8."""
+        """Reads one more piece.
+
+        Raises `FaultError`, in this call and in each later one, as soon as no further byte can make the bytes WTF-8.
+        """
+        only_bytes(piece)
         fault = Fault()
-        self._raise(library.osb_checker_feed(byref(self._state), piece, len(piece), byref(fault)), fault)
+        self._raise(library.osb_checker_feed(addressof(self._state), piece, len(piece), addressof(fault)), fault)
 
     def finish(self) -> None:
-        """Raises `FaultError` unless all the bytes, joined, are WTF-8."""
+        """Raises `FaultError` unless all the pieces, joined, are WTF-8."""
         fault = Fault()
-        self._raise(library.osb_checker_finish(byref(self._state), byref(fault)), fault)
+        self._raise(library.osb_checker_finish(addressof(self._state), addressof(fault)), fault)
 
     @staticmethod
     def _raise(status: int, fault: Fault) -> None:
         if status == FAULTY:
-            raise FaultError(_fault_text(fault), None, None)
-        _done(status)
+            raise FaultError(fault_text(fault))
+        done(status)
 
 
-def to_units(string: OsString) -> list[int]:
-    """Returns the 16-bit units of a string of Windows.
+def to_units(string: AnyOsName) -> list[int]:
+    """Returns the 16-bit code units of a string of Windows.
 
-    Raises `FaultError` where bytes aren't WTF-8.
+    Raises `FaultError` if bytes aren't WTF-8.
 
     >>> [hex(unit) for unit in to_units("\\U0001f600")]
     ['0xd83d', '0xde00']
     """
-    raw = encode(string, WINDOWS)
-    room = library.osb_wide_bound(len(raw))
-    out, count = (c_uint16 * room)(), c_size_t()
-    _done(library.osb_to_wide(raw, len(raw), out, room, byref(count), None))
-    return out[: count.value]
+    raw, errors = read(string, WINDOWS)
+    call: Call = library.osb_to_wide
+    status, room = written(
+        lambda room: call(raw, len(raw), room.out_at, room.size // 2, room.count_at, room.fault_at), 2 * len(raw), 2
+    )
+    done(status, room.fault, raw, errors)
+    return room.numbers("H", 2)
 
 
-def from_units(units: list[int]) -> bytes:
-    """Returns the string of Windows that has these 16-bit units, which may be any.
+def from_units(units: Iterable[int]) -> bytes:
+    """Returns the string of Windows that has these 16-bit code units, which may be any.
 
-    Raises `OverflowError` where a number is no such unit.
+    Raises `OverflowError` if a number isn't a code unit.
 
     >>> from_units([0x61, 0xD83D])
     b'a\\xed\\xa0\\xbd'
     """
-    wide = (c_uint16 * len(units)).from_buffer_copy(array("H", units))
-    room = library.osb_bytes_bound(len(units))
-    out, count = create_string_buffer(max(room, 1)), c_size_t()
-    _done(library.osb_from_wide(wide, len(units), out, room, byref(count)))
-    return out.raw[: count.value]
+    only_list(units)
+    return from_wide(array("H", units).tobytes())
 
 
-def _written(call: Callable[..., int], room: int, platform: Platform, raw: bytes) -> bytes:
-    """Returns what a call writes of a string, for which so much room is always enough."""
-    out, count, fault = create_string_buffer(max(room, 1)), c_size_t(), Fault()
-    _done(call(platform, raw, len(raw), out, room, byref(count), byref(fault)), fault)
-    return out.raw[: count.value]
+def from_wide(wide: bytes) -> bytes:
+    """Returns the string of Windows that has the code units in these bytes."""
+    count = len(wide) // 2
+    call: Call = library.osb_from_wide
+    status, room = written(lambda room: call(wide, count, room.out_at, room.size, room.count_at), 3 * count)
+    done(status)
+    return bytes(room.written(None))
 
 
-def display(string: OsString, platform: Platform = UNIX) -> str:
-    """Returns the text that shows a string to people: U+FFFD replaces what isn't text.
+def _text(call: Call, longest: int, string: AnyOsName, platform: Platform) -> str:
+    """Returns the text that a call writes of a string, `longest` bytes at most for each of its bytes."""
+    platform = as_platform(platform)
+    raw, errors = read(string, platform)
+    status, room = written(
+        lambda room: call(platform, raw, len(raw), room.out_at, room.size, room.count_at, room.fault_at), longest * len(raw)
+    )
+    done(status, room.fault, raw, errors)
+    return str(room.written("strict"))
+
+
+def display(string: AnyOsName, platform: Platform = UNIX) -> str:
+    """Returns the text that shows a string to people. U+FFFD replaces whatever isn't text.
+
+    Raises `FaultError` if the argument isn't a string of the platform.
 
     >>> display(b"a\\xffb")
     'a\\ufffdb'
     """
-    raw = encode(string, platform)
-    return _written(library.osb_lossy, library.osb_lossy_bound(len(raw)), platform, raw).decode()
+    shown = quick.text(_LOSSY, platform, string)
+    if shown is NotImplemented:
+        shown = _text(library.osb_lossy, 3, string, platform)
+    return shown
 
 
-def escape(string: OsString, platform: Platform = UNIX) -> str:
-    """Returns the escape of a string, a text that no other string of the platform has.
+def escape(string: AnyOsName, platform: Platform = UNIX) -> str:
+    """Returns the escape of a string, a text that no other string of the platform has. `unescape` reverses it.
 
-    Each backslash is doubled, a unit that is no part of a text is `\\\\xHH` below 100 (hexadecimal), else `\\\\uHHHH`, and all
-    else is as it is.
+    Each backslash is doubled. A unit that isn't part of a text is written `\\\\xHH` below 100 (hexadecimal), and `\\\\uHHHH`
+    from there on. Everything else is unchanged.
+
+    Raises `FaultError` if the argument isn't a string of the platform.
 
     >>> escape(b"a\\\\\\xff\\n")
     'a\\\\\\\\\\\\xFF\\n'
     """
-    raw = encode(string, platform)
-    return _written(library.osb_escape, library.osb_escape_bound(len(raw)), platform, raw).decode()
+    shown = quick.text(_ESCAPE, platform, string)
+    if shown is NotImplemented:
+        shown = _text(library.osb_escape, 6, string, platform)
+    return shown
 
 
-def escape_line(string: OsString, platform: Platform = UNIX) -> str:
-    """Returns the escape of a string on one line, for logs and terminals.
+def escape_line(string: AnyOsName, platform: Platform = UNIX) -> str:
+    """Returns the escape of a string on one line, for logs and terminals. `unescape_line` reverses it.
 
-    It is that of `escape`, in which characters that don't show or that move what is shown (control characters, line
-    separators, bidirectional controls and such) are `\\\\uHHHH` or `\\\\u{HHHHH}`, too.
+    As `escape`, but characters that don't show, or that move what is shown (control characters, line separators,
+    bidirectional controls and such), are also written `\\\\uHHHH` or `\\\\u{HHHHH}`.
+
+    Raises `FaultError` if the argument isn't a string of the platform.
 
     >>> escape_line("a\\u202eb\\n")
     'a\\\\u202Eb\\\\u000A'
     """
-    raw = encode(string, platform)
-    return _written(library.osb_escape_line, library.osb_escape_bound(len(raw)), platform, raw).decode()
+    shown = quick.text(_ESCAPE_LINE, platform, string)
+    if shown is NotImplemented:
+        shown = _text(library.osb_escape_line, 6, string, platform)
+    return shown
 
 
-def _unescaped(call: Callable[..., int], text: str, platform: Platform) -> bytes:
-    raw = text.encode()
-    room = library.osb_unescape_bound(len(raw))
-    out, count, index = create_string_buffer(max(room, 1)), c_size_t(), c_size_t()
-    status = call(platform, raw, len(raw), out, room, byref(count), byref(index))
+def _unescaped(call: Call, text: str, platform: Platform) -> bytes:
+    platform = as_platform(platform)
+    only_str(text)
+    try:
+        raw = text.encode()
+    except UnicodeEncodeError as error:
+        raise BadEscapeError(said(BAD_PATTERN, error.start), index=error.start) from None
+    status, room = written(
+        lambda room: call(platform, raw, len(raw), room.out_at, room.size, room.count_at, room.index_at), len(raw)
+    )
     if status == BAD_ESCAPE:
-        raise BadEscapeError(len(raw[: index.value].decode()))
-    _done(status)
-    return out.raw[: count.value]
+        index = len(raw[: room.index].decode())
+        raise BadEscapeError(said(status, index), index=index)
+    done(status)
+    return bytes(room.written(None))
 
 
 def unescape(text: str, platform: Platform = UNIX) -> bytes:
-    """Returns the string of the platform that has this escape.
+    """Returns the string of the platform that has this escape. An escape is a `str`, of `bytes` too; the result is `bytes`.
 
-    Raises `BadEscapeError` where a backslash begins no token, and `NoStringError` where no string has this escape.
+    Raises `BadEscapeError` if a backslash doesn't begin a token, and `NoStringError` if no string has this escape.
 
     >>> unescape("a\\\\xFF")
     b'a\\xff'
@@ -252,131 +276,225 @@ def unescape_line(text: str, platform: Platform = UNIX) -> bytes:
     return _unescaped(library.osb_unescape_line, text, platform)
 
 
-def _index_of(call: Callable[..., int], string: bytes, pattern: bytes) -> int:
-    index = c_size_t()
-    found = call(string, len(string), pattern, len(pattern), byref(index)) == OK
-    return index.value if found else -1
+def _pattern_of(string: bytes, pattern: OsString) -> bytes:
+    """Returns the bytes of what is searched for, which have to be UTF-8."""
+    only_bytes(string)
+    if not isinstance(pattern, (str, bytes)):
+        raise TypeError(f"expected str or bytes, not {type(pattern).__name__}")
+    try:
+        if isinstance(pattern, str):
+            return pattern.encode()
+        pattern.decode()
+    except UnicodeError as error:
+        index: int = getattr(error, "start")  # noqa: B009
+        raise PatternError(said(BAD_PATTERN, index), index=index) from None
+    return pattern
 
 
-def find(string: bytes, pattern: str) -> int:
+def _index_of(call: Call, string: bytes, pattern: OsString) -> int:
+    text, index = _pattern_of(string, pattern), c_size_t()
+    status = call(string, len(string), text, len(text), addressof(index))
+    if status == NONE:
+        return -1
+    done(status)
+    return index.value
+
+
+def find(string: bytes, pattern: OsString) -> int:
     """Returns the index of the first occurrence of a text in the bytes of a string, or -1.
+
+    The text is a `str`, or the `bytes` of one. Raises `PatternError` if it isn't valid UTF-8, since a string can't be
+    cut there.
 
     >>> find(b"a\\xff.txt", ".")
     2
     """
-    return _index_of(library.osb_find, string, _text_of(pattern))
+    index = quick.found(_FIND, string, pattern)
+    if index is NotImplemented:
+        index = _index_of(library.osb_find, string, pattern)
+    return index
 
 
-def rfind(string: bytes, pattern: str) -> int:
-    """Returns the index of the last occurrence of a text in the bytes of a string, or -1.
+def rfind(string: bytes, pattern: OsString) -> int:
+    """Returns the index of the last occurrence of a text in the bytes of a string, or -1. Raises as `find` does.
 
     >>> rfind(b"a.tar.gz", ".")
     5
     """
-    return _index_of(library.osb_rfind, string, _text_of(pattern))
+    index = quick.found(_RFIND, string, pattern)
+    if index is NotImplemented:
+        index = _index_of(library.osb_rfind, string, pattern)
+    return index
 
 
-def contains(string: bytes, pattern: str) -> bool:
-    """Returns whether a text occurs in a string.
+def contains(string: bytes, pattern: OsString) -> bool:
+    """Returns whether a text occurs in a string. Raises as `find` does.
 
     >>> contains(b"a.tar.gz", ".tar")
     True
     """
-    text = _text_of(pattern)
-    return library.osb_contains(string, len(string), text, len(text)) == OK
+    answer = quick.contained(_CONTAINS, string, pattern)
+    if answer is not NotImplemented:
+        return answer
+    text = _pattern_of(string, pattern)
+    return is_so(library.osb_contains(string, len(string), text, len(text)))
 
 
-def _compared(call: Callable[..., int], string: OsString, part: OsString, platform: Platform) -> bool:
-    whole, other = encode(string, platform), encode(part, platform)
-    return call(platform, whole, len(whole), other, len(other)) == OK
+def _compared(call: Call, one: AnyOsName, other: AnyOsName, platform: Platform) -> bool:
+    platform = as_platform(platform)
+    a, b, _ = read_two(one, other, platform)
+    return is_so(call(platform, a, len(a), b, len(b)))
 
 
-def starts_with(string: OsString, prefix: OsString, platform: Platform = UNIX) -> bool:
-    """Returns whether the units of a string start with those of another; of Windows, half of a surrogate pair counts.
+def starts_with(string: AnyOsName, prefix: AnyOsName, platform: Platform = UNIX) -> bool:
+    """Returns whether the units of a string start with those of another. On Windows half of a surrogate pair counts.
+
+    Both are `str`, or both `bytes`. Raises `FaultError` if one isn't a string of the platform.
 
     >>> starts_with("\\U0001f600", "\\ud83d", WINDOWS)
     True
     """
-    return _compared(library.osb_starts_with_units, string, prefix, platform)
+    answer = quick.compared(_STARTS, platform, string, prefix)
+    if answer is NotImplemented:
+        answer = _compared(library.osb_starts_with_units, string, prefix, platform)
+    return answer
 
 
-def ends_with(string: OsString, suffix: OsString, platform: Platform = UNIX) -> bool:
-    """Returns whether the units of a string end with those of another.
+def ends_with(string: AnyOsName, suffix: AnyOsName, platform: Platform = UNIX) -> bool:
+    """Returns whether the units of a string end with those of another. Raises as `starts_with` does.
 
     >>> ends_with(b"a.txt", b".txt")
     True
     """
-    return _compared(library.osb_ends_with_units, string, suffix, platform)
+    answer = quick.compared(_ENDS, platform, string, suffix)
+    if answer is NotImplemented:
+        answer = _compared(library.osb_ends_with_units, string, suffix, platform)
+    return answer
 
 
 def is_boundary(string: bytes, index: int) -> bool:
-    """Returns whether the bytes of a string may be cut at an index.
+    """Returns whether the bytes of a string may be cut at an index. An index that is negative or past the end isn't one.
 
     >>> is_boundary("\\xe9".encode(), 1)
     False
     """
-    return index >= 0 and library.osb_is_boundary(string, len(string), index) == OK
+    only_bytes(string)
+    if not isinstance(index, int):
+        raise TypeError(f"expected int, not {type(index).__name__}")
+    return 0 <= index <= len(string) and is_so(library.osb_is_boundary(string, len(string), index))
 
 
 def compare(a: bytes, b: bytes) -> int:
-    """Returns -1, 0 or 1 as the bytes of a string are less than those of another, the same, or greater.
+    """Returns -1, 0 or 1 as the bytes of a string are less than, equal to or greater than those of another.
 
     >>> compare(b"a", b"b")
     -1
     """
+    answer = quick.ordered(_COMPARE, a, b)
+    if answer is not NotImplemented:
+        return answer
+    only_bytes(a, b)
     order = c_int32()
-    _done(library.osb_compare(a, len(a), b, len(b), byref(order)))
+    done(library.osb_compare(a, len(a), b, len(b), addressof(order)))
     return order.value
 
 
-Item = TypeVar("Item", bound=Structure)
+# The number of items that are fetched at once: few first, since most strings have few, and then more.
+_FETCHED = (16, 512)
 
 
-def _filled(fill: Callable[..., int], left: Structure, item: type[Item]) -> Iterator[Item]:
-    """Iterates over what an iterator of the library has left, by an array that it fills again and again."""
-    items, count = (item * FILLED)(), c_size_t()
-    while fill(byref(left), items, FILLED, byref(count)) == OK:
-        yield from items[: count.value]
+def _batches(fill: Call, left: Structure, item: type[Structure], code: str) -> Iterator[list[int]]:
+    """Yields what is left of an iterator in batches, each the fields of its items, one after the other."""
+    for room in _FETCHED:
+        items, count = (item * room)(), c_size_t()
+        at = addressof(items)
+        while (status := fill(addressof(left), at, room, addressof(count))) == OK:
+            with memoryview(items) as typed, typed.cast("B") as whole, whole[: count.value * sizeof(item)] as part:
+                yield part.cast(code).tolist()
+            if room == _FETCHED[0]:
+                break
+        else:
+            if status != ENDED:
+                done(status)
+            return
 
 
-def _pieces(start: Callable[..., int], fill: Callable[..., int], string: bytes, pattern: str) -> list[bytes]:
-    text, left = _text_of(pattern), Split()
+def _address(string: bytes) -> int:
+    return cast(c_char_p(string), c_void_p).value or 0
+
+
+def _pieces(start: Call, fill: Call, string: bytes, pattern: OsString, maxsplit: int) -> tuple[list[bytes], int, bool]:
+    """Returns the pieces that a walk gives, of which it makes at most `maxsplit` when that isn't negative.
+
+    Beside them are how many bytes they take with the patterns between them, and whether something is left.
+    """
+    text, left = _pattern_of(string, pattern), Split()
     if not text:
-        raise ValueError("empty separator")
-    _done(start(byref(left), string, len(string), text, len(text)))
-    return [bytes(piece) for piece in _filled(fill, left, View)]
+        raise PatternError(said(BAD_PATTERN))
+    if not isinstance(maxsplit, int):
+        raise TypeError(f"expected int, not {type(maxsplit).__name__}")
+    done(start(addressof(left), string, len(string), text, len(text)))
+    base, found = _address(string), list[bytes]()
+    for fields in _batches(fill, left, View, "Q"):
+        numbers = iter(fields)
+        found += [string[at - base : at - base + length] for at, length in zip(numbers, numbers)]
+        if 0 <= maxsplit < len(found):
+            del found[maxsplit:]
+            return found, sum(map(len, found)) + len(text) * maxsplit, True
+    return found, len(string), False
 
 
-def split(string: bytes, pattern: str) -> list[bytes]:
-    """Returns the pieces of a string between the occurrences of a text, from the start on.
+def split(string: bytes, pattern: OsString, maxsplit: int = -1) -> list[bytes]:
+    """Returns the pieces of a string between the occurrences of a text, as `bytes.split` does.
 
-    Raises `ValueError` where the text is empty.
+    At most `maxsplit` occurrences, from the start on, are taken if it isn't negative. Raises `PatternError` if the text
+    is empty or isn't valid UTF-8.
 
     >>> split(b"a,\\xff,,b", ",")
     [b'a', b'\\xff', b'', b'b']
+    >>> split(b"a,b,c", ",", 1)
+    [b'a', b'b,c']
     """
-    return _pieces(library.osb_split_start, library.osb_split_fill, string, pattern)
+    if maxsplit == -1:
+        parts = quick.pieces(_SPLIT, _SPLIT_FILL, string, pattern)
+        if parts is not NotImplemented:
+            return parts
+    found, taken, is_more = _pieces(library.osb_split_start, library.osb_split_fill, string, pattern, maxsplit)
+    return [*found, string[taken:]] if is_more else found
 
 
-def rsplit(string: bytes, pattern: str) -> list[bytes]:
-    """Returns the pieces of a string between the occurrences of a text, from the end on.
+def rsplit(string: bytes, pattern: OsString, maxsplit: int = -1) -> list[bytes]:
+    """Returns the pieces of a string between the occurrences of a text, as `bytes.rsplit` does: in their order.
 
-    >>> rsplit(b"a,b", ",")
-    [b'b', b'a']
+    Occurrences are found from the end, and at most `maxsplit` of them if it isn't negative. Raises as `split` does.
+
+    >>> rsplit(b"a,b,c", ","), rsplit(b"a,b,c", ",", 1)
+    ([b'a', b'b', b'c'], [b'a,b', b'c'])
     """
-    return _pieces(library.osb_rsplit_start, library.osb_rsplit_fill, string, pattern)
+    found, taken, is_more = _pieces(library.osb_rsplit_start, library.osb_rsplit_fill, string, pattern, maxsplit)
+    found.reverse()
+    return [string[: len(string) - taken], *found] if is_more else found
 
 
 def chunks(string: bytes) -> Iterator[tuple[bytes, str]]:
-    """Iterates over the chunks of a string: each a part without whole characters, and the text after it.
+    """Iterates over the chunks of a string: a part without whole characters, and the text after it.
 
     >>> list(chunks(b"ab\\xffc"))
     [(b'', 'ab'), (b'\\xff', 'c')]
     """
+    only_bytes(string)
     left = Chunks()
-    _done(library.osb_chunks_start(byref(left), string, len(string)))
-    for chunk in _filled(library.osb_chunks_fill, left, Chunk):
-        yield bytes(chunk.part), bytes(chunk.text).decode()
+    done(library.osb_chunks_start(addressof(left), string, len(string)))
+    return _chunks(string, left)
+
+
+def _chunks(string: bytes, left: Chunks) -> Iterator[tuple[bytes, str]]:
+    base = _address(string)
+    for fields in _batches(library.osb_chunks_fill, left, Chunk, "Q"):
+        numbers = iter(fields)
+        for at, length, text_at, text_length in zip(numbers, numbers, numbers, numbers):
+            text = string[text_at - base : text_at - base + text_length] if text_length else b""
+            yield string[at - base : at - base + length] if length else b"", text.decode()
 
 
 class Character(NamedTuple):
@@ -386,18 +504,40 @@ class Character(NamedTuple):
 
 
 class Unit(NamedTuple):
-    """A unit that is no part of a text: a byte of Unix, or a lone surrogate."""
+    """A unit that isn't part of a text: a byte of Unix, or a lone surrogate."""
 
     value: int
 
 
-def symbols(string: OsString, platform: Platform = UNIX) -> Iterator[Character | Unit]:
-    """Iterates over the symbols of a string: its whole characters, and the units of what isn't text.
+_CHARACTER = 1
+
+
+def symbols(string: AnyOsName, platform: Platform = UNIX) -> Iterator[Character | Unit]:
+    """Iterates over the symbols of a string: its whole characters, and the units of whatever isn't text.
+
+    Raises `FaultError`, in the call itself, if the argument isn't a string of the platform.
 
     >>> list(symbols(b"a\\xff"))
     [Character(text='a'), Unit(value=255)]
     """
-    raw, left = encode(string, platform), Symbols()
-    _done(library.osb_symbols_start(byref(left), platform, raw, len(raw), None))
-    for symbol in _filled(library.osb_symbols_fill, left, Symbol):
-        yield Character(chr(symbol.value)) if symbol.kind == CHARACTER else Unit(symbol.value)
+    platform = as_platform(platform)
+    raw, errors = read(string, platform)
+    left, fault = Symbols(), Fault()
+    done(library.osb_symbols_start(addressof(left), platform, raw, len(raw), addressof(fault)), fault, raw, errors)
+    return _symbols(raw, left)
+
+
+class _Known(Dict[int, Union[Character, Unit]]):
+    """The symbols of a string that occurred before, by the first eight bytes of the library's struct."""
+
+    def __missing__(self, fields: int) -> Character | Unit:
+        kind, value = fields & 0xFFFFFFFF, fields >> 32
+        symbol = self[fields] = Character(chr(value)) if kind == _CHARACTER else Unit(value)
+        return symbol
+
+
+def _symbols(raw: bytes, left: Symbols) -> Iterator[Character | Unit]:
+    """Iterates as `symbols` does. It keeps the bytes, which the library's iterator reads."""
+    known = _Known()
+    for fields in _batches(library.osb_symbols_fill, left, Symbol, "Q"):
+        yield from map(known.__getitem__, fields[:: sizeof(Symbol) // 8])

@@ -1,109 +1,93 @@
-"""What the calls raise."""
+"""The exceptions of this package."""
 
 from __future__ import annotations
 
+from typing import Any
+
 
 class OsBytesError(ValueError):
-    """What each error of this package is."""
+    """The base class of this package's exceptions, which is a `ValueError`.
+
+    `index` is where in an argument the error is: a byte of `bytes`, a character of a `str`. `which` is the number of the
+    argument in a list of them. Both count from 0, and are `None` where they mean nothing. An exception can be pickled
+    and copied, with its attributes.
+    """
+
+    def __init__(self, text: str = "", *, index: int | None = None, which: int | None = None, **more: Any) -> None:
+        super().__init__(text)
+        self.index = index
+        self.which = which
+        # The attributes that a class declares. Pickle restores them after a call with the text alone.
+        self.__dict__.update(more)
 
 
 class FaultError(OsBytesError):
-    """Bytes that aren't a string of the platform.
+    """The argument isn't a string of the platform.
 
-    `index` is how many bytes before the fault are well formed, `count` how many are refused with it. Of a `Checker`,
-    which keeps no bytes, both are None.
+    `index` is the length of the prefix that is well formed, and `count` is the number of bytes that are rejected with
+    it. Both are `None` if a `Checker` raised the error, since it keeps no bytes.
     """
 
-    def __init__(self, text: str, index: int | None, count: int | None) -> None:
-        super().__init__(text)
-        self.index = index
-        self.count = count
+    count: int | None = None
+
+
+class PatternError(OsBytesError):
+    """The text to search for is empty where it may not be, or isn't valid UTF-8."""
 
 
 class BadEscapeError(OsBytesError):
-    """A text that is no escape: a backslash in it begins no token. `index` is its index in the text."""
-
-    def __init__(self, index: int) -> None:
-        super().__init__(f"the backslash at index {index} begins no token")
-        self.index = index
+    """The text isn't an escape, since the backslash at `index` doesn't begin a token."""
 
 
 class NoStringError(OsBytesError):
-    """A text that is the escape of no string of the platform, though each backslash in it begins a token."""
-
-    def __init__(self) -> None:
-        super().__init__("no string of the platform has this escape")
+    """The text isn't the escape of a string of the platform, although each backslash in it begins a token."""
 
 
 class JoinError(OsBytesError):
-    """A path that isn't below its base. `reason` is the number of the reason, as in `JoinReason`."""
+    """The path isn't below its base. `reason` is a `JoinReason`. If it is a NUL, `index` is the first one."""
 
-    def __init__(self, name: str, reason: int) -> None:
-        super().__init__(f"the path isn't below the base: {name}")
-        self.reason = reason
+    reason: Any = None
 
 
 class ConvertError(OsBytesError):
-    """A path that no path of the other platform can be. `index` is the number of the first component that none has."""
+    """The other platform has no such path. `component` is the number, from 0, of the first component that it can't have."""
 
-    def __init__(self, index: int) -> None:
-        super().__init__(f"no path of the platform has component {index}")
-        self.index = index
+    component: int | None = None
 
 
 class ExtensionError(OsBytesError):
-    """An extension with a separator."""
-
-    def __init__(self) -> None:
-        super().__init__("the extension has a separator")
+    """The extension contains a separator."""
 
 
 class GlobError(OsBytesError):
-    """A path pattern with a fault. `which` is how many patterns come before it, and `kind` the number of what is wrong
-    at the byte `index`, as in `GlobFaultKind`."""
+    """A pattern is malformed. `which` is the pattern's number in the list, and `kind`, a `GlobFaultKind`, is the error at
+    `index`."""
 
-    def __init__(self, name: str, kind: int, which: int, index: int) -> None:
-        super().__init__(f"pattern {which}: {name} at byte {index}")
-        self.kind = kind
-        self.which = which
-        self.index = index
+    kind: Any = None
 
 
 class NulError(OsBytesError):
-    """A name or a line with a NUL, which no word and no argument can have. `index` is that of its first NUL, in its bytes."""
-
-    def __init__(self, index: int) -> None:
-        super().__init__(f"NUL at byte {index}")
-        self.index = index
+    """A NUL is where none can be: in a word of a shell, an argument, a pattern, or a path that is matched. `index` is the
+    first one."""
 
 
 class QuoteError(OsBytesError):
-    """A program's name with a quotation mark, which no command line can have there. `index` is that of the first one."""
-
-    def __init__(self, index: int) -> None:
-        super().__init__(f"quotation mark in the program's name at byte {index}")
-        self.index = index
+    """The name of a program contains a quotation mark, which a command line of Windows can't have there. `index` is the
+    first one."""
 
 
 class UnexpectedValueError(OsBytesError):
-    """An option with a `value`, its bytes, that nothing took: `--name=value` where the option takes none."""
+    """An option has a `value` that wasn't taken: `--name=value` where the option takes none. `value` has the type of the
+    arguments."""
 
-    def __init__(self, value: bytes) -> None:
-        super().__init__(f"unexpected value {value!r}")
-        self.value = value
+    value: Any = None
 
 
 class MissingValueError(OsBytesError):
-    """No word is left where the value of an option was asked for."""
-
-    def __init__(self) -> None:
-        super().__init__("missing value")
+    """An option needs a value, and no argument is left."""
 
 
 class LineError(OsBytesError):
-    """A line that isn't words of a shell. `kind` is the number of what begins at the byte `index`, as in `LineKind`."""
+    """The line isn't a list of words. `kind` is a `LineKind`: what begins at `index`."""
 
-    def __init__(self, name: str, kind: int, index: int) -> None:
-        super().__init__(f"{name} at byte {index}")
-        self.kind = kind
-        self.index = index
+    kind: Any = None

@@ -1,11 +1,15 @@
-"""The shared library that is beside this file, or that OSBYTES_LIBRARY names, with the types of its calls."""
+"""The shared library beside this file, or the one that OSBYTES_LIBRARY names, with the types of its calls."""
 
 from __future__ import annotations
 
 import ctypes
 import os
-from ctypes import CDLL, POINTER, Array, Structure, c_char_p, c_int32, c_size_t, c_uint16, c_uint32, c_void_p, cast
+from array import array
+from ctypes import CDLL, POINTER, Structure, c_bool, c_char, c_char_p, c_int, c_size_t, c_uint32, c_void_p
 from pathlib import Path
+from typing import Any, Callable, Sequence
+
+from ._errors import OsBytesError
 
 
 class View(Structure):
@@ -24,7 +28,7 @@ class Fault(Structure):
 
 
 class CheckerState(Structure):
-    """How far a check has come of bytes that come in pieces."""
+    """The state of a check of bytes that come in pieces."""
 
     _fields_ = [("state", c_uint32), ("bits", c_uint32), ("kind", c_uint32), ("value", c_uint32)]
 
@@ -54,37 +58,37 @@ class Symbols(Structure):
 
 
 class Symbol(Structure):
-    """A character, or a unit that is no part of a text."""
+    """A character, or a unit that isn't part of a text."""
 
     _fields_ = [("kind", c_uint32), ("value", c_uint32), ("bytes", View)]
 
 
 class Part(Structure):
-    """A component of a path: where it is."""
+    """The position of a component in a path."""
 
-    _fields_ = [("kind", c_size_t), ("start", c_size_t), ("end", c_size_t)]
+    _fields_ = [("kind", c_uint32), ("start", c_size_t), ("end", c_size_t)]
 
 
 class GlobFault(Structure):
-    """The first pattern that has a fault."""
+    """The first fault of a list of patterns."""
 
-    _fields_ = [("which", c_size_t), ("index", c_size_t), ("kind", c_size_t)]
+    _fields_ = [("which", c_size_t), ("index", c_size_t), ("kind", c_uint32)]
 
 
-class VerdictRead(Structure):
-    """What an ignore file says of a path."""
+class Decision(Structure):
+    """What ignore files decide for a path."""
 
-    _fields_ = [("kind", c_uint32), ("line", c_size_t)]
+    _fields_ = [("kind", c_uint32), ("file", c_size_t), ("line", c_size_t)]
 
 
 class LineFault(Structure):
-    """Why a line isn't words."""
+    """Why a line isn't a list of words."""
 
     _fields_ = [("kind", c_uint32), ("index", c_size_t)]
 
 
 class OptionsState(Structure):
-    """How far the words of a command line are taken."""
+    """An iterator over options and operands."""
 
     _fields_ = [
         ("words", POINTER(View)),
@@ -102,118 +106,218 @@ class OptionRead(Structure):
     _fields_ = [("kind", c_uint32), ("value", c_uint32), ("text", View)]
 
 
-def views_of(strings: list[bytes]) -> Array[View]:
-    """Returns views of strings, which have to be kept as long as these."""
-    return (View * len(strings))(*(View(cast(c_char_p(string), c_void_p), len(string)) for string in strings))
+def views_of(strings: Sequence[bytes]) -> array[int]:
+    """Returns the views of strings, as the numbers that they consist of. The caller keeps the strings as long as these."""
+    views = array("Q", bytes(16 * len(strings)))
+    views[::2] = array("Q", bytes((c_char_p * len(strings))(*strings)))
+    views[1::2] = array("Q", map(len, strings))
+    return views
 
 
 OK, FAULTY, NO_ROOM, NONE, ENDED, BAD_ESCAPE, NO_STRING, HAS_NUL, BAD_LINE, HAS_QUOTE, UNEXPECTED = range(11)
 NO_MEMORY, BAD_PATH = 11, 12
-BAD_PATTERN, BAD_EXTENSION = 17, 23
-CHARACTER = 1
+BAD_PATTERN, BAD_OPTION, BAD_EXTENSION = 17, 22, 23
 FAULT_TEXT_ROOM = 129
-# How many items of an iterator are read at once.
-FILLED = 256
 
+# Numbers, structs and buffers are passed by their addresses, and strings as `bytes`.
+AT = c_void_p
 STRING = [c_char_p, c_size_t]
-COUNTED = [c_char_p, c_size_t, POINTER(c_size_t)]
-ESCAPES = [c_uint32, *STRING, *COUNTED, POINTER(Fault)]
-UNESCAPES = [c_uint32, *STRING, *COUNTED, POINTER(c_size_t)]
-PARTS = [c_uint32, *STRING, POINTER(View)]
+COUNTED = [AT, c_size_t, AT]
+ESCAPES = [c_uint32, *STRING, *COUNTED, AT]
+PARTS = [c_uint32, *STRING, AT]
 PATHS = [c_uint32, *STRING, *STRING, *COUNTED]
-WORDS = [*STRING, *COUNTED, POINTER(c_size_t)]
-UNITS = [POINTER(c_uint16), c_size_t, POINTER(c_size_t)]
-LINES = [*STRING, *UNITS, POINTER(c_size_t), POINTER(Fault)]
+WORDS = [*STRING, *COUNTED, AT]
+LINES = [*STRING, *COUNTED, AT, AT]
+ONE = [c_uint32, *STRING]
+TWO = [c_uint32, *STRING, *STRING]
 
-# The types of what each call takes, beside a status that it answers.
-CALLS: dict[str, list[type]] = {
-    "osb_check": [c_uint32, *STRING, POINTER(Fault)],
-    "osb_checker_start": [POINTER(CheckerState)],
-    "osb_checker_feed": [POINTER(CheckerState), *STRING, POINTER(Fault)],
-    "osb_checker_finish": [POINTER(CheckerState), POINTER(Fault)],
-    "osb_fault_text": [POINTER(Fault), *COUNTED],
-    "osb_to_wide": [*STRING, *UNITS, POINTER(Fault)],
-    "osb_from_wide": [POINTER(c_uint16), c_size_t, *COUNTED],
+# The types of the arguments of each call that returns a status.
+STATUSES: dict[str, Sequence[Any]] = {
+    "osb_check": PARTS,
+    "osb_checker_start": [AT],
+    "osb_checker_feed": [AT, *STRING, AT],
+    "osb_checker_finish": [AT, AT],
+    "osb_fault_text": [AT, *COUNTED],
+    "osb_to_wide": [*STRING, *COUNTED, AT],
+    "osb_from_wide": [*STRING, *COUNTED],
     "osb_lossy": ESCAPES,
     "osb_escape": ESCAPES,
     "osb_escape_line": ESCAPES,
-    "osb_unescape": UNESCAPES,
-    "osb_unescape_line": UNESCAPES,
-    "osb_find": [*STRING, *STRING, POINTER(c_size_t)],
-    "osb_rfind": [*STRING, *STRING, POINTER(c_size_t)],
-    "osb_contains": [*STRING, *STRING],
-    "osb_starts_with_units": [c_uint32, *STRING, *STRING],
-    "osb_ends_with_units": [c_uint32, *STRING, *STRING],
-    "osb_is_boundary": [*STRING, c_size_t],
-    "osb_compare": [*STRING, *STRING, POINTER(c_int32)],
-    "osb_split_start": [POINTER(Split), *STRING, *STRING],
-    "osb_rsplit_start": [POINTER(Split), *STRING, *STRING],
-    "osb_split_fill": [POINTER(Split), POINTER(View), c_size_t, POINTER(c_size_t)],
-    "osb_rsplit_fill": [POINTER(Split), POINTER(View), c_size_t, POINTER(c_size_t)],
-    "osb_chunks_start": [POINTER(Chunks), *STRING],
-    "osb_chunks_fill": [POINTER(Chunks), POINTER(Chunk), c_size_t, POINTER(c_size_t)],
-    "osb_symbols_start": [POINTER(Symbols), c_uint32, *STRING, POINTER(Fault)],
-    "osb_symbols_fill": [POINTER(Symbols), POINTER(Symbol), c_size_t, POINTER(c_size_t)],
-    "osb_path_components": [c_uint32, *STRING, POINTER(Part), c_size_t, POINTER(c_size_t)],
+    "osb_unescape": ESCAPES,
+    "osb_unescape_line": ESCAPES,
+    "osb_find": [*STRING, *STRING, AT],
+    "osb_rfind": [*STRING, *STRING, AT],
+    "osb_compare": [*STRING, *STRING, AT],
+    "osb_split_start": [AT, *STRING, *STRING],
+    "osb_rsplit_start": [AT, *STRING, *STRING],
+    "osb_split_fill": [AT, AT, c_size_t, AT],
+    "osb_rsplit_fill": [AT, AT, c_size_t, AT],
+    "osb_chunks_start": [AT, *STRING],
+    "osb_chunks_fill": [AT, AT, c_size_t, AT],
+    "osb_symbols_start": [AT, c_uint32, *STRING, AT],
+    "osb_symbols_fill": [AT, AT, c_size_t, AT],
+    "osb_path_components": [c_uint32, *STRING, *COUNTED],
     "osb_path_parent": PARTS,
     "osb_path_prefix": PARTS,
     "osb_path_file_name": PARTS,
     "osb_path_file_stem": PARTS,
     "osb_path_extension": PARTS,
-    "osb_path_has_root": [c_uint32, *STRING],
-    "osb_path_is_absolute": [c_uint32, *STRING],
-    "osb_path_starts_with": [c_uint32, *STRING, *STRING],
-    "osb_path_ends_with": [c_uint32, *STRING, *STRING],
-    "osb_path_strip_prefix": [c_uint32, *STRING, *STRING, POINTER(View)],
+    "osb_path_strip_prefix": [c_uint32, *STRING, *STRING, AT],
     "osb_path_join": PATHS,
-    "osb_path_join_checked": [*PATHS, POINTER(c_uint32)],
+    "osb_path_join_checked": [*PATHS, AT],
     "osb_path_relative": PATHS,
     "osb_path_normalize": [c_uint32, *STRING, *COUNTED],
     "osb_path_clean": [c_uint32, *STRING, *COUNTED],
-    "osb_path_convert": [c_uint32, c_uint32, *STRING, *COUNTED, POINTER(c_size_t), POINTER(Fault)],
+    "osb_path_convert": [c_uint32, c_uint32, *STRING, *COUNTED, AT, AT],
     "osb_path_with_file_name": PATHS,
     "osb_path_with_extension": PATHS,
     "osb_path_with_added_extension": PATHS,
-    "osb_glob_matches": [c_uint32, c_uint32, *STRING, *STRING, *COUNTED, POINTER(GlobFault)],
-    "osb_ignore_matches": [*STRING, *STRING, *STRING, POINTER(VerdictRead), c_size_t, POINTER(c_size_t)],
+    "osb_globs_new": [c_uint32, c_uint32, *STRING, AT, AT],
+    "osb_globs_matches": [AT, *STRING, *COUNTED],
+    "osb_globs_share": [AT, AT],
+    "osb_ignores_new": [AT],
+    "osb_ignores_add": [AT, *STRING, *STRING],
+    "osb_ignores_match": [AT, *STRING, c_bool, AT],
     "osb_shell_quote": WORDS,
     "osb_shell_quote_line": WORDS,
     "osb_fish_quote": WORDS,
     "osb_powershell_quote": WORDS,
-    "osb_shell_join": [POINTER(View), c_size_t, *COUNTED, POINTER(c_size_t), POINTER(c_size_t)],
-    "osb_shell_words": [c_uint32, *STRING, *COUNTED, POINTER(LineFault)],
+    "osb_shell_join": [AT, c_size_t, *COUNTED, AT, AT],
+    "osb_shell_words": ESCAPES,
     "osb_windows_quote": LINES,
-    "osb_windows_command_line": [POINTER(View), c_size_t, *UNITS, POINTER(c_size_t), POINTER(c_size_t), POINTER(Fault)],
+    "osb_windows_command_line": [AT, c_size_t, *COUNTED, AT, AT, AT],
     "osb_windows_arguments": LINES,
-    "osb_options_start": [POINTER(OptionsState), POINTER(View), c_size_t, c_uint32],
-    "osb_options_next": [POINTER(OptionsState), POINTER(OptionRead)],
-    "osb_options_value": [POINTER(OptionsState), POINTER(View)],
-    "osb_options_optional_value": [POINTER(OptionsState), POINTER(View)],
+    "osb_options_start": [AT, AT, c_size_t, c_uint32],
+    "osb_options_next": [AT, AT],
+    "osb_options_value": [AT, AT],
+    "osb_options_optional_value": [AT, AT],
 }
-# What takes and answers lengths.
-BOUNDS = ["osb_wide_bound", "osb_bytes_bound", "osb_lossy_bound", "osb_escape_bound", "osb_unescape_bound", "osb_shell_bound"]
-BOUNDS += ["osb_words_bound", "osb_windows_bound"]
+# And of each that returns 1 for yes, 0 for no, and less where the arguments are wrong.
+TESTS: dict[str, Sequence[Any]] = {
+    "osb_contains": [*STRING, *STRING],
+    "osb_starts_with_units": TWO,
+    "osb_ends_with_units": TWO,
+    "osb_is_boundary": [*STRING, c_size_t],
+    "osb_path_has_root": ONE,
+    "osb_path_is_absolute": ONE,
+    "osb_path_starts_with": TWO,
+    "osb_path_ends_with": TWO,
+    "osb_globs_is_match": [AT, *STRING],
+}
 
 
 def load(name: str) -> CDLL:
     """Loads the library, and gives each call its types."""
     found = CDLL(name)
-    for call, types in CALLS.items():
+    typed: list[tuple[str, Sequence[Any], Any]] = [(call, types, c_uint32) for call, types in STATUSES.items()]
+    typed += [(call, types, c_int) for call, types in TESTS.items()]
+    typed += [("osb_version", [], c_uint32), ("osb_status_text", [c_uint32], c_char_p), ("osb_globs_free", [AT], None)]
+    typed += [("osb_ignores_free", [AT], None)]
+    for call, types, returned in typed:
         getattr(found, call).argtypes = types
-        getattr(found, call).restype = c_uint32
-    for call in BOUNDS:
-        getattr(found, call).argtypes = [c_size_t]
-        getattr(found, call).restype = c_size_t
-    found.osb_version.argtypes = []
-    found.osb_version.restype = c_uint32
+        getattr(found, call).restype = returned
     return found
 
 
 library = load(os.environ.get("OSBYTES_LIBRARY") or str(Path(__file__).with_name("libosbytes.so")))
 
+Call = Callable[..., int]
+
+
+def address_of(call: Any) -> int:
+    """Returns the address of a call of the library."""
+    return ctypes.cast(call, c_void_p).value or 0
+
+
+def status_text(status: int) -> str:
+    """Returns what a status means."""
+    return bytes(library.osb_status_text(status)).decode()
+
+
+def is_so(answer: int) -> bool:
+    """Returns the result of a test, and raises where its arguments are wrong."""
+    if answer < 0:
+        raise OsBytesError(status_text(-answer))
+    return answer > 0
+
+
+class Room:
+    """A buffer that calls write into, beside the numbers that they write with it."""
+
+    __slots__ = (
+        "_count", "_index", "_out", "_which", "bytes", "count_at", "fault", "fault_at", "index_at", "out_at", "size", "which_at"
+    )  # fmt: skip
+
+    def __init__(self, size: int) -> None:
+        self.size = size
+        self.bytes = bytearray(size)
+        self._out = (c_char * size).from_buffer(self.bytes)
+        self.out_at = ctypes.addressof(self._out)
+        self._count, self._index, self._which, self.fault = c_size_t(), c_size_t(), c_size_t(), Fault()
+        self.count_at, self.index_at = ctypes.addressof(self._count), ctypes.addressof(self._index)
+        self.which_at, self.fault_at = ctypes.addressof(self._which), ctypes.addressof(self.fault)
+
+    @property
+    def count(self) -> int:
+        return self._count.value
+
+    @property
+    def index(self) -> int:
+        return self._index.value
+
+    @property
+    def which(self) -> int:
+        return self._which.value
+
+    def written(self, errors: str | None, width: int = 1) -> Any:
+        """Returns the items that were written, as `bytes` or as the `str` that Python makes of them, and lends the buffer again."""
+        count = self._count.value * width
+        if count <= KEPT:
+            found = bytes(self.bytes[:count]) if errors is None else self.bytes[:count].decode("utf-8", errors)
+        else:
+            with memoryview(self.bytes) as whole, whole[:count] as part:
+                found = bytes(part) if errors is None else str(part, "utf-8", errors)
+        self.lend()
+        return found
+
+    def numbers(self, code: str, width: int) -> list[int]:
+        """Returns the items that were written as numbers, those of an item of this width one after the other, and lends the
+        buffer again."""
+        found: list[int] = memoryview(self.bytes)[: self._count.value * width].cast(code).tolist()
+        self.lend()
+        return found
+
+    def lend(self) -> None:
+        """Lets another call have the buffer."""
+        if self.size == KEPT and len(_rooms) < 8:
+            _rooms.append(self)
+
+
+# Buffers of this size are lent again. Each belongs to the call that took it, in any thread and in a signal handler too.
+KEPT = 4096
+_rooms: list[Room] = []
+
+
+def written(call: Callable[[Room], int], need: int, width: int = 1) -> tuple[int, Room]:
+    """Makes a call that writes at most `need` bytes, in items of a width, and returns its status and what it wrote.
+
+    If more room is needed after all, the call is made again with as much as it reports.
+    """
+    try:
+        room = _rooms.pop() if need <= KEPT else Room(need)
+    except IndexError:
+        room = Room(KEPT)
+    status = call(room)
+    while status == NO_ROOM:
+        room = Room(room.count * width)
+        status = call(room)
+    if status == NO_MEMORY:
+        raise MemoryError
+    return status, room
+
 
 def version() -> str:
-    """Returns the version of libosbytes, as `0.1.0`.
+    """Returns the version of libosbytes, as `0.2.0`.
 
     >>> version().count(".")
     2

@@ -1,18 +1,21 @@
-"""Words of a shell and command lines of Windows, on `bytes` and `str`."""
+"""Words of a shell, and command lines of Windows."""
 
 from __future__ import annotations
 
-from ctypes import byref, c_size_t, c_uint16, create_string_buffer
+from array import array
+from ctypes import addressof
 from enum import IntEnum
-from typing import Callable, Iterable
+from typing import Any, AnyStr, Iterable
 
-from ._calls import WINDOWS, OsString, _bytes_of, _done, encode, from_units
+from . import _quick as quick
+from ._calls import from_wide
 from ._errors import FaultError, LineError, NulError, QuoteError
-from ._library import BAD_LINE, FAULTY, HAS_NUL, HAS_QUOTE, Fault, LineFault, library, views_of
+from ._library import BAD_LINE, FAULTY, HAS_NUL, HAS_QUOTE, Call, LineFault, Room, address_of, library, views_of, written
+from ._strings import UNIX, WINDOWS, AnyOsName, OsName, done, index_in, only_list, read, read_all, read_valid, returned, said
 
 
 class LineKind(IntEnum):
-    """Why a line isn't words: what begins at the index."""
+    """What begins at the index of a `LineError`."""
 
     SINGLE_QUOTE = 1
     DOUBLE_QUOTE = 2
@@ -22,155 +25,245 @@ class LineKind(IntEnum):
     ESCAPE = 6
 
 
-def _word(call: Callable[..., int], raw: bytes) -> bytes:
-    room = library.osb_shell_bound(len(raw))
-    out, count, index = create_string_buffer(room), c_size_t(), c_size_t()
-    status = call(raw, len(raw), out, room, byref(count), byref(index))
+_LINE_TEXTS = {
+    LineKind.SINGLE_QUOTE: "unclosed single quote",
+    LineKind.DOUBLE_QUOTE: "unclosed double quote",
+    LineKind.DOLLAR_QUOTE: "unclosed $'",
+    LineKind.BACKSLASH: "backslash at the end",
+    LineKind.SPECIAL: "special character",
+    LineKind.ESCAPE: "unknown escape in $'..'",
+}
+_QUOTE, _QUOTE_LINE, _FISH, _JOIN = map(
+    address_of, (library.osb_shell_quote, library.osb_shell_quote_line, library.osb_fish_quote, library.osb_shell_join)
+)
+_COMMAND_LINE = address_of(library.osb_windows_command_line)
+
+
+def _with_nul(raw: bytes, index: int, errors: str | None, which: int | None = None) -> NulError:
+    index = index_in(raw, index, errors)
+    return NulError(said(HAS_NUL, index, which), index=index, which=which)
+
+
+def _word(call: Call, name: AnyOsName) -> Any:
+    raw, errors = read(name, UNIX)
+    status, room = written(
+        lambda room: call(raw, len(raw), room.out_at, room.size, room.count_at, room.index_at), 4 * len(raw) + 3
+    )
     if status == HAS_NUL:
-        raise NulError(index.value)
-    if status == FAULTY:
-        raise FaultError(f"invalid utf-8 from index {index.value}", index.value, None)
-    _done(status)
-    return out.raw[: count.value]
+        raise _with_nul(raw, room.index, errors)
+    done(status)
+    return room.written(errors)
 
 
-def shell_quote(name: OsString) -> bytes:
-    """Returns a name of Unix as a word that every POSIX shell reads as this name.
+def shell_quote(name: OsName[AnyStr]) -> AnyStr:
+    """Returns a name of Unix as a word that every POSIX shell reads as this name, as an argument.
 
-    Raises `NulError` where it has a NUL.
+    The shell's locale may be C or of UTF-8, GBK, Big5, Shift-JIS, an EUC or a charset of one byte. In GB18030 bash with
+    the GNU C library misreads a quote after a byte from 0x81 on and a digit that begin no character. First on a line
+    `if` or `time` is a reserved word, which `shell_join` quotes. Raises `NulError` if the name has a NUL.
 
     >>> shell_quote("it's")
-    b"'it'\\\\''s'"
+    "'it'\\\\''s'"
     """
-    return _word(library.osb_shell_quote, encode(name))
+    quoted = quick.word(_QUOTE, name)
+    if quoted is NotImplemented:
+        quoted = _word(library.osb_shell_quote, name)
+    return quoted
 
 
-def shell_quote_line(name: OsString) -> bytes:
-    """Returns the same on one line, for shells that read `$'..'`. Raises as `shell_quote` does.
+def shell_quote_line(name: OsName[AnyStr]) -> AnyStr:
+    """Returns a name as such a word on one line, for bash, zsh, ksh93, mksh and busybox, which read `$'..'`.
+
+    The locales are those of `shell_quote`: no backslash follows a byte from 0x80 on. Raises as `shell_quote` does.
 
     >>> shell_quote_line("a\\n")
-    b"$'a\\\\n'"
+    "$'a\\\\n'"
     """
-    return _word(library.osb_shell_quote_line, encode(name))
+    quoted = quick.word(_QUOTE_LINE, name)
+    if quoted is NotImplemented:
+        quoted = _word(library.osb_shell_quote_line, name)
+    return quoted
 
 
-def fish_quote(name: OsString) -> bytes:
-    """Returns the same as a word of fish. Raises as `shell_quote` does.
+def fish_quote(name: OsName[AnyStr]) -> AnyStr:
+    """Returns a name as a word of fish, in the locales of `shell_quote` and in GB18030. Raises as `shell_quote` does.
 
     >>> fish_quote("it's")
-    b"'it\\\\'s'"
+    "'it\\\\'s'"
     """
-    return _word(library.osb_fish_quote, encode(name))
+    quoted = quick.word(_FISH, name)
+    if quoted is NotImplemented:
+        quoted = _word(library.osb_fish_quote, name)
+    return quoted
 
 
-def powershell_quote(name: OsString) -> str:
+def powershell_quote(name: AnyOsName) -> str:
     """Returns a name of Windows as a single-quoted string of PowerShell.
 
-    Raises `FaultError` where it isn't a text, as with a lone surrogate, and `NulError` where it has a NUL.
+    Raises `FaultError` if it isn't a text, as with a lone surrogate, and `NulError` if it has a NUL.
 
     >>> powershell_quote("it's")
     "'it''s'"
     """
-    raw = name if isinstance(name, bytes) else _bytes_of(name, WINDOWS)
-    return _word(library.osb_powershell_quote, raw).decode()
+    raw, errors = read(name, WINDOWS)
+    call: Call = library.osb_powershell_quote
+    status, room = written(
+        lambda room: call(raw, len(raw), room.out_at, room.size, room.count_at, room.index_at), 4 * len(raw) + 3
+    )
+    if status == HAS_NUL:
+        raise _with_nul(raw, room.index, errors)
+    if status == FAULTY:
+        index = index_in(raw, room.index, errors)
+        raise FaultError(f"invalid UTF-8 from index {index}", index=index)
+    done(status)
+    return str(room.written("strict"))
 
 
-def shell_join(names: Iterable[OsString]) -> bytes:
-    """Returns a line of the words of names of Unix, a space between them: what a shell reads from it is these names.
+def shell_join(names: Iterable[OsName[AnyStr]]) -> AnyStr:
+    """Returns a line of the words of names of Unix, with a space between them, which a shell reads as these names.
 
-    Raises `NulError` where a name has a NUL.
+    A first name that is a reserved word, or an alias that a shell begins with, is quoted, so that it is run as a command.
+    The names are all `str` or all `bytes`; without any the line is the empty `str`. Raises `NulError`, with `which` and
+    `index`, if a name has a NUL.
 
     >>> shell_join(["cp", "a b", ""])
-    b"cp 'a b' ''"
+    "cp 'a b' ''"
     """
-    words = [encode(name) for name in names]
-    room = sum(library.osb_shell_bound(len(word)) + 1 for word in words)
-    out, count, index = create_string_buffer(max(room, 1)), c_size_t(), c_size_t()
-    status = library.osb_shell_join(views_of(words), len(words), out, room, byref(count), None, byref(index))
+    only_list(names)
+    names = list(names)
+    quoted: AnyStr = quick.line(_JOIN, names)
+    if quoted is not NotImplemented:
+        return quoted
+    words, errors = read_all(names, UNIX)
+    views = views_of(words)
+    call: Call = library.osb_shell_join
+    at = views.buffer_info()[0] if words else None
+    status, room = written(
+        lambda room: call(at, len(words), room.out_at, room.size, room.count_at, room.which_at, room.index_at),
+        sum(4 * len(word) + 4 for word in words),
+    )
     if status == HAS_NUL:
-        raise NulError(index.value)
-    _done(status)
-    return out.raw[: count.value]
+        raise _with_nul(words[room.which], room.index, errors, room.which)
+    done(status)
+    line: AnyStr = room.written(errors)
+    return line
 
 
-def shell_words(line: OsString, *, specials: bool = False, dollar_quotes: bool = False) -> list[bytes]:
+def shell_words(line: OsName[AnyStr], *, specials: bool = False, dollar_quotes: bool = False) -> list[AnyStr]:
     """Returns the words of a line as a POSIX shell reads it, where nothing is expanded.
 
-    A byte by which some shell expands or does something else is refused, unless `specials` is given: then it means
-    itself. With `dollar_quotes` `$'..'` is read, too.
+    A character by which some POSIX shell in C or UTF-8 expands or does something else is rejected, or means itself if
+    `specials` is true. These are ``| & ; < > ( ) $ * ? [ { } ~ ! ` `` and a carriage return outside quotes, `# = ^` first in a
+    word, and ``$ ! ` `` in double quotes. Blanks beyond ASCII are part of a word, but yash takes them for blanks. `$'..'` is
+    read if `dollar_quotes` is true.
 
-    Raises `LineError` where the line isn't words, and `NulError` where it has a NUL.
+    Raises `LineError` if the line isn't a list of words, and `NulError` if it has a NUL.
 
     >>> shell_words("cc -DNAME='a b' \\"c d\\"e")
-    [b'cc', b'-DNAME=a b', b'c de']
+    ['cc', '-DNAME=a b', 'c de']
     """
-    raw = encode(line)
-    room = library.osb_words_bound(len(raw))
-    out, count, fault = create_string_buffer(room), c_size_t(), LineFault()
-    status = library.osb_shell_words(specials | dollar_quotes << 1, raw, len(raw), out, room, byref(count), byref(fault))
+    raw, errors = read(line, UNIX)
+    fault, options = LineFault(), bool(specials) | bool(dollar_quotes) << 1
+    call: Call = library.osb_shell_words
+    status, room = written(
+        lambda room: call(options, raw, len(raw), room.out_at, room.size, room.count_at, addressof(fault)), len(raw) + 1
+    )
     if status == BAD_LINE:
-        raise LineError(LineKind(fault.kind).name.lower().replace("_", " "), fault.kind, fault.index)
+        kind, index = LineKind(fault.kind), index_in(raw, fault.index, errors)
+        raise LineError(f"{_LINE_TEXTS[kind]} (index {index})", kind=kind, index=index)
     if status == HAS_NUL:
-        raise NulError(fault.index)
-    _done(status)
-    return out.raw[: count.value].split(b"\0")[:-1]
+        raise _with_nul(raw, fault.index, errors)
+    done(status)
+    words = room.written(None).split(b"\0")[:-1]
+    return [returned(word, errors) for word in words]
 
 
-def _units(call: Callable[..., int], room: int, *given: object) -> list[int]:
-    """Returns the units that a call writes, for which so much room is always enough."""
-    out, count, index, fault = (c_uint16 * room)(), c_size_t(), c_size_t(), Fault()
-    status = call(*given, out, room, byref(count), byref(index), byref(fault))
+def _wide(status: int, room: Room, words: list[bytes], errors: str | None, which: int | None) -> None:
+    """Raises what a status of a call that writes units means, for one of these words."""
+    raw = words[which or 0]
     if status == HAS_NUL:
-        raise NulError(index.value)
+        raise _with_nul(raw, room.index, errors, which)
     if status == HAS_QUOTE:
-        raise QuoteError(index.value)
-    _done(status, fault)
-    return out[: count.value]
+        index = index_in(raw, room.index, errors)
+        raise QuoteError(said(status, index), index=index)
+    done(status, room.fault, raw, errors, which)
 
 
-def windows_quote(argument: OsString) -> bytes:
+def _of_wide(wide: bytes, errors: str | None) -> Any:
+    """Returns the string that has the code units in these bytes."""
+    return from_wide(wide) if errors is None else wide.decode("utf-16-le", errors)
+
+
+def _one_wide(call: Call, need: int, raw: bytes, errors: str | None) -> bytes:
+    """Returns the code units that a call writes of one word."""
+    status, room = written(
+        lambda room: call(raw, len(raw), room.out_at, room.size // 2, room.count_at, room.index_at, room.fault_at), 2 * need, 2
+    )
+    _wide(status, room, [raw], errors, None)
+    return bytes(room.written(None, 2))
+
+
+def windows_quote(argument: OsName[AnyStr]) -> AnyStr:
     """Returns the text of an argument in a command line of Windows, from which a program reads this argument.
 
-    Raises `NulError` where it has a NUL.
+    Programs of the C runtime and most others read it so, but `cmd.exe` reads lines by rules of its own. Raises `NulError`
+    if it has a NUL.
 
     >>> windows_quote("a b\\\\")
-    b'"a b\\\\\\\\"'
+    '"a b\\\\\\\\"'
     """
-    raw = encode(argument, WINDOWS)
-    return from_units(_units(library.osb_windows_quote, library.osb_windows_bound(len(raw)), raw, len(raw)))
+    raw, errors = read_valid(argument, WINDOWS)
+    text: AnyStr = _of_wide(_one_wide(library.osb_windows_quote, 2 * len(raw) + 2, raw, errors), errors)
+    return text
 
 
-def windows_command_line(program: OsString, arguments: Iterable[OsString] = ()) -> bytes:
+def windows_command_line(program: OsName[AnyStr], arguments: Iterable[OsName[AnyStr]] = ()) -> AnyStr:
     """Returns the command line of a program with these arguments.
 
-    Raises `NulError` where the name or an argument has a NUL, and `QuoteError` where the name has a quotation mark.
+    Raises `NulError` if the name or an argument has a NUL, and `QuoteError` if the name has a quotation mark. `which` of
+    the program is 0, and that of the first argument 1.
 
     >>> windows_command_line("E", ["a b", "", "-x"])
-    b'"E" "a b" "" -x'
+    '"E" "a b" "" -x'
     """
-    words = [encode(word, WINDOWS) for word in (program, *arguments)]
+    only_list(arguments)
+    names: list[Any] = [program, *arguments]
+    made: AnyStr = quick.wide_line(_COMMAND_LINE, names)
+    if made is not NotImplemented:
+        return made
+    words, errors = read_all(names, WINDOWS)
     views = views_of(words)
-    room = sum(library.osb_windows_bound(len(word)) + 1 for word in words)
+    call: Call = library.osb_windows_command_line
+    status, room = written(
+        lambda room: call(
+            views.buffer_info()[0],
+            len(words),
+            room.out_at,
+            room.size // 2,
+            room.count_at,
+            room.which_at,
+            room.index_at,
+            room.fault_at,
+        ),
+        sum(4 * len(word) + 6 for word in words),
+        2,
+    )
+    _wide(status, room, words, errors, room.which if status else None)
+    line: AnyStr = _of_wide(room.written(None, 2), errors)
+    return line
 
-    def call(out: object, room: int, count: object, index: object, fault: object) -> int:
-        return library.osb_windows_command_line(views, len(words), out, room, count, None, index, fault)
 
-    return from_units(_units(call, room))
+def windows_arguments(line: OsName[AnyStr]) -> list[AnyStr]:
+    """Returns the program's name and the arguments of a command line of Windows, as the C runtime of 2015 and later reads it.
 
-
-def windows_arguments(line: OsString) -> list[bytes]:
-    """Returns the program's name and the arguments of a command line of Windows.
-
-    Raises `NulError` where it has a NUL.
+    Raises `NulError` if it has a NUL.
 
     >>> windows_arguments(r'"my E" a "b c" \\"d')
-    [b'my E', b'a', b'b c', b'"d']
+    ['my E', 'a', 'b c', '"d']
     """
-    raw = encode(line, WINDOWS)
-    words: list[list[int]] = [[]]
-    for unit in _units(library.osb_windows_arguments, library.osb_words_bound(len(raw)), raw, len(raw)):
-        if unit:
-            words[-1].append(unit)
-        else:
-            words.append([])
-    return [from_units(word) for word in words[:-1]]
+    raw, errors = read_valid(line, WINDOWS)
+    wide = _one_wide(library.osb_windows_arguments, len(raw) + 2, raw, errors)
+    # each word ends with a 0 unit
+    ends: list[int] = [2 * at for at, unit in enumerate(array("H", wide)) if not unit]
+    starts: list[int] = [0, *(end + 2 for end in ends)]
+    return [_of_wide(wide[start:end], errors) for start, end in zip(starts, ends)]

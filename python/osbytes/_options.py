@@ -1,18 +1,18 @@
-"""Options and operands of a command line, on `bytes` and `str`."""
+"""Options and operands of a command line."""
 
 from __future__ import annotations
 
-from ctypes import byref
+from ctypes import addressof, memmove, sizeof
 from enum import IntEnum
-from typing import Iterable, Iterator, NamedTuple
+from typing import Any, AnyStr, Generic, Iterable, Iterator
 
-from ._calls import UNIX, OsString, Platform, _done, encode
 from ._errors import MissingValueError, UnexpectedValueError
-from ._library import ENDED, NONE, UNEXPECTED, OptionRead, OptionsState, View, library, views_of
+from ._library import ENDED, NONE, UNEXPECTED, Call, OptionRead, OptionsState, View, library, views_of
+from ._strings import UNIX, OsName, OsString, Platform, as_platform, done, read_all, returned, said
 
 
 class OptionKind(IntEnum):
-    """What is read of a word."""
+    """What is read from a word."""
 
     LONG = 1
     LONG_BYTES = 2
@@ -21,85 +21,121 @@ class OptionKind(IntEnum):
     OPERAND = 5
 
 
-class Option(NamedTuple):
-    """An option or an operand, and its bytes without dashes and without a value."""
+class Option(Generic[AnyStr]):
+    """An option or an operand: its `kind`, and its `text` without dashes and without a value."""
 
+    __slots__ = ("kind", "text")
     kind: OptionKind
-    bytes: bytes
+    text: AnyStr
+
+    def __init__(self, kind: OptionKind, text: AnyStr) -> None:
+        self.kind = kind
+        self.text = text
 
     @property
     def name(self) -> str | None:
-        """The option as it is written, as `-o` or `--output`; None of an operand, and of what is no text.
+        """The option as it is written, as `-o` or `--output`. None for an operand, and for a name that isn't text.
 
-        >>> Option(OptionKind.LONG, b"output").name
+        >>> Option(OptionKind.LONG, "output").name
         '--output'
         """
         dashes = {OptionKind.LONG: "--", OptionKind.SHORT: "-"}.get(self.kind)
-        return None if dashes is None else dashes + self.bytes.decode()
+        text: OsString = self.text
+        if dashes is None:
+            return None
+        return dashes + (text.decode() if isinstance(text, bytes) else text)
+
+    def __iter__(self) -> Iterator[Any]:
+        return iter((self.kind, self.text))
+
+    def __eq__(self, other: object) -> bool:
+        return isinstance(other, Option) and (self.kind, self.text) == (other.kind, other.text)
+
+    def __hash__(self) -> int:
+        return hash((self.kind, self.text))
+
+    def __repr__(self) -> str:
+        return f"Option({self.kind!r}, {self.text!r})"
 
 
-class Options(Iterator[Option]):
+class Options(Iterator[Option[AnyStr]]):
     """The options and operands of a command line, without the program's name, one by one.
 
-    `--name` and `--name=value` are long options, whose name ends at the first `=`; `-abc` has three short ones, a
-    character each. `--` is skipped, and each word after it is an operand. So is `-`, the empty word, one that begins
-    with no dash, and with `numbers` one that begins with `-` or `-.` and a digit.
+    `--name` and `--name=value` are long options, whose name ends at the first `=`. `-abc` is three short ones, a
+    character each. `--` is skipped, and each word after it is an operand. So is `-`, the empty word, one that doesn't
+    begin with a dash, and one that begins with `-` or `-.` and a digit if `numbers` is true.
 
-    A step raises `UnexpectedValueError` where `=value` is left of the last option's word, since nothing took it. The
-    next step goes on after it.
+    A step raises `UnexpectedValueError` if the last option has `=value` in its word and nothing took it. The next step
+    goes on after it. Only one thread at a time may use an object. A copy goes on alone.
 
     >>> options, output, names = Options(["-o=a", "--verbose", "b"]), None, []
     >>> for option in options:
     ...     if option.name in ("-o", "--output"):
     ...         output = options.value()
     ...     elif option.kind == OptionKind.OPERAND:
-    ...         names.append(option.bytes)
+    ...         names.append(option.text)
     >>> output, names
-    (b'a', [b'b'])
+    ('a', ['b'])
     """
 
-    def __init__(self, words: Iterable[OsString], platform: Platform = UNIX, *, numbers: bool = False) -> None:
-        self._words = [encode(word, platform) for word in words]
+    def __init__(self, words: Iterable[OsName[AnyStr]], platform: Platform = UNIX, *, numbers: bool = False) -> None:
+        self._words, self._errors = read_all(words, as_platform(platform))
         self._views = views_of(self._words)
         self._state = OptionsState()
-        _done(library.osb_options_start(byref(self._state), self._views, len(self._words), numbers))
+        at = self._views.buffer_info()[0] if self._words else None
+        done(library.osb_options_start(addressof(self._state), at, len(self._words), bool(numbers)))
 
-    def __next__(self) -> Option:
+    def __copy__(self) -> Options[AnyStr]:
+        other: Options[AnyStr] = object.__new__(type(self))
+        other._words, other._errors, other._views, other._state = self._words, self._errors, self._views, OptionsState()
+        memmove(addressof(other._state), addressof(self._state), sizeof(OptionsState))
+        return other
+
+    def __deepcopy__(self, _: object) -> Options[AnyStr]:
+        return self.__copy__()
+
+    def _text(self, view: View) -> Any:
+        return returned(bytes(view), self._errors)
+
+    def __next__(self) -> Option[AnyStr]:
         read = OptionRead()
-        status = library.osb_options_next(byref(self._state), byref(read))
+        status = library.osb_options_next(addressof(self._state), addressof(read))
         if status == ENDED:
             raise StopIteration
         if status == UNEXPECTED:
-            raise UnexpectedValueError(bytes(read.text))
-        _done(status)
-        return Option(OptionKind(read.kind), bytes(read.text))
+            value = self._text(read.text)
+            raise UnexpectedValueError(f"{said(status)}: {value!r}", value=value)
+        done(status)
+        return Option(OptionKind(read.kind), self._text(read.text))
 
-    def value(self) -> bytes:
+    def _taken(self, call: Call) -> Any:
+        value = View()
+        status = call(addressof(self._state), addressof(value))
+        if status == NONE:
+            return None
+        done(status)
+        return self._text(value)
+
+    def value(self) -> AnyStr:
         """Takes the value of the last option: the rest of its word without the `=` it begins with, else the next word.
 
-        Raises `MissingValueError` where no word is left.
+        Raises `MissingValueError` if no word is left.
 
         >>> options = Options(["--name=a=b", "c"])
         >>> next(options).name, options.value(), options.value()
-        ('--name', b'a=b', b'c')
+        ('--name', 'a=b', 'c')
         """
-        value = View()
-        status = library.osb_options_value(byref(self._state), byref(value))
-        if status == NONE:
-            raise MissingValueError()
-        _done(status)
-        return bytes(value)
+        value: AnyStr | None = self._taken(library.osb_options_value)
+        if value is None:
+            raise MissingValueError("the option needs a value, and no argument is left")
+        return value
 
-    def optional_value(self) -> bytes | None:
-        """Takes that value where it is in the option's own word, else None, and the next word stays.
+    def optional_value(self) -> AnyStr | None:
+        """Takes the value of the last option if it is in the option's own word. Else returns None, and the next word stays.
 
         >>> options = Options(["-n", "a"])
         >>> next(options).name, options.optional_value()
         ('-n', None)
         """
-        value = View()
-        status = library.osb_options_optional_value(byref(self._state), byref(value))
-        if status == NONE:
-            return None
-        _done(status)
-        return bytes(value)
+        value: AnyStr | None = self._taken(library.osb_options_optional_value)
+        return value

@@ -1,14 +1,26 @@
-"""Paths that are built of others, on `bytes` and `str`."""
+"""Paths that are built of others."""
 
 from __future__ import annotations
 
-from ctypes import Array, byref, c_char, c_size_t, c_uint32, create_string_buffer
 from enum import IntEnum
-from typing import Callable
+from typing import Any, AnyStr
 
-from ._calls import UNIX, OsString, Platform, _done, encode
+from . import _quick as quick
 from ._errors import ConvertError, ExtensionError, JoinError
-from ._library import BAD_EXTENSION, BAD_PATH, NO_MEMORY, NO_ROOM, NONE, Fault, library
+from ._library import BAD_EXTENSION, BAD_PATH, NONE, Call, address_of, library, written
+from ._strings import ERRORS, UNIX, AnyOsName, OsName, Platform, as_platform, done, index_in, read_two, read_valid, returned, said
+
+_JOIN, _RELATIVE, _WITH_FILE_NAME, _WITH_EXTENSION, _WITH_ADDED = map(
+    address_of,
+    (
+        library.osb_path_join,
+        library.osb_path_relative,
+        library.osb_path_with_file_name,
+        library.osb_path_with_extension,
+        library.osb_path_with_added_extension,
+    ),
+)
+_NORMALIZE, _CLEAN = map(address_of, (library.osb_path_normalize, library.osb_path_clean))
 
 
 class JoinReason(IntEnum):
@@ -20,159 +32,187 @@ class JoinReason(IntEnum):
     STREAM = 4
     RESERVED = 5
     BASE = 6
+    NUL = 7
+    BASE_NUL = 8
 
 
-def _built(room: int, call: Callable[[Array[c_char], int, object], int]) -> tuple[int, bytes]:
-    """Returns the status of a call, and what it writes, for which this room is tried first."""
-    count = c_size_t()
-    while True:
-        out = create_string_buffer(room)
-        status = call(out, room, byref(count))
-        if status == NO_MEMORY:
-            raise MemoryError
-        if status != NO_ROOM:
-            return status, out.raw[: count.value]
-        room = count.value
+_REASONS = {
+    JoinReason.PREFIX: "the path has a prefix",
+    JoinReason.ROOT: "the path has a root",
+    JoinReason.LEAVES: "the path leaves the base",
+    JoinReason.STREAM: "a name of the path has a colon",
+    JoinReason.RESERVED: "a name of the path is reserved on Windows",
+    JoinReason.BASE: "the base isn't a place of its own",
+    JoinReason.NUL: "the path has a NUL",
+    JoinReason.BASE_NUL: "the base has a NUL",
+}
 
 
-def _of_two(call: Callable[..., int], one: OsString, other: OsString, platform: Platform) -> tuple[int, bytes]:
-    a, b = encode(one, platform), encode(other, platform)
-    room = len(a) + len(b) + 4
-    return _built(room, lambda out, room, count: call(platform, a, len(a), b, len(b), out, room, count))
+def _of_two(call: Call, one: AnyOsName, other: AnyOsName, platform: Platform) -> Any:
+    platform = as_platform(platform)
+    a, b, errors = read_two(one, other, platform)
+    status, room = written(
+        lambda room: call(platform, a, len(a), b, len(b), room.out_at, room.size, room.count_at), len(a) + len(b) + 4
+    )
+    if status == NONE:
+        return None
+    if status == BAD_EXTENSION:
+        raise ExtensionError(said(status))
+    done(status)
+    return room.written(errors)
 
 
-def path_join(base: OsString, path: OsString, platform: Platform = UNIX) -> bytes:
-    """Returns a path after a base. One with a prefix replaces the base, one with a root all but the base's prefix.
+def _of_one(call: Call, path: AnyOsName, platform: Platform) -> Any:
+    platform = as_platform(platform)
+    raw, errors = read_valid(path, platform)
+    status, room = written(lambda room: call(platform, raw, len(raw), room.out_at, room.size, room.count_at), len(raw) + 4)
+    if status == NONE:
+        return None
+    done(status)
+    return room.written(errors)
+
+
+def path_join(base: OsName[AnyStr], path: OsName[AnyStr], platform: Platform = UNIX) -> AnyStr:
+    """Returns a path after a base, as Rust's `Path::join` and `os.path.join` do.
+
+    A path with a prefix replaces the base, and one with a root all but the base's prefix. Both arguments are `str`, or
+    both `bytes`.
 
     >>> path_join("/usr", "lib"), path_join("/usr", "/lib"), path_join("C:", "a", Platform.WINDOWS)
-    (b'/usr/lib', b'/lib', b'C:a')
+    ('/usr/lib', '/lib', 'C:a')
     """
-    status, joined = _of_two(library.osb_path_join, base, path, platform)
-    _done(status)
-    return joined
+    made = quick.joined(_JOIN, platform, base, path)
+    if made is NotImplemented:
+        made = _of_two(library.osb_path_join, base, path, platform)
+    return made
 
 
-def path_join_checked(base: OsString, path: OsString, platform: Platform = UNIX) -> bytes:
-    """Returns a path below a base, in which `.` and `..` are resolved, for names out of an archive or a request.
+def path_join_checked(base: OsName[AnyStr], path: OsName[AnyStr], platform: Platform = UNIX) -> AnyStr:
+    """Returns a path below a base, with `.` and `..` resolved, for names that come from an archive or a request.
 
-    Raises `JoinError`, with the reason, where the path has a prefix or a root, or a `..` would leave the base; on Windows
-    also where a name has a colon or is reserved.
+    Raises `JoinError`, with the reason, if the path has a prefix or a root, or a `..` would leave the base, and on Windows
+    also if a name has a colon or is reserved, or the base isn't a place of its own, as `\\\\server`. A NUL in either is
+    rejected, with its index. The file system isn't read, so a symbolic link below the base can still lead elsewhere.
 
     >>> path_join_checked("/srv/files", "./a/../b//c")
-    b'/srv/files/b/c'
+    '/srv/files/b/c'
     """
-    a, b = encode(base, platform), encode(path, platform)
-    reason, call = c_uint32(), library.osb_path_join_checked
-    status, joined = _built(
+    platform = as_platform(platform)
+    a, b, errors = read_two(base, path, platform)
+    call: Call = library.osb_path_join_checked
+    status, room = written(
+        lambda room: call(platform, a, len(a), b, len(b), room.out_at, room.size, room.count_at, room.index_at),
         len(a) + len(b) + 4,
-        lambda out, room, count: call(platform, a, len(a), b, len(b), out, room, count, byref(reason)),
     )
     if status == BAD_PATH:
-        raise JoinError(JoinReason(reason.value).name.lower(), reason.value)
-    _done(status)
-    return joined
+        # the call writes 32 bits
+        reason = JoinReason(room.index & 0xFFFFFFFF)
+        nul_in = {JoinReason.NUL: b, JoinReason.BASE_NUL: a}.get(reason)
+        index = None if nul_in is None else index_in(nul_in, nul_in.find(b"\0"), errors)
+        raise JoinError(_REASONS[reason], reason=reason, index=index)
+    done(status)
+    made: AnyStr = room.written(errors)
+    return made
 
 
-def path_relative(path: OsString, base: OsString, platform: Platform = UNIX) -> bytes | None:
-    """Returns how a path is reached from a base, or None where it isn't. The base itself is reached by the empty path.
+def path_relative(path: OsName[AnyStr], base: OsName[AnyStr], platform: Platform = UNIX) -> AnyStr | None:
+    """Returns the relative path that leads from a base to a path, or None if there is none.
+
+    From the base to itself it is the empty path.
 
     >>> path_relative("/usr/lib/a", "/usr/bin"), path_relative("a", "/usr")
-    (b'../lib/a', None)
+    ('../lib/a', None)
     """
-    status, way = _of_two(library.osb_path_relative, path, base, platform)
-    if status == NONE:
-        return None
-    _done(status)
-    return way
+    made: AnyStr | None = quick.joined(_RELATIVE, platform, path, base)
+    if made is NotImplemented:
+        made = _of_two(library.osb_path_relative, path, base, platform)
+    return made
 
 
-def path_normalize(path: OsString, platform: Platform = UNIX) -> bytes | None:
-    """Returns the normal form of a path, without `.` but at the start, and without each `..` and the name before it.
+def path_normalize(path: OsName[AnyStr], platform: Platform = UNIX) -> AnyStr | None:
+    """Returns the normal form of a path: without each `..` and the name before it, and without `.` but at the start.
 
-    It is None where a `..` has no name before it.
+    It is None if a `..` has no name before it.
 
     >>> path_normalize("/usr//./lib/../bin/"), path_normalize("a/../..")
-    (b'/usr/bin', None)
+    ('/usr/bin', None)
     """
-    raw = encode(path, platform)
-    status, normal = _built(
-        len(raw) + 4, lambda out, room, count: library.osb_path_normalize(platform, raw, len(raw), out, room, count)
-    )
-    if status == NONE:
-        return None
-    _done(status)
-    return normal
+    made: AnyStr | None = quick.built(_NORMALIZE, platform, path)
+    if made is NotImplemented:
+        made = _of_one(library.osb_path_normalize, path, platform)
+    return made
 
 
-def path_clean(path: OsString, platform: Platform = UNIX) -> bytes:
-    """Returns the path cleaned, as `os.path.normpath` does: a `..` without a name before it stays, but at a root.
+def path_clean(path: OsName[AnyStr], platform: Platform = UNIX) -> AnyStr:
+    """Returns the path cleaned, as `os.path.normpath` does. A `..` without a name before it is kept, but not at a root.
 
     >>> path_clean("./../a//b/.."), path_clean("/.."), path_clean("")
-    (b'../a', b'/', b'.')
+    ('../a', '/', '.')
     """
-    raw = encode(path, platform)
-    status, clean = _built(
-        len(raw) + 4, lambda out, room, count: library.osb_path_clean(platform, raw, len(raw), out, room, count)
-    )
-    _done(status)
-    return clean
+    made = quick.built(_CLEAN, platform, path)
+    if made is NotImplemented:
+        made = _of_one(library.osb_path_clean, path, platform)
+    return made
 
 
-def path_convert(path: OsString, to: Platform, platform: Platform = UNIX) -> bytes:
-    """Returns the path of another platform with the same components.
+def path_convert(path: OsName[AnyStr], *, to: Platform, platform: Platform = UNIX) -> AnyStr:
+    """Returns the path of the platform `to` that has the same components as a path of `platform`.
 
-    Raises `ConvertError`, with the number of the first component that no path of it has, and `FaultError` where the
-    bytes aren't a string of it.
+    Raises `ConvertError` if `to` has no such path, and `FaultError` if the bytes aren't a string of it.
 
-    >>> path_convert("/usr//lib/..", Platform.WINDOWS)
-    b'\\\\usr\\\\lib\\\\..'
+    >>> path_convert("/usr//lib/..", to=Platform.WINDOWS)
+    '\\\\usr\\\\lib\\\\..'
+    >>> path_convert(r"lib\\a", platform=Platform.WINDOWS, to=Platform.UNIX)
+    'lib/a'
     """
-    raw = encode(path, platform)
-    index, fault, call = c_size_t(), Fault(), library.osb_path_convert
-    status, made = _built(
+    platform, to = as_platform(platform), as_platform(to)
+    raw, errors = read_valid(path, platform)
+    call: Call = library.osb_path_convert
+    status, room = written(
+        lambda room: call(platform, to, raw, len(raw), room.out_at, room.size, room.count_at, room.index_at, room.fault_at),
         len(raw) + 4,
-        lambda out, room, count: call(platform, to, raw, len(raw), out, room, count, byref(index), byref(fault)),
     )
     if status == BAD_PATH:
-        raise ConvertError(index.value)
-    _done(status, fault)
+        raise ConvertError(said(status), component=room.index)
+    done(status, room.fault, raw, errors)
+    made: AnyStr = room.written(errors and ERRORS[to])
     return made
 
 
-def path_with_file_name(path: OsString, name: OsString, platform: Platform = UNIX) -> bytes:
-    """Returns a path with another last name; of one that doesn't end in a name, with the name after it.
+def path_with_file_name(path: OsName[AnyStr], name: OsName[AnyStr], platform: Platform = UNIX) -> AnyStr:
+    """Returns a path with another last name. If the path doesn't end in a name, it is added.
 
     >>> path_with_file_name("/tmp/a.txt", "b"), path_with_file_name("/", "b")
-    (b'/tmp/b', b'/b')
+    ('/tmp/b', '/b')
     """
-    status, named = _of_two(library.osb_path_with_file_name, path, name, platform)
-    _done(status)
-    return named
-
-
-def _extended(call: Callable[..., int], path: OsString, extension: OsString, platform: Platform) -> bytes:
-    status, made = _of_two(call, path, extension, platform)
-    if status == BAD_EXTENSION:
-        raise ExtensionError()
-    _done(status)
+    made = quick.joined(_WITH_FILE_NAME, platform, path, name)
+    if made is NotImplemented:
+        made = _of_two(library.osb_path_with_file_name, path, name, platform)
     return made
 
 
-def path_with_extension(path: OsString, extension: OsString, platform: Platform = UNIX) -> bytes:
-    """Returns a path with another extension of its last name, without a dot; an empty one takes it away.
+def path_with_extension(path: OsName[AnyStr], extension: OsName[AnyStr], platform: Platform = UNIX) -> AnyStr:
+    """Returns a path with another extension of its last name. An empty one removes it.
 
-    A path that doesn't end in a name stays as it is. Raises `ExtensionError` where the extension has a separator.
+    The extension is written without its dot, as in Rust: `"gz"`, where `with_suffix` of `UnixPath` and of `pathlib` takes
+    `".gz"`. A path that doesn't end in a name is unchanged. Raises `ExtensionError` if the extension has a separator.
 
     >>> path_with_extension("a/b.txt/", "rs"), path_with_extension("a/b.txt", "")
-    (b'a/b.rs', b'a/b')
+    ('a/b.rs', 'a/b')
     """
-    return _extended(library.osb_path_with_extension, path, extension, platform)
+    made = quick.joined(_WITH_EXTENSION, platform, path, extension)
+    if made is NotImplemented:
+        made = _of_two(library.osb_path_with_extension, path, extension, platform)
+    return made
 
 
-def path_with_added_extension(path: OsString, extension: OsString, platform: Platform = UNIX) -> bytes:
-    """Returns a path with an extension after its last name. Raises as `path_with_extension` does.
+def path_with_added_extension(path: OsName[AnyStr], extension: OsName[AnyStr], platform: Platform = UNIX) -> AnyStr:
+    """Returns a path with one more extension after its last name, without its dot. Raises as `path_with_extension` does.
 
     >>> path_with_added_extension("a/b.tar", "gz")
-    b'a/b.tar.gz'
+    'a/b.tar.gz'
     """
-    return _extended(library.osb_path_with_added_extension, path, extension, platform)
+    made = quick.joined(_WITH_ADDED, platform, path, extension)
+    if made is NotImplemented:
+        made = _of_two(library.osb_path_with_added_extension, path, extension, platform)
+    return made

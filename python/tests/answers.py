@@ -66,7 +66,7 @@ def search(_platform: str, string: str, pattern: str, *wanted: str) -> Answers:
     yield index(osbytes.rfind(given, text)), wanted[1]
     yield told(osbytes.contains(given, text)), wanted[2]
     yield joined(osbytes.split(given, text)) if text else "!", wanted[10]
-    yield joined(osbytes.rsplit(given, text)) if text else "!", wanted[11]
+    yield joined(reversed(osbytes.rsplit(given, text))) if text else "!", wanted[11]
 
 
 def strings(platform: str, string: str, boundaries: str, pairs: str, _units: str, _text: str, lossy: str, *_: str) -> Answers:
@@ -183,7 +183,8 @@ def words(name: str, word: str, line: str, fish: str) -> Answers:
             yield shown(call(raw(name))), wanted
         except NulError as error:
             yield f"nul {error.index}", wanted
-    yield osbytes.shell_join([raw(name), b"a b", raw(name)]), raw(word) + b" 'a b' " + raw(word)
+    # a first name is written as another word where it is a reserved one
+    yield osbytes.shell_join([b"a b", raw(name), raw(name)]), b"'a b' " + raw(word) + b" " + raw(word)
 
 
 LINE_FAULTS = {
@@ -229,7 +230,7 @@ def glob(pattern: str, path: str, separators: str, dot: str, escapes: str, ignor
 
 
 def ignore(file: str, path: str, is_dir: str, answer: str) -> Answers:
-    kind, line = osbytes.Ignore(raw(file)).matched([raw(path) + b"/" * int(is_dir)])[0]
+    kind, line, _ = osbytes.Ignore(raw(file)).matched([raw(path) + b"/" * int(is_dir)])[0]
     yield "-iw"[kind] + str(line or ""), answer
 
 

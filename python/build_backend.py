@@ -1,0 +1,158 @@
+"""Builds the Python package, as pip calls it (PEP 517), with nothing but Python.
+
+A wheel has the sources, the shared library, and the extension module if there are a C compiler and Python's headers. The
+library is that of lib/PROCESSOR in an unpacked source distribution, or the one that OSBYTES_LIBRARY names. CC names the
+compiler.
+"""
+
+from __future__ import annotations
+
+import base64
+import gzip
+import hashlib
+import io
+import os
+import platform
+import re
+import shutil
+import subprocess
+import sys
+import sysconfig
+import tarfile
+import tempfile
+import zipfile
+from pathlib import Path
+from typing import Any, Iterable
+
+HERE = Path(__file__).resolve().parent
+# In a source distribution these are beside this file, and in the repository not.
+HEADERS = (HERE / "osbytes.h", HERE.parent / "c" / "osbytes.h")
+LICENSES = tuple(folder / name for folder in (HERE, HERE.parent) for name in ("LICENSE.md", "LICENSE", "NOTICE"))
+# A fixed time, so that the same sources give the same files.
+MADE = (2026, 1, 1, 0, 0, 0)
+FLAGS = ("-std=gnu11", "-O2", "-fPIC", "-shared", "-Wall")
+FIELD = re.compile(r'^(name|version|description|requires-python|license) = "(.*)"$', re.M)
+CLASSIFIER = re.compile(r'^    "(.* :: .*)",$', re.M)
+
+
+def fields() -> dict[str, str]:
+    """Returns the fields of the project that have one line."""
+    return dict(FIELD.findall((HERE / "pyproject.toml").read_text(encoding="utf-8")))
+
+
+def metadata() -> str:
+    """Returns what an index shows of the package."""
+    project = fields()
+    classifiers = CLASSIFIER.findall((HERE / "pyproject.toml").read_text(encoding="utf-8"))
+    lines = [
+        "Metadata-Version: 2.4",
+        f"Name: {project['name']}",
+        f"Version: {project['version']}",
+        f"Summary: {project['description']}",
+        *(f"Classifier: {classifier}" for classifier in classifiers),
+        f"Requires-Python: {project['requires-python']}",
+        f"License-Expression: {project['license']}",
+        *(f"License-File: {path.name}" for path in licenses()),
+        "Description-Content-Type: text/markdown",
+    ]
+    return "\n".join(lines) + "\n\n" + (HERE / "README.md").read_text(encoding="utf-8")
+
+
+def licenses() -> list[Path]:
+    """Returns the license files, once each."""
+    return list({path.name: path for path in reversed(LICENSES) if path.exists()}.values())
+
+
+def sources() -> list[Path]:
+    """Returns the files of the package that are in the repository."""
+    return sorted(path for path in (HERE / "osbytes").iterdir() if path.suffix in (".py", ".pyi", ".typed", ".c"))
+
+
+def compiler_for(processor: str) -> str:
+    """Returns the name of the C compiler for a processor."""
+    return os.environ.get("CC", "cc") if processor == platform.machine() else f"{processor}-linux-gnu-gcc"
+
+
+def extension(compiler: str) -> bytes | None:
+    """Returns the extension module, or None if it can't be compiled here."""
+    header = next((path for path in HEADERS if path.exists()), None)
+    includes = {sysconfig.get_path("include"), sysconfig.get_path("platinclude")}
+    if header is None or not shutil.which(compiler):
+        return None
+    with tempfile.TemporaryDirectory() as room:
+        made = Path(room, "_fast.abi3.so")
+        words = [compiler, *FLAGS, f"-I{header.parent}", *(f"-I{include}" for include in includes)]
+        ran = subprocess.run([*words, str(HERE / "osbytes" / "_fast.c"), "-o", str(made)], stderr=subprocess.PIPE, text=True)
+        if ran.returncode:
+            print(f"osbytes: without the extension module: {ran.stderr.strip()[-400:]}", file=sys.stderr)
+            return None
+        return made.read_bytes()
+
+
+def make_wheel(folder: Path, library: Path, tag: str, compiler: str) -> Path:
+    """Makes a wheel with a library, for the platform of a tag."""
+    project = fields()
+    name = f"osbytes-{project['version']}"
+    info = f"{name}.dist-info"
+    entries = {f"osbytes/{path.name}": path.read_bytes() for path in sources() if path.suffix != ".c"}
+    entries["osbytes/libosbytes.so"] = library.read_bytes()
+    if (compiled := extension(compiler)) is not None:
+        entries["osbytes/_fast.abi3.so"] = compiled
+    entries.update({f"{info}/licenses/{path.name}": path.read_bytes() for path in licenses()})
+    entries[f"{info}/METADATA"] = metadata().encode()
+    entries[f"{info}/WHEEL"] = f"Wheel-Version: 1.0\nGenerator: osbytes\nRoot-Is-Purelib: false\nTag: {tag}\n".encode()
+    records = "".join(record_of(path, content) for path, content in entries.items())
+    entries[f"{info}/RECORD"] = f"{records}{info}/RECORD,,\n".encode()
+    file = folder / f"{name}-{tag}.whl"
+    with zipfile.ZipFile(file, "w", zipfile.ZIP_DEFLATED) as made:
+        for path, content in entries.items():
+            made.writestr(zipfile.ZipInfo(path, MADE), content, zipfile.ZIP_DEFLATED)
+    return file
+
+
+def record_of(path: str, content: bytes) -> str:
+    sum = base64.urlsafe_b64encode(hashlib.sha256(content).digest()).decode().rstrip("=")
+    return f"{path},sha256={sum},{len(content)}\n"
+
+
+def make_sdist(folder: Path, libraries: Iterable[tuple[str, Path]]) -> Path:
+    """Makes a source distribution with the library of each of these processors."""
+    top = f"osbytes-{fields()['version']}"
+    tests = sorted((HERE / "tests").glob("*.py"))
+    entries = {path.relative_to(HERE).as_posix(): path.read_bytes() for path in [*sources(), *tests]}
+    entries.update({name: (HERE / name).read_bytes() for name in ("pyproject.toml", "build_backend.py", "README.md")})
+    entries.update({path.name: path.read_bytes() for path in licenses()})
+    entries["osbytes.h"] = next(path for path in HEADERS if path.exists()).read_bytes()
+    entries.update({f"lib/{processor}/libosbytes.so": path.read_bytes() for processor, path in libraries})
+    entries["PKG-INFO"] = metadata().encode()
+    file = folder / f"{top}.tar.gz"
+    packed = io.BytesIO()
+    with tarfile.open(fileobj=packed, mode="w") as members:
+        for path, content in entries.items():
+            member = tarfile.TarInfo(f"{top}/{path}")
+            member.size = len(content)
+            members.addfile(member, io.BytesIO(content))
+    file.write_bytes(gzip.compress(packed.getvalue(), 9, mtime=0))
+    return file
+
+
+def library_of(processor: str) -> Path:
+    """Returns the shared library for a processor."""
+    named = os.environ.get("OSBYTES_LIBRARY")
+    path = Path(named) if named else HERE / "lib" / processor / "libosbytes.so"
+    if not path.exists():
+        raise SystemExit(f"osbytes: no libosbytes.so for {processor}: set OSBYTES_LIBRARY to its path")
+    return path
+
+
+def build_wheel(wheel_directory: str, config_settings: Any = None, metadata_directory: Any = None) -> str:
+    """Makes the wheel of this machine, as pip wants it."""
+    processor = platform.machine()
+    tag = f"py3-none-linux_{processor}"
+    return make_wheel(Path(wheel_directory), library_of(processor), tag, compiler_for(processor)).name
+
+
+def build_sdist(sdist_directory: str, config_settings: Any = None) -> str:
+    """Makes a source distribution with the library of this machine, as build tools want it."""
+    processor = platform.machine()
+    return make_sdist(Path(sdist_directory), [(processor, library_of(processor))]).name

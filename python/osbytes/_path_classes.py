@@ -1,0 +1,281 @@
+"""Paths as objects with the names of `pathlib.PurePath`, of either platform on any platform."""
+
+from __future__ import annotations
+
+import os
+from functools import total_ordering
+from typing import Any, ClassVar, TypeVar
+
+from ._calls import decode
+from ._errors import OsBytesError
+from ._path_building import path_convert, path_join, path_join_checked, path_relative, path_with_extension
+from ._paths import (
+    Kind,
+    parts_of,
+    path_ends_with,
+    path_extension,
+    path_is_absolute,
+    path_prefix,
+    path_starts_with,
+    path_strip_prefix,
+)
+from ._strings import UNIX, WINDOWS, AnyOsName, OsString, Platform, read_valid
+
+P = TypeVar("P", bound="OsPath")
+Q = TypeVar("Q", bound="OsPath")
+
+
+@total_ordering
+class OsPath:
+    """What `UnixPath` and `WindowsPath` have in common. A path never touches the file system, and never changes."""
+
+    __slots__ = ("_drive", "_names", "_root", "_text")
+
+    platform: ClassVar[Platform]
+    _separator: ClassVar[str]
+    _drive: str
+    _root: str
+    _names: tuple[str, ...]
+    _text: str
+
+    def __new__(cls: type[P], *segments: AnyOsName) -> P:
+        """Returns the path of segments, each joined to those before it; of none, the current directory.
+
+        A segment is a `str`, `bytes`, or an object with `__fspath__`. Raises `FaultError` if it isn't a string of the
+        platform, and `TypeError` if it is a path of the other platform: `convert` makes one of it.
+        """
+        if cls is OsPath:
+            raise TypeError("OsPath is a base class: use UnixPath or WindowsPath")
+        text = ""
+        for segment in segments:
+            read = cls._read(segment)
+            text = path_join(text, read, cls.platform) if text else read
+        return cls._made(text)
+
+    @classmethod
+    def _read(cls, segment: AnyOsName) -> str:
+        if isinstance(segment, OsPath) and segment.platform != cls.platform:
+            raise TypeError(f"expected a path of {cls.platform.name.title()}, not {type(segment).__name__}")
+        return decode(segment, cls.platform)
+
+    @classmethod
+    def _made(cls: type[P], text: str) -> P:
+        """Returns the path of a text: its components, with one separator between them."""
+        drive, root, is_current = "", "", False
+        names: list[str] = []
+        for kind, part in parts_of(text, cls.platform):
+            if kind == Kind.PREFIX:
+                drive = part if part.startswith("\\\\?\\") else part.replace("/", "\\")
+            elif kind == Kind.ROOT:
+                root = cls._separator
+            elif kind == Kind.CURRENT and not drive:
+                is_current = True
+            else:
+                names.append(part)
+        path = object.__new__(cls)
+        path._drive, path._root, path._names = drive, root, tuple(names)
+        text = drive + root + cls._separator.join(names)
+        if cls.platform is WINDOWS and not drive and not root and path_prefix(text, WINDOWS) is not None:
+            # a first name such as `C:` would be a drive
+            text = f".{cls._separator}{text}"
+        elif is_current and not names:
+            text = ""
+        path._text = text
+        return path
+
+    def _with(self: P, names: tuple[str, ...]) -> P:
+        """Returns the path that begins as this one and has these names."""
+        path = object.__new__(type(self))
+        path._drive, path._root, path._names = self._drive, self._root, names
+        begins = "." + self._separator if self._text.startswith("." + self._separator) and names else ""
+        path._text = begins + self._drive + self._root + self._separator.join(names)
+        return path
+
+    def __str__(self) -> str:
+        return self._text or "."
+
+    def __fspath__(self) -> str:
+        return self._text or "."
+
+    def __bytes__(self) -> bytes:
+        return read_valid(str(self), self.platform)[0]
+
+    def __repr__(self) -> str:
+        return f"{type(self).__name__}({str(self)!r})"
+
+    def __reduce__(self) -> tuple[Any, ...]:
+        return type(self), (self._text,)
+
+    def _key(self) -> tuple[str, str, tuple[str, ...]]:
+        # the drives C: and c: are equal
+        is_drive = self._drive[-1:] == ":" and len(self._drive.removeprefix("\\\\?\\")) == 2
+        return self._drive.upper() if is_drive else self._drive, self._root, self._names
+
+    def __eq__(self, other: object) -> bool:
+        if not isinstance(other, OsPath) or other.platform != self.platform:
+            return NotImplemented
+        return self._key() == other._key()
+
+    def __lt__(self, other: object) -> bool:
+        if not isinstance(other, OsPath) or other.platform != self.platform:
+            return NotImplemented
+        return self._key() < other._key()
+
+    def __hash__(self) -> int:
+        return hash(self._key())
+
+    def __truediv__(self: P, segment: AnyOsName) -> P:
+        if not isinstance(segment, (str, bytes, os.PathLike)):
+            return NotImplemented
+        return self.joinpath(segment)
+
+    def __rtruediv__(self: P, base: AnyOsName) -> P:
+        if not isinstance(base, (str, bytes, os.PathLike)):
+            return NotImplemented
+        return type(self)(base, self)
+
+    @property
+    def drive(self) -> str:
+        """The prefix of a path of Windows, as `C:` or `\\\\\\\\server\\\\share`, or the empty string."""
+        return self._drive
+
+    @property
+    def root(self) -> str:
+        """The root, or the empty string."""
+        return self._root
+
+    @property
+    def anchor(self) -> str:
+        """The drive and the root."""
+        return self._drive + self._root
+
+    @property
+    def parts(self) -> tuple[str, ...]:
+        """The anchor, if there is one, and the names."""
+        return (self.anchor, *self._names) if self.anchor else self._names
+
+    @property
+    def parent(self: P) -> P:
+        """The path without its last name; a path without names is its own parent."""
+        return self._with(self._names[:-1]) if self._names else self
+
+    @property
+    def parents(self: P) -> tuple[P, ...]:
+        """The parent, its parent, and so on."""
+        return tuple(self._with(self._names[:end]) for end in range(len(self._names) - 1, -1, -1))
+
+    @property
+    def name(self) -> str:
+        """The last name, or the empty string."""
+        return self._names[-1] if self._names else ""
+
+    @property
+    def suffix(self) -> str:
+        """The last dot of the name and what follows it, or the empty string if the name has none after its first character."""
+        extension = path_extension(self._text, self.platform) if self.name not in ("", "..") else None
+        return "" if extension is None else f".{extension}"
+
+    @property
+    def stem(self) -> str:
+        """The name without its suffix."""
+        return self.name[: len(self.name) - len(self.suffix)]
+
+    def is_absolute(self) -> bool:
+        """Returns whether the path has a root, and on Windows a drive too."""
+        return path_is_absolute(self._text, self.platform)
+
+    def joinpath(self: P, *segments: AnyOsName) -> P:
+        """Returns the path of this one and these segments, as `/` does."""
+        text = self._text
+        for segment in segments:
+            text = path_join(text, self._read(segment), self.platform)
+        return self._made(text)
+
+    def joinpath_checked(self: P, path: AnyOsName) -> P:
+        """Returns a path below this one, whatever `path` is. Raises `JoinError` as `path_join_checked` does."""
+        return self._made(path_join_checked(self._text, self._read(path), self.platform))
+
+    def is_relative_to(self, other: AnyOsName) -> bool:
+        """Returns whether the path begins with the components of another."""
+        base = self._made(self._read(other))
+        return self._may_begin_with(base) and path_starts_with(self._text, base._text, self.platform)
+
+    def _may_begin_with(self, base: OsPath) -> bool:
+        """Returns whether the anchors allow it: as in pathlib, a path with an anchor isn't relative to the current directory."""
+        return not self.anchor or bool(base.anchor)
+
+    def relative_to(self: P, other: AnyOsName, *, walk_up: bool = False) -> P:
+        """Returns the path relative to another, with `..` where it has to if `walk_up` is true.
+
+        Raises `OsBytesError`, which is a `ValueError`, if there is none.
+        """
+        base = self._made(self._read(other))
+        rest = path_strip_prefix(self._text, base._text, self.platform) if self._may_begin_with(base) else None
+        if rest is None and walk_up:
+            rest = path_relative(self._text, base._text, self.platform)
+        if rest is None:
+            raise OsBytesError(f"{str(self)!r} is not in the subpath of {str(base)!r}")
+        return self._made(f".{self._separator}{rest}" if rest and path_prefix(rest, self.platform) else rest)
+
+    def with_name(self: P, name: OsString) -> P:
+        """Returns the path with another last name. Raises `OsBytesError` if there is none, or `name` isn't one name."""
+        text = decode(name, self.platform)
+        kinds = [kind for kind, _ in parts_of(text, self.platform)]
+        if not self.name:
+            raise OsBytesError(f"{str(self)!r} has an empty name")
+        if kinds != [Kind.NAME] or not path_ends_with(text, text, self.platform) or text[-1] in ("/", self._separator):
+            raise OsBytesError(f"Invalid name {text!r}")
+        return self._with((*self._names[:-1], text))
+
+    def with_stem(self: P, stem: OsString) -> P:
+        """Returns the path with another stem of its last name. Raises as `with_name` does."""
+        return self.with_name(decode(stem, self.platform) + self.suffix)
+
+    def with_suffix(self: P, suffix: OsString) -> P:
+        """Returns the path with another suffix of its last name, as `.gz`. An empty one removes it.
+
+        Raises `OsBytesError` if there is no last name, or the suffix doesn't begin with a dot or is one dot, and
+        `ExtensionError` if it has a separator.
+        """
+        text = decode(suffix, self.platform)
+        if text and (not text.startswith(".") or text == "."):
+            raise OsBytesError(f"Invalid suffix {text!r}")
+        if self.name in ("", ".."):
+            raise OsBytesError(f"{str(self)!r} has an empty name")
+        return self._made(path_with_extension(self._text, text[1:], self.platform))
+
+    def convert(self, to: type[Q]) -> Q:
+        """Returns the path of the class `to` that has the same components. Raises `ConvertError` if there is none."""
+        return to(path_convert(self._text, platform=self.platform, to=to.platform))
+
+
+class UnixPath(OsPath):
+    """A path of Unix, on any platform.
+
+    >>> path = UnixPath("/usr") / "lib//x.tar.gz"
+    >>> path, path.name, path.suffix, path.parent
+    (UnixPath('/usr/lib/x.tar.gz'), 'x.tar.gz', '.gz', UnixPath('/usr/lib'))
+    >>> UnixPath(b"a/\\xff").parts
+    ('a', '\\udcff')
+    """
+
+    __slots__ = ()
+    platform = UNIX
+    _separator = "/"
+
+
+class WindowsPath(OsPath):
+    """A path of Windows, on any platform, of any 16-bit code units.
+
+    Two rules differ from those of `pathlib.PureWindowsPath`. Names that differ in case are different, since a directory of
+    Windows can be case sensitive; drives are equal in either case. A segment with a drive replaces the path before it,
+    also if the drives are equal.
+
+    >>> path = WindowsPath("C:/work") / "x\\ud83d.txt"
+    >>> path, path.parts, path.with_suffix(".gz").name
+    (WindowsPath('C:\\\\work\\\\x\\ud83d.txt'), ('C:\\\\', 'work', 'x\\ud83d.txt'), 'x\\ud83d.gz')
+    """
+
+    __slots__ = ()
+    platform = WINDOWS
+    _separator = "\\"
