@@ -2,21 +2,36 @@
 
 from __future__ import annotations
 
+import fcntl
+import hashlib
+import json
 import os
 import shutil
 import subprocess
 import sys
+from functools import cache
 from pathlib import Path
-from typing import Iterable
+from typing import Callable, Iterable
 
 from laid_in import kit as toolchain
-from sources import CRATES, LIST, ROOT, crates
+from sources import CRATES, LIST, ROOT, crates, processors
 
 PARTS = ("src", "specs", "proofs")
+# Names a file that says where libraries are that tools/quick has built, by their names.
+PLACES = "BUILT_AT"
 
 
 class Failure(Exception):
     """Why what is tried, or the crate that it is in, does not pass."""
+
+
+def hold(crates: Iterable[str]) -> list[int]:
+    """Keeps others from working in the folders of these crates, as each `rt` does, until what it returns is closed."""
+    held = []
+    for name in sorted(crates):
+        held.append(os.open(CRATES / name, os.O_RDONLY))
+        fcntl.flock(held[-1], fcntl.LOCK_EX)
+    return held
 
 
 def copy_sources(name: str, to: Path) -> None:
@@ -53,8 +68,17 @@ def is_library(name: str) -> bool:
     return not is_program(name) and not is_archive(name)
 
 
+@cache
+def places() -> dict[str, str]:
+    """Returns where the libraries are that tools/quick has built, where it has started this tool."""
+    place = os.environ.get(PLACES)
+    return json.loads(Path(place).read_text(encoding="utf-8")) if place else {}
+
+
 def built(name: str) -> Path:
     """Returns what is built of a crate: a library where `rt ci` leaves it, a program or an archive."""
+    if name in places():
+        return Path(places()[name])
     out = CRATES / name / "out"
     if is_program(name):
         return out / name
@@ -70,6 +94,20 @@ def build_of(library: Path) -> str:
 def is_built(name: str) -> bool:
     """Returns whether a library is there, built by this toolchain."""
     return build_of(built(name)) == build_of(toolchain() / "rlibs" / "std.rlib")
+
+
+def files_of(name: str) -> list[Path]:
+    """Returns the files that a crate is compiled from."""
+    folders = (CRATES / name / part for part in PARTS)
+    return [path for folder in folders for path in sorted(folder.rglob("*")) if path.is_file()]
+
+
+def own_sum(name: str) -> str:
+    """Returns the sum of a crate's sources and of its line of crates.txt, without the libraries below it."""
+    sum = hashlib.sha256(repr(tuple(crates()[name])).encode())
+    for path in files_of(name):
+        sum.update(repr((str(path.relative_to(CRATES)), path.read_bytes())).encode())
+    return sum.hexdigest()
 
 
 def stamps(top: Path, names: Iterable[str]) -> dict[str, str]:
@@ -99,9 +137,10 @@ def stamp_now(name: str) -> str:
 
 
 def note_built(name: str, stamp: str) -> None:
-    """Notes that a library was built of what has a stamp, if it has it still."""
+    """Notes that a library was built of what has a stamp, if it has it still, and the sum of its own sources."""
     if stamp == stamp_now(name):
         built(name).with_name("stamp").write_text(stamp, encoding="utf-8")
+        built(name).with_name("own").write_text(own_sum(name), encoding="utf-8")
 
 
 def stamp_beside(library: Path) -> str:
@@ -125,7 +164,7 @@ def is_current(name: str) -> bool:
     return (built(name) / "format").stat().st_mtime >= max(path.stat().st_mtime for path in needed)
 
 
-def over_libraries(name: str) -> list[str]:
+def over_libraries(name: str, at: Callable[[str], Path] = built) -> list[str]:
     """Returns the words that name a crate and its libraries, as `rt ci` has built them.
 
     `rt check` would prove them again, since it takes no proof of `rt ci`.
@@ -136,9 +175,9 @@ def over_libraries(name: str) -> list[str]:
     words += ["--extern", f"std={kit}/rlibs/std.rlib", "-L", f"dependency={kit}/rlibs"]
     libraries = uses()
     for it in libraries[name]:
-        words += ["--extern", f"{it}={built(it) if it in libraries else kit / 'rlibs' / f'{it}.rlib'}"]
+        words += ["--extern", f"{it}={at(it) if it in libraries else kit / 'rlibs' / f'{it}.rlib'}"]
     for it in below(name):
-        words += ["-L", f"dependency={built(it).parent}"]
+        words += ["-L", f"dependency={at(it).parent}"]
     return [*words, "--antt-project", f"{kit}/rattle/logic/antt-project.json", "--logic-built", f"{kit}/logic_built"]
 
 
@@ -151,7 +190,3 @@ def said_by(words: list[str], folder: Path) -> str:
     """Returns what a check in a folder prints."""
     pipes = {"stdin": subprocess.DEVNULL, "stdout": subprocess.PIPE, "stderr": subprocess.STDOUT}
     return subprocess.run(words, cwd=folder, text=True, errors="replace", **pipes).stdout
-
-
-def processors() -> int:
-    return len(os.sched_getaffinity(0))

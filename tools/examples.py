@@ -103,9 +103,9 @@ def module_of(examples: list[Example]) -> Module:
     return Module("doc_examples", "\n\n".join(map(test_of, examples)), used)
 
 
-def standing() -> list[Example]:
-    """Returns the examples of all doc comments."""
-    return [e for crate in product() for path in files_of(crate) for e in examples_of(path)]
+def standing(of: list[str] | None = None) -> list[Example]:
+    """Returns the examples of the doc comments of these libraries, or of all."""
+    return [e for crate in (product() if of is None else of) for path in files_of(crate) for e in examples_of(path)]
 
 
 def missing() -> list[str]:

@@ -47,6 +47,17 @@ def kit_line() -> str:
     return line
 
 
+def sum_of_checkout() -> str:
+    """Returns the sum of the files that git tracks or would, and of the kit's line."""
+    words = ["git", "-C", str(ROOT), "ls-files", "-z", "--cached", "--others", "--exclude-standard"]
+    listed = subprocess.run(words, stdout=subprocess.PIPE, check=True).stdout
+    sum = hashlib.sha256(kit_line().encode())
+    for name in sorted(set(listed.decode().split("\0")) - {""}):
+        path = ROOT / name
+        sum.update(repr((name, path.read_bytes() if path.is_file() else None)).encode())
+    return sum.hexdigest()
+
+
 def libraries() -> list[str]:
     """Returns the libraries that users get, lowest first: the first group of crates.txt."""
     return list(lines_of(LIST.read_text(encoding="utf-8").split("\n\n")[0]))

@@ -17,6 +17,8 @@ import tempfile
 from pathlib import Path
 from typing import Iterator
 
+from left_out import leave_out
+
 PATHS = 5000
 NAMES = [b"a", b"b", b"c", b"ab", b"abc", b"a.c", b"b.c", b".a", b"-", b"a b", b"x[y", b"a]", b"#a", b"!a", b"\xff", b"\xc3\xa9", b"a\\", b"A"]
 CLASSES = [b"[ab]", b"[!a]", b"[^b]", b"[a-c]", b"[c-a]", b"[]a]", b"[!]]", b"[[:alpha:]]", b"[[:punct:]x]", b"[[:foo:]]", b"[a", b"[\\]a]", b"[a/b]", b"[-a]", b"[a-]", b"[\\a-\\c]", b"[[:a]", b"[a-b-c]", b"[[:space:]]"]
@@ -110,6 +112,6 @@ def answer_file(seed: str, room: Path) -> Path:
 def has_git() -> bool:
     """Returns whether git is there, and says so where it isn't."""
     if not shutil.which("git"):
-        print("git: there is none here, so nothing was asked of it")
+        leave_out("ignore files", "git", "what it says of trees")
         return False
     return True

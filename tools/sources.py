@@ -6,6 +6,7 @@ within a trait or an `impl`.
 
 from __future__ import annotations
 
+import os
 import re
 from functools import cache
 from pathlib import Path
@@ -33,6 +34,11 @@ TYPE = re.compile(r"(?:pub )?(?:trait|struct|enum) (\w+)")
 ALIAS = re.compile(r"pub type (\w+)<.*> = (\w+)<")
 IMPL = re.compile(r"impl\b(.*?)(?: \{.*)?$")
 DERIVE = re.compile(r"#\[derive(?:_where)?\(([\w, ]+)")
+
+
+def processors() -> int:
+    """Returns how many processors a tool keeps busy: all, or as many as JOBS in the environment says."""
+    return int(os.environ.get("JOBS") or len(os.sched_getaffinity(0)))
 
 
 class Listed(NamedTuple):
