@@ -6,7 +6,7 @@ use Rattle.os_quote.specs.Escaped.{escape_of}
 use Rattle.os_args.specs.Word.{Kind, Long, LongBytes, Short, ShortBytes, Value}
 use Rattle.os_args.specs.Reading.{Fault, UnexpectedValue, MissingValue, UnexpectedArgument}
 
--- what is printed of a string: its escape on one line; the platform says the units of bytes
+-- how a string is printed: as its escape on one line; the platform defines the units of bytes
 abbrev pub shown : (List ℕ → List ℕ) → List ℕ → List ℕ
 shown units s = escape_of stays_on_line units s
 

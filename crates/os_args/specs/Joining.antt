@@ -1,4 +1,4 @@
--- The words of a command line, joined again from what was taken of them.
+-- The words of a command line, joined again from the parts that were taken.
 use Rattle.std.specs.Prelude.{◌≡◌, ℕ, ◌+◌, List, [], ◌∷◌, ◌++◌, length, Option, Some, None, Result, Ok, Err}
 use Rattle.std.specs.Char.{encode_utf8}
 use Rattle.std.specs.List.{flat_map}
@@ -88,13 +88,13 @@ kind_text (Short c) = encode_utf8 c
 kind_text (ShortBytes rest) = rest
 kind_text (Value value) = value
 
--- the value that an error tells of
+-- the value that an error reports
 abbrev pub fault_texts : Fault → List (List ℕ)
 fault_texts (UnexpectedValue last value) = value ∷ []
 fault_texts (MissingValue last) = []
 fault_texts (UnexpectedArgument kind) = []
 
--- the texts that a step hands over
+-- the texts that a step returns
 abbrev pub step_texts : Step → List (List ℕ)
 step_texts (Next (Ok (Some kind))) = kind_text kind ∷ []
 step_texts (Next (Ok None)) = []
@@ -106,7 +106,7 @@ step_texts (TookOptionalValue None) = []
 step_texts (TookRest (Ok words)) = words
 step_texts (TookRest (Err fault)) = fault_texts fault
 
--- what the steps handed over, in order and with its marks, joined again with what is left, is what was there
+-- the texts that the steps returned, in order and with their marks, joined with what is left, are what was there
 pub record IsJoinedAgain (before : Reading) (steps : List Step) (after : Reading) : Type 0 where
   pub pieces : List Piece
   pub joined : pieces_joined pieces (all_left after) ≡ all_left before

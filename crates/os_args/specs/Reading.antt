@@ -3,13 +3,13 @@ use Rattle.std.specs.Prelude.{◌≡◌, ◌≢◌, ℕ, ◌+◌, ◌⊎◌, Boo
 use Rattle.wtf8_core.specs.Occurrence.{IsPrefix}
 use Rattle.os_args.specs.Word.{Kind, Long, LongBytes, Short, ShortBytes, Value, dashes, equals, IsFlag, IsReadAs, IsValueOf}
 
--- why a step gives nothing: a value that nothing took after the last option, or none where one is wanted
+-- why a step fails: a value that wasn't taken after the last option, a missing value after it, or an unexpected word
 pub data Fault : Type 0 where
   UnexpectedValue : Option Kind → List ℕ → Fault
   MissingValue : Option Kind → Fault
   UnexpectedArgument : Kind → Fault
 
--- the words as they were given, how many of them were taken, what is left of the last one that was taken, whether `--` was taken, whether negative numbers are values, and the last option that was read
+-- how far the words are read. `given` is the words, and `index` the number of them that were taken. `pending` is what is left of the last word taken. `ended` is whether `--` was taken, and `numbers` whether negative numbers are values. `last` is the last option that was read.
 pub record Reading : Type 0 where
   pub given : List (List ℕ)
   pub index : ℕ
@@ -22,27 +22,27 @@ pub record Reading : Type 0 where
 abbrev pub words_left : Reading → List (List ℕ)
 words_left r = drop r.index r.given
 
--- the same, where negative numbers are values
+-- r, except that negative numbers are values
 abbrev pub with_numbers : Reading → Reading
 with_numbers r = record { given = r.given; index = r.index; pending = r.pending; ended = r.ended; numbers = true; last = r.last }
 
--- the same, where what was left of a word is taken
+-- r, except that what was left of a word is taken
 abbrev pub without_pending : Reading → Reading
 without_pending r = record { given = r.given; index = r.index; pending = []; ended = r.ended; numbers = r.numbers; last = r.last }
 
--- the same, where the next word is taken as it is
+-- r, except that the next word is taken as it is
 abbrev pub without_word : Reading → Reading
 without_word r = record { given = r.given; index = r.index + 1; pending = r.pending; ended = r.ended; numbers = r.numbers; last = r.last }
 
--- the same, where all words are taken
+-- r, except that all words are taken
 abbrev pub without_words : Reading → Reading
 without_words r = record { given = r.given; index = length r.given; pending = r.pending; ended = r.ended; numbers = r.numbers; last = r.last }
 
--- the same, where `--` is taken
+-- r, except that `--` is taken
 abbrev pub after_dashes : Reading → Reading
 after_dashes r = record { given = r.given; index = r.index + 1; pending = r.pending; ended = true; numbers = r.numbers; last = r.last }
 
--- the last option once this is read: it, or the one before where it is a value
+-- the last option after a word is read: the word, or the previous option if the word is a value
 abbrev pub last_option : Option Kind → Kind → Option Kind
 last_option before (Long name) = Some (Long name)
 last_option before (LongBytes name) = Some (LongBytes name)
@@ -50,7 +50,7 @@ last_option before (Short c) = Some (Short c)
 last_option before (ShortBytes rest) = Some (ShortBytes rest)
 last_option before (Value value) = before
 
--- the same, where so many words are taken, this is read and a rest is left of its word
+-- r, except that `index` words are taken, `kind` is read, and `rest` is left of its word
 abbrev pub having_read : Reading → ℕ → Kind → List ℕ → Reading
 having_read r index kind rest = record { given = r.given; index = index; pending = rest; ended = r.ended; numbers = r.numbers; last = last_option r.last kind }
 
@@ -64,12 +64,12 @@ pub record StartsWithDashes (r : Reading) : Type 0 where
 abbrev pub SkipsDashes : Reading → Reading → Type 0
 SkipsDashes before after = (StartsWithDashes before × (after ≡ after_dashes before)) ⊎ (¬ (StartsWithDashes before) × (after ≡ before))
 
--- how a word is read: after `--` as a value
+-- how a word is read; after `--` it is a value
 abbrev pub IsReadIn : Bool → Bool → List ℕ → Kind → List ℕ → Type 0
 IsReadIn true numbers s kind rest = (kind ≡ Value s) × (rest ≡ [])
 IsReadIn false numbers s kind rest = IsReadAs numbers s kind rest
 
--- a flag is taken of those that are left
+-- one of the flags that are left is taken
 pub record TakesFlag (before : Reading) (kind : Kind) (after : Reading) : Type 0 where
   pub some : before.pending ≢ []
   pub no_equals : ¬ (IsPrefix equals before.pending)
@@ -99,7 +99,7 @@ pub record TakesNone (before after : Reading) : Type 0 where
   pub skips : SkipsDashes before after
   pub none_left : words_left after ≡ []
 
--- a value is left that nothing took; it is dropped
+-- a value is left that wasn't taken; it is dropped
 pub record DropsValue (before : Reading) (fault : Fault) (after : Reading) : Type 0 where
   pub value : List ℕ
   pub pending : before.pending ≡ equals ++ value
@@ -112,7 +112,7 @@ TakesWord before (Ok (Some kind)) after = TakesFlag before kind after ⊎ TakesN
 TakesWord before (Ok None) after = TakesNone before after
 TakesWord before (Err fault) after = DropsValue before fault after
 
--- a value is asked for: what is left of the option's word, else the next word as it is
+-- the value is taken from what is left of the option's word
 pub record TakesPending (before : Reading) (value : List ℕ) (after : Reading) : Type 0 where
   pub some : before.pending ≢ []
   pub is_value : IsValueOf before.pending value
@@ -125,7 +125,7 @@ pub record LacksValue (before : Reading) (fault : Fault) (after : Reading) : Typ
   pub is_fault : fault ≡ MissingValue before.last
   pub same : after ≡ before
 
--- a step of `value`
+-- a step of `value`: it takes what is left of the option's word, else the next word as it is
 abbrev pub TakesValue : Reading → Result (List ℕ) Fault → Reading → Type 0
 TakesValue before (Ok value) after = TakesPending before value after ⊎ ((before.pending ≡ []) × TakesWhole before value after)
 TakesValue before (Err fault) after = LacksValue before fault after
@@ -135,7 +135,7 @@ abbrev pub TakesOptionalValue : Reading → Option (List ℕ) → Reading → Ty
 TakesOptionalValue before (Some value) after = TakesPending before value after
 TakesOptionalValue before None after = (before.pending ≡ []) × (after ≡ before)
 
--- what is left of a word is dropped, since no one took it as a value
+-- what is left of a word is dropped, since it wasn't taken as a value
 pub record DropsPending (before : Reading) (fault : Fault) (after : Reading) : Type 0 where
   pub some : before.pending ≢ []
   pub value : List ℕ

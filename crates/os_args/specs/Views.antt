@@ -1,4 +1,4 @@
--- What clauses see of the words of a command line, and of what a step gives.
+-- The view that clauses have of the words of a command line, and of the result of a step.
 use Rattle.std.specs.Prelude.{map, Result, Ok, Err}
 use Rattle.std.specs.Option.{option_map}
 use Rattle.platform_str.specs.declared.platform.Platform.{Ghosts}
@@ -17,11 +17,11 @@ module _ {E : Type 0} {P : Ghosts E} where
   fault_of (error.MissingValue last) = MissingValue (option_map kind_of last)
   fault_of (error.UnexpectedArgument word) = UnexpectedArgument (kind_of word)
 
-  -- what a step gives, by what its success gives
+  -- the outcome of a step, where `of` maps the value of its success
   abbrev pub outcome_of : {A B : Type 0} → (A → B) → Result A (ArgumentError (OsStr E P)) → Result B Fault
   outcome_of of (Ok given) = Ok (of given)
   outcome_of of (Err error) = Err (fault_of error)
 
-  -- how far the words are taken
+  -- how far the words are read
   abbrev pub reading : Arguments E P → Reading
   reading a = record { given = map bytes a.words.now; index = a.index; pending = bytes a.pending; ended = a.ended; numbers = a.numbers; last = option_map kind_of a.last }

@@ -52,7 +52,7 @@ pub record IsName (s name rest : List ℕ) : Type 0 where
   pub no_equals : OccursNowhere equals name
   pub end : (rest ≡ []) ⊎ IsPrefix equals rest
 
--- of s, what follows `--`, this name is read, and a rest is left
+-- s is what follows `--`: this name is read from it, and a rest is left
 abbrev pub IsNamed : List ℕ → Kind → List ℕ → Type 0
 IsNamed s (Long name) rest = IsUtf8 name × IsName s name rest
 IsNamed s (LongBytes name) rest = ¬ (IsUtf8 name) × IsName s name rest
@@ -60,7 +60,7 @@ IsNamed s (Short c) rest = ⊥
 IsNamed s (ShortBytes all) rest = ⊥
 IsNamed s (Value value) rest = ⊥
 
--- of s, what is left of flags, the first character is taken, and a rest is left; where no character is first, all is taken
+-- s is what is left of flags: its first character is taken, and a rest is left. If s doesn't start with a character, all of it is taken.
 abbrev pub IsFlag : List ℕ → Kind → List ℕ → Type 0
 IsFlag s (Long name) rest = ⊥
 IsFlag s (LongBytes name) rest = ⊥
@@ -90,10 +90,10 @@ pub record IsOperand (numbers : Bool) (s : List ℕ) (kind : Kind) (rest : List 
   pub whole : rest ≡ []
   pub operand : (s ≡ dash) ⊎ (¬ (IsPrefix dash s) ⊎ (IsTrue numbers × StartsAsNegative s))
 
--- of the word s, before any `--`, this is read, and a rest of the word is left
+-- s is a word before any `--`: this is read from it, and a rest of the word is left
 abbrev pub IsReadAs : Bool → List ℕ → Kind → List ℕ → Type 0
 IsReadAs numbers s kind rest = IsLongOption s kind rest ⊎ (IsShortOption numbers s kind rest ⊎ IsOperand numbers s kind rest)
 
--- of s, what is left of an option's word, this is the value: what follows `=`, or all where it doesn't start with one
+-- s is what is left of an option's word: its value is the part after a leading `=`, or all of s if it doesn't start with one
 abbrev pub IsValueOf : List ℕ → List ℕ → Type 0
 IsValueOf s value = (s ≡ equals ++ value) ⊎ (¬ (IsPrefix equals s) × (value ≡ s))

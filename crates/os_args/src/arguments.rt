@@ -1,4 +1,4 @@
-//! The words of a command line, taken step by step.
+//! The arguments of a command line, read step by step.
 ghost use Rattle.std.specs.Prelude.{◌≡◌, ◌≢◌, [], None, Ok, map, false};
 ghost use Rattle.std.specs.Option.{option_map};
 ghost use Rattle.platform_str.specs.Strings.{bytes};
@@ -12,10 +12,10 @@ use crate::word::{Word, read_flag, read_word, value_of};
 use crate::words::{all_after, first_after, is_dashes};
 use os_str_ext::{OsStr, OsStrBytesExt, Platform};
 
-/// The words of a command line, taken step by step (lexopt's `Parser`).
+/// A reader of the arguments of a command line, step by step (lexopt's `Parser`).
 ///
-/// [`Arguments::next`] gives options and operands; after an option, [`Arguments::value`] or
-/// [`Arguments::optional_value`] takes its value. Names are compared by `match`:
+/// [`Arguments::next`] returns options and operands. After an option, [`Arguments::value`] or
+/// [`Arguments::optional_value`] returns its value. A program compares names by `match`:
 ///
 /// ```
 /// use os_args::{Arguments, Word};
@@ -35,7 +35,7 @@ use os_str_ext::{OsStr, OsStrBytesExt, Platform};
 /// assert!(rt; output == Some(OsStr::new("a")) && verbose && file == Some(OsStr::new("b")));
 /// ```
 ///
-/// No call takes memory.
+/// No call allocates.
 #[derive(Drop)]
 pub struct Arguments<'s, 'a, E: Platform + 'a> {
     words: &'s [OsStr<'a, E>],
@@ -49,9 +49,10 @@ pub struct Arguments<'s, 'a, E: Platform + 'a> {
 }
 
 impl<'s, 'a, E: Platform> Arguments<'s, 'a, E> {
-    /// The words of a command line, without the program's name (lexopt's `Parser::from_args`).
+    /// Makes a reader of the words of a command line, without the program's name (lexopt's
+    /// `Parser::from_args`).
     ///
-    /// Of the words `-v` and `file` the first that [`Arguments::next`] gives is `Word::Short('v')`.
+    /// For the words `-v` and `file`, [`Arguments::next`] first returns `Word::Short('v')`.
     ///
     /// ```
     /// use os_args::{Arguments, Word};
@@ -82,10 +83,10 @@ impl<'s, 'a, E: Platform> Arguments<'s, 'a, E> {
         }
     }
 
-    /// The same words, where each that starts with `-` and a digit, or with `-.` and a digit, is a
-    /// value (clap's `allow_negative_numbers`).
+    /// Reads each word that starts with `-` and a digit, or with `-.` and a digit, as a value
+    /// (clap's `allow_negative_numbers`).
     ///
-    /// Then `-5` and `-.5` are values; else they are the flags `5`, and `.` and `5`.
+    /// Then `-5` and `-.5` are values. Otherwise they are the flags `5`, and `.` and `5`.
     ///
     /// ```
     /// use os_args::{Arguments, Word};
@@ -104,20 +105,23 @@ impl<'s, 'a, E: Platform> Arguments<'s, 'a, E> {
         self
     }
 
-    /// Takes one option or operand, and `None` once there are no more (lexopt's `Parser::next`).
+    /// Returns the next option or operand, or `None` once there are no more (lexopt's
+    /// `Parser::next`).
     ///
-    /// `--name` and `--name=value` give [`Word::Long`]; the name ends at the first `=`. `-abc` gives
-    /// the flags `a`, `b` and `c`, one at a time: whole characters, and where no character is first,
-    /// all that is left of the word as [`Word::ShortBytes`]. The word `--` is skipped, and each word
-    /// after it is a [`Word::Value`]. So is `-`, the empty word, and one that starts with no dash.
+    /// `--name` and `--name=value` are read as [`Word::Long`]. The name ends at the first `=`.
+    /// `-abc` is read as the flags `a`, `b` and `c`, one at a time. Each flag is a whole character.
+    /// Where the rest of the word doesn't start with one, all of it is a [`Word::ShortBytes`].
+    ///
+    /// The word `--` is skipped, and each word after it is a [`Word::Value`]. So is `-`, the empty
+    /// word, and a word that doesn't start with a dash.
     ///
     /// # Errors
     ///
-    /// [`ArgumentError::UnexpectedValue`] where `=value` is left of an option's word, since nothing
-    /// took it. The value is dropped: the next call goes on after it.
+    /// [`ArgumentError::UnexpectedValue`] if `=value` is left of an option's word, because the
+    /// program didn't take it. The value is dropped, and the next call continues after it.
     ///
-    /// Of the words `-v=1` and `a` the calls give `Word::Short('v')`, that error with the value `1`,
-    /// and `Word::Value` of `a`.
+    /// For the words `-v=1` and `a`, the calls return `Word::Short('v')`, that error with the value
+    /// `1`, and `Word::Value` of `a`.
     ///
     /// ```
     /// use os_args::{Arguments, Word};
@@ -149,7 +153,7 @@ impl<'s, 'a, E: Platform> Arguments<'s, 'a, E> {
         Ok(Some(flag))
     }
 
-    /// Takes what the next word begins with, where nothing is left of the last one.
+    /// Reads the start of the next word, where nothing is left of the last one.
     fn next_word(&mut self) -> Option<Word<'a, OsStr<'a, E>>>
         requires { bytes self.old.pending ≡ [] }
         ensures { TakesWord (reading self.old) (Ok (option_map kind_of result)) (reading self.new) }
@@ -179,17 +183,17 @@ impl<'s, 'a, E: Platform> Arguments<'s, 'a, E> {
         }
     }
 
-    /// Takes the value of the option that was read last: the rest of its word without the `=` it
-    /// starts with, or else the whole next word, whatever that is (lexopt's `Parser::value`). It is
-    /// handed over byte for byte.
+    /// Takes the value of the option that was read last (lexopt's `Parser::value`). The value is
+    /// the rest of the option's word, without a leading `=`. If nothing is left of that word, the
+    /// value is the whole next word, whatever it is. It is returned byte for byte.
     ///
-    /// Of `--name=value`, of `--name` and `value`, of `-nvalue`, of `-n=value`, and of `-n` and
-    /// `value`, after the option was read, it is `value`.
+    /// After the option is read, the value is `value` for each of `--name=value`, `--name` and
+    /// `value`, `-nvalue`, `-n=value`, and `-n` and `value`.
     ///
     /// # Errors
     ///
-    /// [`ArgumentError::MissingValue`] where no word is left. It names the last option that was
-    /// read, whatever operands came after it, and none where there was none, as lexopt's does.
+    /// [`ArgumentError::MissingValue`] if no word is left. It names the last option that was read,
+    /// whatever operands came after it. If no option was read, it names none, as in lexopt.
     ///
     /// ```
     /// use os_args::{Arguments, Word};
@@ -215,11 +219,11 @@ impl<'s, 'a, E: Platform> Arguments<'s, 'a, E> {
         Ok(word)
     }
 
-    /// Takes the value of the option that was read last where it is in the option's own word, else
-    /// `None` (lexopt's `Parser::optional_value`).
+    /// Takes the value of the option that was read last, if it is in the option's own word.
+    /// Otherwise it returns `None` (lexopt's `Parser::optional_value`).
     ///
-    /// Of `--name=value`, `-nvalue` and `-n=value` it is `value`; of `--name` and `value` it is
-    /// `None`, and the next word stays.
+    /// For `--name=value`, `-nvalue` and `-n=value` it returns `value`. For `--name` and `value` it
+    /// returns `None`, and the next word stays.
     ///
     /// ```
     /// use os_args::{Arguments, Word};
@@ -242,15 +246,14 @@ impl<'s, 'a, E: Platform> Arguments<'s, 'a, E> {
         Some(value)
     }
 
-    /// Takes all words that are left as they are, a `--` among them too (lexopt's
-    /// `Parser::raw_args`).
+    /// Takes all remaining words as they are, including a `--` (lexopt's `Parser::raw_args`).
     ///
-    /// After the flag of `-a`, of the words `-a`, `--` and `b`, they are `--` and `b`.
+    /// For the words `-a`, `--` and `b`, after the flag `a` is read, they are `--` and `b`.
     ///
     /// # Errors
     ///
-    /// [`ArgumentError::UnexpectedValue`] where a rest of the last word is left, since nothing took
-    /// it. The rest is dropped: the next call gives the words.
+    /// [`ArgumentError::UnexpectedValue`] if a rest of the last word is left, because the program
+    /// didn't take it. The rest is dropped, and the next call returns the words.
     ///
     /// ```
     /// use os_args::{Arguments, Word};
@@ -275,7 +278,7 @@ impl<'s, 'a, E: Platform> Arguments<'s, 'a, E> {
     }
 }
 
-/// The last option once a word was read: the word, or the option before where the word is a value.
+/// The last option after a word is read: the word, or the previous option if the word is a value.
 #[inline(always)]
 fn last_option<'a, E: Platform>(
     before: Option<Word<'a, OsStr<'a, E>>>,
@@ -290,7 +293,7 @@ fn last_option<'a, E: Platform>(
     }
 }
 
-/// Reads a word, after `--` as a value.
+/// Reads a word, as a value if it comes after `--`.
 fn read_in<'a, E: Platform>(
     ended: bool,
     numbers: bool,

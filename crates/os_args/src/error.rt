@@ -1,4 +1,4 @@
-//! Why the words of a command line are refused.
+//! Errors in the arguments of a command line.
 ghost use Rattle.std.specs.Prelude.{◌≡◌, Some};
 ghost use Rattle.std.specs.Option.{option_map};
 ghost use Rattle.std.specs.Fmt.{WritesStyledOnOk};
@@ -12,12 +12,13 @@ use os_str_ext::{OsStr, Platform};
 use std::error::Error;
 use std::fmt;
 
-/// Why the words of a command line are refused, of strings `S`.
+/// An error in the arguments of a command line, which are strings of the type `S`.
 ///
-/// Its text is for a person: that of `MissingValue(Some(Word::Long("output")))` is `missing value
-/// after '--output'`. It is one line, whatever the words hold: they are printed as
-/// [`escaped_line`](os_quote::escaped_line) does. It has no width: `{:>99}` writes what `{}` does, and
-/// so does `{:?}`, which a `main` prints of the error that it returns (as lexopt's).
+/// It prints as a message for a person: `MissingValue(Some(Word::Long("output")))` prints as
+/// `missing value after '--output'`. The message is one line, whatever the words contain, since
+/// each is printed as [`escaped_line`](os_quote::escaped_line) prints it. Width is ignored:
+/// `{:>99}` writes what `{}` does. `{:?}` also writes the message, because a `main` that returns
+/// the error prints it so (as lexopt's).
 ///
 /// ```
 /// use os_args::{ArgumentError, Word};
@@ -30,21 +31,22 @@ use std::fmt;
 /// ```
 #[derive(Clone, Copy, PartialEq, Eq)]
 pub enum ArgumentError<'a, S> {
-    /// A value that nothing took, after this option: `--name=value` where the option takes none.
+    /// A value that the program didn't take, after this option: `--name=value` where the option
+    /// takes none.
     UnexpectedValue(Option<Word<'a, S>>, S),
-    /// No value where one was asked for; the last option that was read, whatever operands came
-    /// after it, or `None` where no option was read.
+    /// No value where one was required. It holds the last option that was read, whatever operands
+    /// came after it, or `None` if no option was read.
     MissingValue(Option<Word<'a, S>>),
-    /// An option that isn't known, or an operand too many: [`Word::unexpected`] makes it.
+    /// An unknown option, or one operand too many. [`Word::unexpected`] makes it.
     UnexpectedArgument(Word<'a, S>),
 }
 
 impl<'a, S> Word<'a, S> {
     ghost use Rattle.os_args.specs.declared.error.ArgumentError.TheVariants.{UnexpectedArgument};
 
-    /// The error that says that this word isn't known (lexopt's `Arg::unexpected`).
+    /// Makes the error for an unexpected word (lexopt's `Arg::unexpected`).
     ///
-    /// That of `Word::Short('x')` prints as `unexpected argument '-x'`.
+    /// For `Word::Short('x')` it prints as `unexpected argument '-x'`.
     ///
     /// ```
     /// use os_args::Word;
@@ -96,7 +98,7 @@ impl<'a, E: Platform> fmt::Debug for ArgumentError<'a, OsStr<'a, E>> {
 
 impl<'a, E: Platform> Error for ArgumentError<'a, OsStr<'a, E>> {}
 
-/// Writes after which option a fault is.
+/// Writes the option after which the error occurs.
 fn write_after<'a, E: Platform, W: fmt::Write>(
     last: Option<Word<'a, OsStr<'a, E>>>,
     f: &mut fmt::Formatter<W>,

@@ -1,4 +1,4 @@
-//! What holds of words and of the steps that take them: each law is the contract of a function that
+//! The laws of words and of the steps that take them. Each law is the contract of a function that
 //! does nothing.
 ghost use Rattle.std.specs.Prelude.{◌≡◌, ◌<◌, ◌≤◌, ℕ, Bool, List, Option, Result, Some, Ok};
 ghost use Rattle.os_quote.specs.Escape.{IsLineEscape};
@@ -16,8 +16,8 @@ pub fn one_reading()
         → (kind ≡ other) × (rest ≡ left) }
 {}
 
-/// A step gives one outcome, and leaves the words in one way: whatever its definition admits is what
-/// the call gives.
+/// A step has one outcome, and leaves the words in one state. Whatever its definition admits is
+/// what the call returns.
 pub fn one_outcome()
     ensures next { (before : Reading) → (one : Result (Option Kind) Fault)
         → (other : Result (Option Kind) Fault) → (after : Reading) → (left : Reading)
@@ -37,20 +37,20 @@ pub fn one_outcome()
         → (one ≡ other) × (after ≡ left) }
 {}
 
-/// The words that were given are what the steps handed over, in order, each text with what comes
-/// before it in its word (`-`, `--`, `=` or nothing), and what is left. So nothing is lost, and
-/// nothing is handed over twice.
+/// The texts that the steps returned, joined in order with what is left, are the words that were
+/// given. Each text is joined with the mark before it in its word (`-`, `--`, `=` or nothing). So
+/// nothing is lost, and nothing is returned twice.
 pub fn nothing_lost()
     ensures { (before : Reading) → (steps : List Step) → (after : Reading)
         → AreSteps before steps after → IsJoinedAgain before steps after }
 {}
 
-/// What an error prints of a string is its one escape on one line (`os_quote::escape_line`).
+/// An error prints a string as its one escape on one line (`os_quote::escape_line`).
 pub fn errors<E: Platform>()
     ensures { (s : List ℕ) → IsLineEscape E.units s (shown E.units s) }
 {}
 
-/// Each option or operand leaves less, and no step leaves more: a loop over
+/// Each option or operand leaves less, and no step leaves more. So a loop over
 /// [`Arguments::next`](crate::Arguments::next) ends.
 pub fn steps_end()
     ensures next { (before : Reading) → (kind : Kind) → (after : Reading)

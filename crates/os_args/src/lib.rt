@@ -1,11 +1,12 @@
 //! An argument reader for strings of any platform.
 //!
-//! [`Arguments`] goes over the words of a command line, which need not be texts, in the manner of
-//! the Rust crate `lexopt`: [`Arguments::next`] gives one option or operand at a time, and the
-//! program asks for the value of an option where it takes one. Nothing takes memory.
+//! [`Arguments`] reads the arguments of a command line, which need not be valid Unicode, in the
+//! manner of the Rust crate `lexopt`. [`Arguments::next`] returns one option or operand at a time.
+//! Where an option takes a value, the program calls [`Arguments::value`]. No call allocates.
 //!
-//! What is not in lexopt: a flag that is no character hands over the rest of its word, and not
-//! U+FFFD for each byte. There is no list of values of one option (`Parser::values`).
+//! A flag that isn't a character is returned with the rest of its word, where lexopt returns U+FFFD
+//! for each byte. Unlike lexopt, this crate has no list of the values of one option
+//! (`Parser::values`).
 #![tactic(auto)]
 
 mod arguments;

@@ -31,7 +31,7 @@ fn write_flag<E: Platform, W: fmt::Write>(flag: char, f: &mut fmt::Formatter<W>)
     write_string(OsStr::<E>::new(flag.encode_utf8(&mut buffer)), f)
 }
 
-/// Writes a string with what comes before it and after it.
+/// Writes a string between a prefix and a suffix.
 fn write_between<'a, E: Platform, W: fmt::Write>(
     before: &str,
     string: OsStr<'a, E>,

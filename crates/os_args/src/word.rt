@@ -1,4 +1,4 @@
-//! What is read of the words of a command line.
+//! The options and operands of a command line.
 ghost use Rattle.std.specs.Prelude.{◌≡◌, ◌≢◌, ◌↔◌, [], IsTrue};
 ghost use Rattle.platform_str.specs.Strings.{bytes};
 ghost use Rattle.os_args.specs.Word.{dashes, IsName, IsNamed, IsFlag, IsReadAs, IsValueOf};
@@ -7,10 +7,10 @@ ghost use Rattle.os_args.specs.Kinds.{kind_of};
 use crate::number::starts_as_negative;
 use os_str_ext::{OsStr, OsStrBytesExt, Platform, search_laws};
 
-/// What one step reads of the words of a command line, of strings `S` (lexopt's `Arg`).
+/// What one step reads: an option or operand of a command line of strings `S` (lexopt's `Arg`).
 ///
-/// [`Arguments::next`](crate::Arguments::next) gives `Word<'a, OsStr<'a, E>>`. The word is generic in
-/// the strings, as a user's own enum over strings of any platform is.
+/// [`Arguments::next`](crate::Arguments::next) reads a `Word<'a, OsStr<'a, E>>`. The type is
+/// generic over the strings, as a user's own enum over strings of any platform is.
 ///
 /// ```
 /// use os_args::{Arguments, Word};
@@ -22,19 +22,19 @@ use os_str_ext::{OsStr, OsStrBytesExt, Platform, search_laws};
 /// ```
 #[derive(Clone, Copy, PartialEq, Eq)]
 pub enum Word<'a, S> {
-    /// The name of `--name` and of `--name=value`.
+    /// The name in `--name` or `--name=value`.
     Long(&'a str),
-    /// The same where the name is no text.
+    /// The name in `--name` or `--name=value` where it isn't valid UTF-8.
     LongBytes(S),
     /// A flag: one character of `-abc`.
     Short(char),
-    /// What is left of `-abc` where no character is first: all of it.
+    /// All that is left of `-abc` where that doesn't start with a whole character.
     ShortBytes(S),
-    /// Any other word, `-` and the empty one too, and each word after `--`.
+    /// Any other word, including `-` and the empty word, and each word after `--`.
     Value(S),
 }
 
-/// Reads a word before any `--`, which it isn't, and returns the rest of the word.
+/// Reads a word that comes before any `--` and isn't `--`, and returns the rest of the word.
 #[tactic(auto, using(crate::proofs::lemmas::Readings::kinds))]
 pub(crate) fn read_word<'a, E: Platform>(
     numbers: bool,
@@ -58,7 +58,7 @@ pub(crate) fn read_word<'a, E: Platform>(
     read_flag(flags)
 }
 
-/// Reads what follows `--`, and returns the rest of it.
+/// Reads the name that follows `--`, and returns the rest of the word.
 fn read_long<'a, E: Platform>(long: OsStr<'a, E>) -> (Word<'a, OsStr<'a, E>>, OsStr<'a, E>)
     ensures { IsNamed (bytes long.entry) (kind_of result.0) (bytes result.1) }
 {
@@ -80,7 +80,7 @@ fn split_name<'a, E: Platform>(long: OsStr<'a, E>) -> (OsStr<'a, E>, OsStr<'a, E
     }
 }
 
-/// Reads one of the flags that are left, of which there are some, and returns the rest of them.
+/// Reads the first of the flags that are left, and returns the rest. `flags` isn't empty.
 #[inline(always)]
 pub(crate) fn read_flag<'a, E: Platform>(
     flags: OsStr<'a, E>,
@@ -94,7 +94,7 @@ pub(crate) fn read_flag<'a, E: Platform>(
     (Word::ShortBytes(flags), OsStr::new(""))
 }
 
-/// The value that is left of an option's word: what follows its `=`, or all of it.
+/// The value in the rest of an option's word: the part after a leading `=`, or all of it.
 pub(crate) fn value_of<'a, E: Platform>(rest: OsStr<'a, E>) -> OsStr<'a, E>
     ensures { IsValueOf (bytes rest.entry) (bytes result) }
 {

@@ -1,11 +1,11 @@
-//! The words that are left of a list of them.
+//! The words of a list from an index on.
 ghost use Rattle.std.specs.Prelude.{◌≡◌, ◌+◌, ◌<◌, ◌∷◌, ◌↔◌, [], map, drop, length, IfSome, IsTrue, MatchOption};
 ghost use Rattle.platform_str.specs.Strings.{bytes};
 ghost use Rattle.os_args.specs.Word.{dashes};
 
 use os_str_ext::{OsStr, Platform};
 
-/// The first word after so many others.
+/// The word at `index`, or `None` if there are at most `index` words.
 pub(crate) fn first_after<'a, E: Platform>(
     words: &[OsStr<'a, E>],
     index: usize,
@@ -22,7 +22,7 @@ pub(crate) fn first_after<'a, E: Platform>(
     }
 }
 
-/// All words after so many others.
+/// The words from `index` on.
 pub(crate) fn all_after<'s, 'a, E: Platform>(
     words: &'s [OsStr<'a, E>],
     index: usize,

@@ -4,7 +4,7 @@ use Rattle.std.proofs.Common.{refl, sym, ◌∙◌, ap, append_assoc}
 use Rattle.std.proofs.lemmas.List.{append_cancel_left}
 use Rattle.os_quote.specs.{Sinks.SinkRules, Stripping.StartsNot, declared.read_string.Comparison.Comparison}
 
--- what it took was at the start of the rest of the text; it refuses what isn't
+-- what it took was at the start of the rest of the text; it refuses anything else
 abbrev pub comparison_rules : SinkRules Comparison
 comparison_rules = record {
   took = λ c text d. c.rest.now ≡ text ++ d.rest.now;

@@ -1,4 +1,4 @@
--- The escape of a string, and which texts are no escapes (this project's own format).
+-- The escape of a string, and the faults of texts that aren't escapes (this project's own format).
 use Rattle.std.specs.Prelude.{◌≡◌, ◌≢◌, ℕ, Bool, List, ◌∷◌, ◌++◌, map, length}
 use Rattle.std.specs.{List.flat_map, List.AllByRecursion, Str.chars}
 use Rattle.wtf8_core.specs.Chunks.{Chunk, AreChunks}
@@ -12,7 +12,7 @@ chunk_items shows units c = map unit_item (units c.0) ++ map (character_item sho
 abbrev pub items_of : (ℕ → Bool) → (List ℕ → List ℕ) → List Chunk → List Item
 items_of shows units chunks = flat_map (chunk_items shows units) chunks
 
--- text is the escape of the string s in the form that shows these characters unchanged; the platform says the units of bytes
+-- text is the escape of the string s in the form that shows these characters unchanged; the platform defines the units of bytes
 pub record IsEscapeBy (shows : ℕ → Bool) (units : List ℕ → List ℕ) (s text : List ℕ) : Type 0 where
   pub chunks : List Chunk
   pub are_chunks : AreChunks s chunks
@@ -41,21 +41,21 @@ pub record IsBadEscapeBy (shows : ℕ → Bool) (text : List ℕ) (n : ℕ) : Ty
   pub index : n ≡ length (item_texts items)
   pub bad : BeginsNoToken shows rest
 
--- the same in each form
+-- where a backslash begins no token, in each form
 abbrev pub IsBadEscape : List ℕ → ℕ → Type 0
 IsBadEscape = IsBadEscapeBy is_any
 
 abbrev pub IsBadLineEscape : List ℕ → ℕ → Type 0
 IsBadLineEscape = IsBadEscapeBy stays_on_line
 
--- why text isn't the escape of a string of the platform: a backslash in it begins no token, or else no string has this escape; or memory was refused
+-- why text isn't the escape of a string of the platform: a backslash in it begins no token, or else it isn't the escape of any string; or an allocation failed
 abbrev pub IsQuoteFaultBy : (ℕ → Bool) → (List ℕ → Type 0) → (List ℕ → List ℕ) → List ℕ → QuoteError → Type 0
 IsQuoteFaultBy shows well_formed units text (BadEscape n) = IsBadEscapeBy shows text n
 IsQuoteFaultBy shows well_formed units text NotCanonical =
     ((s : List ℕ) → well_formed s → ¬ (IsEscapeBy shows units s text)) × ((n : ℕ) → ¬ (IsBadEscapeBy shows text n))
 IsQuoteFaultBy shows well_formed units text Memory = Unit {0}
 
--- the same in each form
+-- why text isn't the escape of a string of the platform, in each form
 abbrev pub IsQuoteFault : (List ℕ → Type 0) → (List ℕ → List ℕ) → List ℕ → QuoteError → Type 0
 IsQuoteFault = IsQuoteFaultBy is_any
 

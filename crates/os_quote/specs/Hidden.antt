@@ -1,4 +1,4 @@
--- What of a text is unchanged in its escape, found by its bytes. Only private contracts name these; `IsEscapeBy` says what an escape is.
+-- The part of a text that is unchanged in its escape, found by its bytes. Only private contracts name these; `IsEscapeBy` says what an escape is.
 use Rattle.std.specs.Prelude.{◌≡◌, ◌≢◌, ℕ, ◌+◌, ◌/◌, ◌≤◌, ◌<◌, nat_eq, not, Bool, true, false, List, ◌++◌, length, slice_index, bit_and, bit_or}
 use Rattle.std.specs.{List.AllByRecursion, Char.encode_utf8, Str.IsUtf8, Str.chars}
 use Rattle.os_quote.specs.{Item.backslash, declared.find_tables.TheConstants.FIRST_HIGH, declared.find_tables.TheConstants.FIRST_LOW, declared.find_tables.TheConstants.SECOND_HIGH, declared.find_tables.TheConstants.SECOND_LOW, declared.find_tables.TheConstants.THIRD_HIGH, declared.find_tables.TheConstants.THIRD_LOW, declared.find_tables.TheConstants.OTHER_HIGH, declared.find_tables.TheConstants.OTHER_LOW}

@@ -2,7 +2,7 @@
 use Rattle.std.specs.Prelude.{ℕ, ◌||◌, Bool, false, List, [], ◌∷◌}
 use Rattle.std.specs.Int.{is_in_range}
 
--- the first and the last of each range, in order, by Unicode 18.0: the characters of the general categories Cc (controls), Cf (format characters), Zl and Zp (line and paragraph separators), and Zs (blanks) but the space U+0020; the code points of the property Default_Ignorable_Code_Point; and U+2800, the braille pattern without dots, which is a symbol and shown as a blank (its code chart)
+-- the first and the last of each range, in order, by Unicode 18.0. They are the characters of the general categories Cc (controls), Cf (format characters), Zl and Zp (line and paragraph separators), and Zs (blanks) but the space U+0020. Next are the code points of the property Default_Ignorable_Code_Point. The last is U+2800, the braille pattern without dots, which is a symbol and shown as a blank (its code chart)
 abbrev pub hidden_ranges : List (ℕ × ℕ)
 hidden_ranges =
     (0x00, 0x1F)

@@ -47,7 +47,7 @@ item_texts items = flat_map item_text items
 abbrev pub IsLong : ℕ → Type 0
 IsLong c = (0x1_0000 ≤ c) × (c < 0x11_0000)
 
--- `shows` says which characters a form of the escape shows unchanged: the form has long tokens if it hides some character past FFFF
+-- `shows` gives the characters that a form of the escape shows unchanged: the form has long tokens if it hides some character past FFFF
 pub record HasLongTokens (shows : ℕ → Bool) : Type 0 where
   pub character : ℕ
   pub past : 0x1_0000 ≤ character

@@ -37,7 +37,7 @@ pub record IsRead (shows : ℕ → Bool) (text bytes rest : List ℕ) : Type 0 w
   pub bytes_are : bytes ≡ flat_map item_bytes items
   pub text_left : IsUtf8 rest
 
--- the same of bytes that may not be a text: if they are one, they are read
+-- bytes that may be invalid UTF-8: if they are valid, they are read
 pub record AreBytesRead (shows : ℕ → Bool) (bytes decoded rest : List ℕ) : Type 0 where
   pub short : length decoded + length rest ≤ length bytes
   pub read : IsUtf8 bytes → IsRead shows bytes decoded rest
@@ -62,7 +62,7 @@ HasNoClosed front bytes = (u : ℕ) → u < 0x1_0000 → (after : List ℕ) → 
 abbrev pub IsClosed : List ℕ → ℕ → List ℕ → ℕ → List ℕ → Type 0
 IsClosed front high bytes c rest = (c / 0x1_0000 ≡ high) × (bytes ≡ front ++ (wide_digits (c % 0x1_0000) ++ 0x7D ∷ rest))
 
--- the bytes don't begin with five digits, the first of which isn't 0, and a closing brace
+-- the bytes don't begin with five digits and a closing brace, where the first digit isn't 0
 abbrev pub HasNoFive : List ℕ → Type 0
 HasNoFive bytes = (h : ℕ) → 0 < h → h < 16 → (u : ℕ) → u < 0x1_0000 → (after : List ℕ) → bytes ≢ upper_hex_digit h ∷ (wide_digits u ++ 0x7D ∷ after)
 

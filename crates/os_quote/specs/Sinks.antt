@@ -1,7 +1,7 @@
 -- What takes an escape, piece by piece. Only private contracts name these.
 use Rattle.std.specs.Prelude.{◌≡◌, ℕ, List, [], ◌++◌, Result, MatchResult}
 
--- a sink by its states: which bytes it took from one to another, for which it has room, and with which begins no text that it takes
+-- a sink by its states: the bytes it took from one state to another, the bytes it has room for, and the bytes it refuses, since it takes nothing that begins with them
 pub record SinkRules (S : Type 0) : Type 1 where
   pub took : S → List ℕ → S → Type 0
   pub has_room : S → List ℕ → Type 0

@@ -1,9 +1,9 @@
--- What a string begins with. Only private contracts name these.
+-- The start of a string. Only private contracts name these.
 use Rattle.std.specs.Prelude.{◌≡◌, ℕ, ◌+◌, ◌<◌, ◌≤◌, nat_lt, Bool, if◌then◌else◌, List, ◌++◌, length, take}
 use Rattle.std.specs.Str.{IsUtf8}
 use Rattle.os_quote.specs.{Item.Item, Item.ByteUnit, Item.character_item, Escaped.escape_of}
 
--- a byte that is written by itself: a character of ASCII, or a unit
+-- a byte that is written alone: a character of ASCII, or a unit
 abbrev pub byte_item : (ℕ → Bool) → ℕ → Item
 byte_item shows b = if nat_lt b 0x80 then character_item shows b else ByteUnit b
 

@@ -1,4 +1,4 @@
-//! Why a text isn't an escape.
+//! The error of reading an escape.
 ghost use Rattle.std.specs.{Prelude.◌≡◌, Prelude.Some, Prelude.decimal, Fmt.WritesStyledOnOk};
 
 use std::alloc::AllocError;
@@ -6,9 +6,10 @@ use std::error::Error;
 use std::fmt;
 use std::fmt::{InlineText, Write as _};
 
-/// Why [`unescape`](crate::unescape) or [`unescape_line`](crate::unescape_line) returns no string.
+/// The error that [`unescape`](crate::unescape) and [`unescape_line`](crate::unescape_line) return.
 ///
-/// Its text says it to a person. It has no width: `{:>99}` writes what `{}` does.
+/// Its `Display` text is a message for people. Width and fill are ignored: `{:>99}` writes what
+/// `{}` writes.
 ///
 /// ```
 /// use os_quote::QuoteError;
@@ -27,16 +28,16 @@ pub enum QuoteError {
     /// `a\q` is `BadEscape(1)`; `\xff` is `BadEscape(0)`, since a digit is `0` to `9` or `A`
     /// to `F`.
     BadEscape(usize),
-    /// Each backslash is in a token, but no string of the platform has this escape.
+    /// Each backslash is in a token, but the text isn't the escape of any string of the platform.
     ///
-    /// An example on Unix is `\x41`, since the escape of that string is `A`. In the form for one
-    /// line a newline is another, since its escape there is `\u000A`.
+    /// On Unix an example is `\x41`, since the escape of that string is `A`. In the form for one
+    /// line another is a newline, since its escape there is `\u000A`.
     NotCanonical,
     /// An allocation failed.
     Memory,
 }
 
-/// How long the string is that an escape means, or why no string has this escape.
+/// The length of the string that an escape means, or the error.
 pub(crate) type Unescaped = Result<usize, QuoteError>;
 
 impl fmt::Display for QuoteError {
@@ -60,7 +61,7 @@ impl fmt::Display for QuoteError {
 
 impl Error for QuoteError {}
 
-/// Writes the decimal digits of a number, whatever width is asked for.
+/// Writes the decimal digits of a number, and ignores the formatter's width.
 fn write_number<W: fmt::Write>(number: usize, f: &mut fmt::Formatter<W>) -> fmt::Result
     ensures { WritesStyledOnOk W.write_str_gives f.old result (decimal number) f.new }
 {

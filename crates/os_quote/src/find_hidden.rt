@@ -1,5 +1,5 @@
-//! How far the escape of a text on one line shows it as it is, by the bytes that may begin a character
-//! that is written as a token: suspects.
+//! Finds the first character of a text that its escape on one line writes as a token. The search
+//! looks for suspects, which are bytes that may begin such a character.
 ghost use Rattle.std.specs.Prelude.{◌≡◌, ◌↔◌, [], take, IsTrue, IfSome, MatchOption, ◌+◌, ◌≤◌, ◌<◌, length, slice_index};
 ghost use Rattle.std.specs.Str.{IsCharBoundary};
 ghost use Rattle.os_quote.specs.{Hidden.IsUnchanged, Hidden.AreUnchanged, Hidden.IsCutAtToken, Hidden.AllClear, Hidden.IsNextSuspect, Hidden.is_suspect, Shown.IsOnOneLine, Shown.stays_on_line};
@@ -10,9 +10,9 @@ use crate::find_tables::is_suspect;
 use crate::form::stays_on_line;
 use wtf8_core::vectors::window::put_in_zeros;
 
-/// What comes before the first character that is written as a token, that character, and what comes
-/// after it. Most often it is the first that isn't plain. A text that was cut after plain bytes begins
-/// with none.
+/// Splits a text around the first character that is written as a token: what comes before it, the
+/// character, and what comes after it. Most often it is the first character that isn't plain. A
+/// text that was cut after plain bytes begins with no plain byte.
 pub(crate) fn split_hidden(text: &str) -> Option<(&str, char, &str)>
     ensures { MatchOption result (AreUnchanged stays_on_line text.now)
         (λ parts. IsCutAtToken stays_on_line text.now parts.0.now parts.1 parts.2.now) }
@@ -24,7 +24,8 @@ pub(crate) fn split_hidden(text: &str) -> Option<(&str, char, &str)>
     split_at_suspect(text, at)
 }
 
-/// The same, from an index on up to which the characters are shown as they are.
+/// Splits a text around its first character that is written as a token. The search starts at an
+/// index up to which all characters are shown as they are.
 fn split_at_suspect(text: &str, from: usize) -> Option<(&str, char, &str)>
     requires boundary { IsCharBoundary text.now from }
     requires unchanged { AreUnchanged stays_on_line (take from text.now) }
@@ -52,9 +53,10 @@ fn is_unchanged(character: char) -> bool
     character != '\\' && stays_on_line(character)
 }
 
-/// Whether each character of a text stays on a line ([`stays_on_line`]): whether
-/// [`escape_line`](crate::escape_line) shows the text as it is, but for backslashes. It doesn't
-/// allocate.
+/// Returns `true` if each character of a text stays on a line ([`stays_on_line`]).
+///
+/// Then [`escape_line`](crate::escape_line) shows the text as it is, except that it doubles
+/// backslashes. It doesn't allocate.
 ///
 /// ```
 /// use os_quote::is_on_one_line;
@@ -75,10 +77,10 @@ pub fn is_on_one_line(text: &str) -> bool
     true
 }
 
-/// The fewest bytes of which a copy is looked at.
+/// The minimum number of bytes that are copied and examined as one block.
 const LEAST: usize = 16;
 
-/// The index of the first suspect from an index on, at which one often is.
+/// The index of the first suspect at or after an index. Often the byte at that index is one.
 pub(crate) fn first_suspect(bytes: &[u8], from: usize) -> Option<usize>
     requires { from ≤ length bytes.now }
     ensures { MatchOption result (AllClear bytes.now from (length bytes.now))
@@ -100,7 +102,7 @@ fn is_suspect_at(bytes: &[u8], at: usize) -> bool
     is_suspect(bytes[at], byte_at(bytes, at + 1), byte_at(bytes, at + 2))
 }
 
-/// The same as [`first_suspect`], by vectors.
+/// The index of the first suspect, as [`first_suspect`] returns it, found by vectors.
 #[tactic(auto, using(crate::proofs::lemmas::Suspects::suspects))]
 fn later_suspect(bytes: &[u8], from: usize) -> Option<usize>
     requires { from ≤ length bytes.now }
@@ -122,8 +124,8 @@ fn later_suspect(bytes: &[u8], from: usize) -> Option<usize>
     None
 }
 
-/// How many bytes from an index on aren't suspects, as far as one block says. The last byte of all
-/// isn't among them.
+/// The number of bytes from an index on that aren't suspects, found by one block. It doesn't count
+/// the last byte of all.
 fn clear_from(bytes: &[u8], at: usize) -> usize
     requires { at < length bytes.now }
     ensures within { at + result < length bytes.now }
@@ -135,8 +137,8 @@ fn clear_from(bytes: &[u8], at: usize) -> usize
     clear_len(bytes.split_at(at).1)
 }
 
-/// How many bytes from an index on aren't suspects, as far as a copy of them says, with zeros after it.
-/// A copy is made if they are few, but not so few that they are looked at as soon one by one.
+/// The number of bytes from an index on that aren't suspects, found in a copy with zeros after it.
+/// A copy is made if all these bytes fit in it, but not where a loop over them is as fast.
 fn clear_of_short(bytes: &[u8], from: usize) -> usize
     requires { from ≤ length bytes.now }
     ensures within { from + result ≤ length bytes.now }

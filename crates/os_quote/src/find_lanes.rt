@@ -1,4 +1,5 @@
-//! 64 bytes at once: how many of them begin no character that is written as a token on one line.
+//! Examines 64 bytes at once, and counts those before the first that may begin a character that is
+//! written as a token on one line.
 ghost use Rattle.std.specs.Prelude.{◌≡◌, ℕ, ◌+◌, ◌*◌, ◌/◌, ◌≤◌, ◌<◌, false, length, slice_index};
 ghost use Rattle.os_quote.specs.Hidden.{is_suspect, byte_bits, kind_bits, second_bits, third_bits};
 
@@ -13,7 +14,7 @@ use wtf8_core::vectors::lanes::{
 /// The bytes of a block.
 pub(crate) const BLOCK: usize = 64;
 
-/// How many of the first 64 bytes come before the first that may be a suspect.
+/// The number of bytes before the first that may be a suspect, among the first 64.
 #[inline(always)]
 pub(crate) fn clear_len(bytes: &[u8]) -> usize
     requires { 66 ≤ length bytes.now }

@@ -8,14 +8,14 @@ use crate::find_lanes::BLOCK;
 use std::simd::prelude::*;
 use wtf8_core::vectors::lanes::{above, are_zero, leading_zero, load, or};
 
-/// How many bytes are looked at before they are written: a few blocks, which are still in the cache
-/// next to the processor when they are copied.
+/// The number of bytes that are examined before they are written. It is a few blocks, so that they
+/// are still in the cache next to the processor when they are copied.
 const PIECE: usize = 4096;
 
 /// The bytes of one vector.
 const LANES: usize = 16;
 
-/// Whether all bytes are plain, and no more than a piece.
+/// Whether all bytes are plain, and at most one piece long.
 pub(crate) fn are_plain(bytes: &[u8]) -> bool
     ensures { IsTrue result → AllByRecursion IsPlain bytes.now }
 {
@@ -35,8 +35,8 @@ pub(crate) fn split_plain(bytes: &[u8]) -> Option<(&str, &[u8])>
     Some((unsafe { str::from_utf8_unchecked(prefix) }, rest))
 }
 
-/// How many bytes at the start are plain, or a piece. The first vector is asked by itself, since what
-/// isn't plain is often near.
+/// The number of plain bytes at the start, at most a piece. The first vector is tested separately,
+/// since a byte that isn't plain is often near.
 #[tactic(auto, using(crate::proofs::lemmas::PlainBytes::plain_bytes))]
 pub(crate) fn plain_len(bytes: &[u8]) -> usize
     ensures { IsPlainUpTo bytes.now result }
@@ -58,8 +58,8 @@ pub(crate) fn plain_len(bytes: &[u8]) -> usize
     plain_end(bytes, at)
 }
 
-/// The index of the first byte that isn't plain, or the length, from an index on up to which all are:
-/// by vectors, of which the last is the last of all.
+/// The index of the first byte that isn't plain, or the length. All bytes before `from` are known
+/// to be plain. Bytes are tested by vectors, and the last vector ends at the end of the bytes.
 #[tactic(auto, using(crate::proofs::lemmas::PlainBytes::plain_bytes))]
 fn plain_end(bytes: &[u8], from: usize) -> usize
     requires up_to { IsPlainUpTo bytes.now from }
@@ -78,7 +78,7 @@ fn plain_end(bytes: &[u8], from: usize) -> usize
     last + plain_lanes(bytes, last)
 }
 
-/// How many bytes at the start are plain, byte by byte.
+/// The number of plain bytes at the start, tested one by one.
 #[tactic(auto, using(crate::proofs::lemmas::PlainBytes::plain_bytes))]
 fn few_plain(bytes: &[u8]) -> usize
     ensures { IsPlainUpTo bytes.now result }
@@ -97,7 +97,7 @@ fn is_plain(byte: u8) -> bool
     matches!(byte, b' '..=b'~') && byte != b'\\'
 }
 
-/// How many of the next 16 bytes are plain before the first that isn't.
+/// The number of plain bytes before the first that isn't, among the next 16.
 fn plain_lanes(bytes: &[u8], at: usize) -> usize
     requires { at + 16 ≤ length bytes.now }
     ensures within { result ≤ 16 }

@@ -1,4 +1,4 @@
-//! Whether a string begins with a text.
+//! Splits the valid text off the start of a string.
 ghost use Rattle.std.specs.Prelude.{◌<◌, IsTrue, MatchOption, length};
 ghost use Rattle.wtf8_core.specs.Covered.{StartsWithNoCharacter};
 ghost use Rattle.os_quote.specs.Start.{IsCutAfterText};
@@ -6,9 +6,9 @@ ghost use Rattle.os_quote.specs.Start.{IsCutAfterText};
 use os_str_bytes::Platform;
 use wtf8_core::is_continuation;
 
-/// The text at the start, and the bytes after it; `None` if no whole character starts there. Its first
-/// character was read before, to tell that it isn't a byte that is written by itself, and two bytes are
-/// asked again: a line of backslashes takes 1.12 to 1.21 of the time where they aren't.
+/// The text at the start, and the bytes after it; `None` if no whole character starts there. The
+/// caller has tested the first character, which isn't a byte that is written alone. Two bytes are
+/// tested again here. Without that, a line of backslashes takes 1.12 to 1.21 times as long.
 #[inline(always)]
 pub(crate) fn split_text<E: Platform>(bytes: &[u8]) -> Option<(&str, &[u8])>
     requires formed { E.well_formed bytes.now }
@@ -30,8 +30,8 @@ pub(crate) fn split_text<E: Platform>(bytes: &[u8]) -> Option<(&str, &[u8])>
     Some((unsafe { str::from_utf8_unchecked(text) }, rest))
 }
 
-/// Whether the first two bytes tell that no whole character starts at the first, as most often where
-/// none does.
+/// Whether the first two bytes show that no whole character starts at the first. Where none does,
+/// they usually show it.
 #[inline(always)]
 pub(crate) fn are_apart(bytes: &[u8]) -> bool
     ensures { IsTrue result → StartsWithNoCharacter bytes.now }

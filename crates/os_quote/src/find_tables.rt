@@ -1,4 +1,5 @@
-//! Tables of which bytes may begin a character that is written as a token on one line: suspects.
+//! Tables that find suspects: bytes that may begin a character that is written as a token on one
+//! line.
 ghost use Rattle.std.specs.Prelude.{◌≡◌};
 ghost use Rattle.os_quote.specs.Hidden.{byte_bits, third_bits, is_suspect};
 
@@ -40,7 +41,7 @@ pub(crate) const THIRD_LOW: [u8; 64] = four_copies!(
     191, 183, 183, 183, 191, 183, 183, 183, 183, 183, 183, 183, 183, 183, 183, 247
 );
 
-/// The same of the third byte once more, for kinds that have it in two boxes.
+/// By the high half of the third byte, in a second table for kinds that need two boxes.
 pub(crate) const OTHER_HIGH: [u8; 64] = four_copies!(
     32, 32, 32, 32, 32, 32, 32, 32, 224, 168, 96, 104, 32, 32, 32, 32
 );
@@ -50,7 +51,7 @@ pub(crate) const OTHER_LOW: [u8; 64] = four_copies!(
     224, 224, 224, 224, 104, 104, 96, 96, 96, 96, 96, 224, 224, 224, 224, 232
 );
 
-/// Whether a byte before two others may begin such a character.
+/// Whether a byte followed by two others may begin such a character.
 #[inline(always)]
 pub(crate) fn is_suspect(first: u8, second: u8, third: u8) -> bool
     ensures { result ≡ is_suspect first second third }

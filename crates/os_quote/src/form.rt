@@ -1,13 +1,13 @@
-//! The two forms of an escape, which differ in the characters that they show as they are.
+//! The two forms of an escape. They differ in the characters that they show as they are.
 ghost use Rattle.std.specs.Prelude.{◌≡◌};
 ghost use Rattle.os_quote.specs.{HiddenCharacters.is_in_ranges, Shown.stays_on_line};
 
-/// Which characters are shown as they are.
+/// A form of the escape: the characters that are shown as they are.
 #[derive(Clone, Copy)]
 pub(crate) enum Form {
     /// All but the backslash.
     Text,
-    /// Of those, the ones that stay on a line.
+    /// All but the backslash that stay on a line.
     Line,
 }
 
@@ -18,8 +18,8 @@ macro_rules! ranges {
     };
 }
 
-/// The characters that the escape on one line writes as tokens, beside the backslash: the first and
-/// the last of each range (`hidden_ranges` of the definitions, which is the same list).
+/// The characters besides the backslash that the escape on one line writes as tokens. Each range
+/// has its first and its last (the list is `hidden_ranges` of the definitions).
 const HIDDEN: [(u32, u32); 30] = ranges!(
     0x00 to 0x1F, 0x7F to 0xA0, 0xAD to 0xAD, 0x34F to 0x34F, 0x600 to 0x605, 0x61C to 0x61C,
     0x6DD to 0x6DD, 0x70F to 0x70F, 0x890 to 0x891, 0x8E2 to 0x8E2, 0x115F to 0x1160,
@@ -30,9 +30,11 @@ const HIDDEN: [(u32, u32); 30] = ranges!(
     0xE_0000 to 0xE_0FFF
 );
 
-/// Whether a character stays on a line: whether it is shown, and can't end the line, move the cursor
-/// or set the direction of text by itself. These are the characters that
-/// [`escape_line`](crate::escape_line) shows as they are, and the backslash.
+/// Returns `true` if a character stays on a line: it is shown, and can't alone end the line, move
+/// the cursor or set the direction of text.
+///
+/// These are the characters that [`escape_line`](crate::escape_line) shows as they are, and the
+/// backslash.
 ///
 /// ```
 /// use os_quote::stays_on_line;

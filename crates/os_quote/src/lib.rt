@@ -1,14 +1,14 @@
-//! Reversible escapes: strings of any platform written as texts, and read back.
+//! Reversible escapes: writes strings of any platform as text, and reads them back.
 //!
-//! [`escape`] writes a string as a text from which [`unescape`] gives the same string again.
-//! A text without a backslash is its own escape; each backslash is doubled; a unit that is no
-//! part of a text is `\xHH` where it is below 100 (hexadecimal), else `\uHHHH`, with digits
-//! from `0` to `9` and from `A` to `F`. [`escaped`] prints the same and allocates nothing.
-//! The format is this project's own.
+//! [`escape`] writes a string as a text, and [`unescape`] returns the same string from that text.
+//! A text without a backslash is its own escape, and each backslash is doubled. A unit that isn't
+//! part of a text becomes `\xHH` if it is below 100 (hexadecimal), else `\uHHHH`. Digits are `0` to
+//! `9` and `A` to `F`. [`escaped`] prints the same text and allocates nothing. The format is this
+//! project's own.
 //!
 //! [`escape_line`], [`escaped_line`] and [`unescape_line`] are a second form, for log lines and
-//! terminals: controls, format characters, blanks other than the space, and what Unicode ignores in
-//! display are written as tokens, too.
+//! terminals. It also writes as tokens controls, format characters, blanks other than the space,
+//! and what Unicode ignores in display.
 #![tactic(auto)]
 
 mod error;

@@ -1,4 +1,4 @@
-//! Strings written into a buffer, from escapes, which may not be UTF-8.
+//! Reads escapes, which may be invalid UTF-8, and writes their strings into a buffer.
 ghost use Rattle.std.specs.Prelude.{◌≡◌, ◌≢◌, ◌≤◌, length, IfOk, IfErr, IfSome, MatchOption, MatchResult};
 ghost use Rattle.std.specs.Str.{IsUtf8};
 ghost use Rattle.os_quote.specs.{Shown.shown_by, declared.error.QuoteError.TheVariants.Memory, Escape.IsQuoteFault, Escape.IsLineFault, Escape.IsQuoteFaultBy, Unescaped.IsUnescaped, Unescaped.IsLineUnescaped, Unescaped.IsUnescapedBy, Unescaped.AreReadBy};
@@ -12,13 +12,13 @@ use crate::write_walk::split_at_token;
 use os_str_bytes::Platform;
 use wtf8_core::{is_utf8, push_truncated};
 
-/// Writes the string that has this escape ([`unescape`](crate::unescape)) into a buffer, truncated if
-/// the buffer is too short for it, and returns the length of the whole string. What the string doesn't
-/// reach stays as it is. It doesn't allocate.
+/// Writes the string that has this escape ([`unescape`](crate::unescape)) into a buffer, truncated
+/// if the buffer is too short for it, and returns the length of the whole string. The rest of the
+/// buffer is unchanged. It doesn't allocate.
 ///
 /// A string is never longer than its escape, so a buffer of `text.len()` bytes is always long enough.
-/// If the buffer is too short, it isn't known yet that the text is an escape: each backslash is in a
-/// token, and if a string has this escape, it is this one.
+/// If the buffer is too short, `Ok` doesn't show that the text is an escape. Then each backslash is
+/// in a token, and if any string has this escape, it is this one.
 ///
 /// # Errors
 ///
@@ -69,7 +69,8 @@ pub fn write_unescaped_line<E: Platform>(text: &str, buffer: &mut [u8]) -> Resul
     write_text_by::<E>(Form::Line, text, buffer)
 }
 
-/// The same in a form. A text without tokens is its own escape.
+/// Writes the string that has this escape in a form into a buffer. A text without tokens is its own
+/// escape.
 #[inline(always)]
 fn write_text_by<E: Platform>(form: Form, text: &str, buffer: &mut [u8]) -> Unescaped
     ensures string { IfOk result (λ count. IsUnescapedBy (shown_by form) E.well_formed E.units
@@ -87,13 +88,13 @@ fn write_text_by<E: Platform>(form: Form, text: &str, buffer: &mut [u8]) -> Unes
 /// Writes the string that has this escape into a buffer, as
 /// [`write_unescaped`](crate::write_unescaped) does, or returns `None` if the escape isn't UTF-8.
 ///
-/// It is for callers that have no `str`: most escapes are read once, since whatever is the escape of
-/// a string is UTF-8.
+/// It is for callers that have bytes and no `str`. Most escapes are read once, since the escape of
+/// a string is always valid UTF-8.
 ///
 /// # Errors
 ///
-/// Those of [`write_unescaped`](crate::write_unescaped). If it is `None`, the content of the buffer
-/// isn't specified.
+/// Those of [`write_unescaped`](crate::write_unescaped). If the result is `None`, the content of
+/// the buffer isn't specified.
 ///
 /// ```
 /// use os_quote::write_unescaped_bytes;
@@ -145,8 +146,8 @@ pub fn write_unescaped_line_bytes<E: Platform>(
     write_bytes_by::<E>(Form::Line, escape, buffer)
 }
 
-/// The same in a form. Plain bytes are their own escape, and where all is shown so is each text without
-/// a backslash.
+/// Writes the string that has this escape in a form, or returns `None` if the escape isn't UTF-8.
+/// Plain bytes are their own escape. Where all is shown, so is each text without a backslash.
 fn write_bytes_by<E: Platform>(form: Form, escape: &[u8], buffer: &mut [u8]) -> Option<Unescaped>
     ensures utf8 { IfSome result (λ _. IsUtf8 escape.now) }
     ensures read { AreReadBy (shown_by form) E.well_formed E.units escape.now buffer.old
@@ -170,8 +171,8 @@ fn write_bytes_by<E: Platform>(form: Form, escape: &[u8], buffer: &mut [u8]) -> 
     }
 }
 
-/// The same of an escape with a backslash. It is read first, and whether it is UTF-8 is asked only if it
-/// isn't the escape of a string for which there is room.
+/// Writes the string of an escape that has a backslash, as [`write_bytes_by`] does. The escape is
+/// read first. It is checked for UTF-8 only if it isn't the escape of a string that fits.
 fn write_tokens<E: Platform>(form: Form, escape: &[u8], buffer: &mut [u8]) -> Option<Unescaped>
     ensures utf8 { IfSome result (λ _. IsUtf8 escape.now) }
     ensures read { AreReadBy (shown_by form) E.well_formed E.units escape.now buffer.old

@@ -1,4 +1,4 @@
-//! From escapes to strings: what their tokens mean, and whether a text is the escape of that string.
+//! Reads escapes: decodes their tokens, and checks that the text is the escape of the result.
 ghost use Rattle.std.specs.Prelude.{◌≡◌, ◌≢◌, ◌↔◌, length, IsOk, IfOk, IfErr, IsTrue, ◌+◌, ◌≤◌, ◌<◌, ◌^◌, ◌++◌, [], ℕ, List, MatchResult, MatchOption};
 ghost use Rattle.platform_str.specs.Strings.{string_vec_of, bytes};
 ghost use Rattle.os_quote.specs.{Shown.shown_by, Buffers.Pushes, Stripping.StartsNot, Escape.IsEscape, Escape.IsLineEscape, Escape.IsEscapeBy, Escape.IsQuoteFault, Escape.IsLineFault, Escape.IsQuoteFaultBy, Escape.IsBadEscapeBy, Reading.AreBytesRead, Reading.item_bytes, Reading.token_item, Unescaped.IsUnescapedBy, declared.error.QuoteError.TheVariants.Memory};
@@ -22,10 +22,10 @@ use wtf8_core::{push_truncated, write_form};
 ///
 /// # Errors
 ///
-/// [`QuoteError::BadEscape`] with the byte index of the first backslash that begins no token; else
-/// [`QuoteError::NotCanonical`] if no string of the platform has this escape, as `\xC3\xA9` on
-/// Unix, where these bytes are the text `é`. If an allocation fails, [`QuoteError::Memory`] may come
-/// in place of either. For the empty text nothing is allocated.
+/// [`QuoteError::BadEscape`] with the byte index of the first backslash that begins no token. Else
+/// [`QuoteError::NotCanonical`] if the text isn't the escape of any string of the platform. An
+/// example on Unix is `\xC3\xA9`, since these bytes are the text `é`. If an allocation fails,
+/// [`QuoteError::Memory`] may replace either. The empty text allocates nothing.
 ///
 /// ```
 /// use os_quote::{QuoteError, unescape};
@@ -54,10 +54,10 @@ pub fn unescape<E: Platform, A: Allocator>(
 ///
 /// # Errors
 ///
-/// Those of [`unescape`], where a token is also `\u{`, five or six digits without a leading zero,
-/// and `}`, of a character past U+FFFF. A text with a character that doesn't stay on the line is
-/// [`QuoteError::NotCanonical`] if each backslash is in a token, and so is one with a token of a
-/// character that does, as `\u0041` or `\u{1F600}`. The empty text takes no memory.
+/// Those of [`unescape`]. A token is also `\u{`, five or six digits without a leading zero, and
+/// `}`, for a character past U+FFFF. If each backslash is in a token, two kinds of text return
+/// [`QuoteError::NotCanonical`]: one has a character that doesn't stay on the line, and the other a
+/// token for a character that does, as `\u0041` or `\u{1F600}`. The empty text allocates nothing.
 ///
 /// ```
 /// use os_quote::unescape_line;
@@ -79,8 +79,8 @@ pub fn unescape_line<E: Platform, A: Allocator>(
     unescape_by(Form::Line, alloc, text)
 }
 
-/// The same of a form. A text with a token is read token by token: the bytes that it means are a string
-/// with this escape, or no string has it.
+/// Returns the string that has this escape in a form. A text with a token is read token by token.
+/// If the bytes that it means aren't a string with this escape, then none has it.
 fn unescape_by<E: Platform, A: Allocator>(
     form: Form,
     alloc: A,
@@ -101,9 +101,9 @@ fn unescape_by<E: Platform, A: Allocator>(
     Ok(OsString::from_encoded_bytes_unchecked(encoded))
 }
 
-/// Writes the string that has this escape into a buffer, truncated, token by token, from bytes that may
-/// not be UTF-8. If they are the escape of a string for which there is room, that alone says that they
-/// are UTF-8; any other answer is right only if they are.
+/// Writes the string that has this escape into a buffer, truncated, token by token. The bytes may
+/// be invalid UTF-8. If they are the escape of a string that fits, they are valid UTF-8. Any other
+/// result is right only if they are valid UTF-8.
 pub(crate) fn write_by<E: Platform>(form: Form, escape: &[u8], buffer: &mut [u8]) -> Unescaped
     ensures string { IsUtf8 escape.now → IfOk result (λ count. IsUnescapedBy (shown_by form)
         E.well_formed E.units escape.now buffer.old buffer.new count) }
@@ -127,7 +127,7 @@ pub(crate) fn write_by<E: Platform>(form: Form, escape: &[u8], buffer: &mut [u8]
 }
 
 /// Whether the bytes are a string of the platform, and the others are its escape. It isn't inlined, so
-/// that the loop is the same, whatever its caller is.
+/// that the loop is compiled the same for each caller.
 #[inline(never)]
 fn is_unescaped<E: Platform>(form: Form, encoded: &[u8], escape: &[u8]) -> bool
     ensures { IsTrue result ↔ (E.well_formed encoded.now
@@ -140,9 +140,9 @@ fn is_unescaped<E: Platform>(form: Form, encoded: &[u8], escape: &[u8]) -> bool
     }
 }
 
-/// Writes the bytes that an escape means, truncated if the buffer is too short for them, and returns
-/// how many they are; or else the index of the first backslash that begins no token. It doesn't check
-/// whether the escape is UTF-8.
+/// Writes the bytes that an escape means, truncated to the buffer's length, and returns the number
+/// of all these bytes. The error is the index of the first backslash that begins no token. It
+/// doesn't check whether the escape is UTF-8.
 fn read(form: Form, escape: &[u8], buffer: &mut [u8]) -> Result<usize, usize>
     ensures { MatchResult result
         (λ count. (decoded : List ℕ) × AreBytesRead (shown_by form) escape.now decoded []
@@ -186,7 +186,7 @@ fn push_form(buffer: &mut [u8], count: usize, code_point: u32) -> usize
     push_truncated(buffer, count, &bytes[..len])
 }
 
-/// What of a text is still to be compared with an escape.
+/// The part of a text that is still to be compared with an escape.
 #[derive(Drop)]
 struct Comparison<'a> {
     rest: &'a [u8],
@@ -203,7 +203,7 @@ impl<'a> Sink for Comparison<'a> {
         Ok(())
     }
 
-    /// Its length is known where it is made, so that it is compared without a call.
+    /// The token's length is known where it is made, so it is compared without a call.
     #[inline(always)]
     fn take_token(&mut self, token: TokenText) -> fmt::Result {
         self.rest = strip(self.rest, token.as_str().as_bytes()).ok_or(fmt::Error)?;
@@ -222,7 +222,7 @@ fn has_escape<E: Platform>(form: Form, string: OsStr<'_, E>, text: &[u8]) -> boo
     }
 }
 
-/// What comes after a text.
+/// The bytes after a text that they begin with.
 #[inline(always)]
 fn strip_text<'a>(bytes: &'a [u8], text: &str) -> Option<&'a [u8]>
     ensures { MatchOption result (StartsNot text.now bytes.now)

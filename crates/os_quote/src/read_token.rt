@@ -6,7 +6,7 @@ ghost use Rattle.os_quote.specs.{Item.backslash, Item.byte_digits, Item.wide_dig
 use crate::form::Form;
 use memchr::memchr;
 
-/// What a backslash begins.
+/// A token, which a backslash begins.
 #[derive(Clone, Copy)]
 pub(crate) enum Token {
     /// `\\`, a backslash.
@@ -19,7 +19,7 @@ pub(crate) enum Token {
     Long(char),
 }
 
-/// What comes before the first backslash of a text, and what comes after it.
+/// Splits a text around its first backslash, into what comes before it and what comes after it.
 pub(crate) fn split_backslash(text: &str) -> Option<(&str, &str)>
     ensures { MatchOption result (AreUnchanged is_any text.now)
         (λ parts. IsCutAtToken is_any text.now parts.0.now backslash parts.1.now) }
@@ -29,7 +29,8 @@ pub(crate) fn split_backslash(text: &str) -> Option<(&str, &str)>
     Some((prefix, unsafe { str::from_utf8_unchecked(following) }))
 }
 
-/// The same of bytes, which may not be a text. Where one token follows another, no search is begun.
+/// Splits bytes, which may be invalid UTF-8, around their first backslash. Where one token directly
+/// follows another, it doesn't start a search.
 pub(crate) fn cut_backslash(bytes: &[u8]) -> Option<(&[u8], &[u8])>
     ensures { MatchOption result (HasNoBackslash bytes.now)
         (λ parts. IsCutAtFirst bytes.now parts.0.now parts.1.now) }
@@ -150,7 +151,7 @@ fn six_digits(digits: &[u8]) -> Option<(char, &[u8])>
     Some((character, rest))
 }
 
-/// The character whose number is five digits before a brace, the first of which isn't `0`.
+/// The character whose number is five digits before a brace. The first digit isn't `0`.
 #[tactic(auto, using(crate::proofs::lemmas::LongTokens::five_tokens))]
 fn five_digits(digits: &[u8]) -> Option<(char, &[u8])>
     ensures { MatchOption result (HasNoFive digits.now)
@@ -165,7 +166,7 @@ fn five_digits(digits: &[u8]) -> Option<(char, &[u8])>
     Some((character, rest))
 }
 
-/// The character whose number has these high digits and then the next four, which a brace follows.
+/// The character whose number is these high digits and the next four, if a brace follows them.
 #[tactic(auto, using(crate::proofs::lemmas::LongTokens::closed_tokens))]
 fn closed_character(high: u8, low: &[u8]) -> Option<(char, &[u8])>
     requires some { 0 < high }

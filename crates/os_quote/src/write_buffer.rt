@@ -1,4 +1,4 @@
-//! Escapes written into a buffer that may be too short for them.
+//! Writes escapes into a buffer that may be too short for them.
 ghost use Rattle.std.specs.Prelude.{◌*◌, ◌<◌, ◌^◌, ℕ, List, length};
 ghost use Rattle.wtf8_core.specs.Truncated.{IsTruncated};
 ghost use Rattle.platform_str.specs.Strings.{bytes};
@@ -11,8 +11,8 @@ use std::fmt;
 use wtf8_core::push_truncated;
 
 /// Writes the escape of a string ([`escape`](crate::escape)) into a buffer, truncated if the buffer
-/// is too short for it, and returns the length of the whole escape. What the escape doesn't reach
-/// stays as it is. It doesn't allocate, and with an empty buffer only counts.
+/// is too short for it, and returns the length of the whole escape. The rest of the buffer is
+/// unchanged. It doesn't allocate, and with an empty buffer it only counts.
 ///
 /// Six times the string's length is below 2^64 (test: `string.len() <= usize::MAX / 6`). An escape
 /// is never longer than that.
@@ -56,7 +56,8 @@ pub fn write_escape_line<E: Platform>(string: OsStr<'_, E>, buffer: &mut [u8]) -
     push_escape(Form::Line, string, buffer)
 }
 
-/// The same in a form. A buffer refuses nothing.
+/// Writes the escape of a string in a form into a buffer, and returns the length of the whole
+/// escape. A buffer takes every piece, so no error is lost.
 fn push_escape<E: Platform>(form: Form, string: OsStr<'_, E>, buffer: &mut [u8]) -> usize
     requires { 6 * length (bytes string) < 2 ^ 64 }
     ensures { IsTruncated (escape_of (shown_by form) E.units (bytes string.entry)) buffer.old
@@ -70,7 +71,7 @@ fn push_escape<E: Platform>(form: Form, string: OsStr<'_, E>, buffer: &mut [u8])
     sink.count
 }
 
-/// A buffer, and how long what was written so far is.
+/// A buffer, and the length of what was written so far.
 #[derive(Drop)]
 struct Buffer<'a> {
     bytes: &'a mut [u8],

@@ -1,5 +1,5 @@
-//! Texts that are collected before they are written: those of characters of ASCII and of units of one
-//! byte, and where all is shown characters of several bytes among them.
+//! Collects short texts before they are written: those of ASCII characters and of units of one
+//! byte. Where all is shown, it also collects characters of several bytes among them.
 ghost use Rattle.std.specs.Prelude.{◌≡◌, ◌++◌, ◌+◌, ◌/◌, ◌≤◌, ℕ, List, IfSome, MatchOption, length, take};
 ghost use Rattle.std.specs.{Int.w64, Int.to_le_bytes, Str.IsUtf8, Char.IsScalar, Char.encode_utf8};
 ghost use Rattle.os_quote.specs.{Item.item_text, Shown.shown_by, Escaped.escape_of, Start.BeginsWith, Start.IsPut, Start.byte_item, declared.form.Form.Form};
@@ -9,16 +9,16 @@ use crate::form::Form;
 use os_str_bytes::Platform;
 use wtf8_core::first_character::first_char;
 
-/// The bytes that texts are collected in, before they are written together.
+/// The number of bytes in which texts are collected before they are written together.
 pub(crate) const TEXTS: usize = 104;
 
-/// How many characters in a row are shown as they are before it is asked how far more are.
+/// The number of characters in a row that are shown as they are before a search for the next token.
 pub(crate) const SHOWN: usize = 8;
 
-/// The words of bytes, of 16 for each line: the word of the first, by how much a word grows with the byte,
-/// how many times more it grows from `9` to `A` where the byte's last digit is written, and what is added
-/// to the words of two bytes. A word has the text of a byte, from the lowest bits on, and in the highest
-/// how long the text is.
+/// The words of bytes, 16 for each line. A line has the word of its first byte, and the amount by
+/// which a word grows with the byte. Then come the number of extra steps from `9` to `A`, where the
+/// byte's last digit is written, and the amounts that are added to the words of two bytes. A word
+/// has the text of a byte from the lowest bits on, and the text's length in the highest bits.
 macro_rules! words {
     ($(($first:literal, $one:literal, $gap:literal, $at_c:literal, $at_f:literal),)*) => {
         [$(
@@ -59,8 +59,8 @@ static WORDS: [u64; 384] = words![
     (0x0100_0000_0000_0070, 1, 0, 0, 0x0500_4637_3030_74DD),
 ];
 
-/// The byte at the start and the bytes after it, if its text is to be taken from a table: where all is
-/// shown, a text is searched for backslashes as a whole.
+/// The byte at the start and the bytes after it, if its text is to be taken from a table. Where all
+/// is shown, the whole text is searched for backslashes instead.
 #[inline(always)]
 pub(crate) fn split_first_byte<E: Platform>(form: Form, bytes: &[u8]) -> Option<(u8, &[u8])>
     requires { E.well_formed bytes.now }
@@ -73,7 +73,7 @@ pub(crate) fn split_first_byte<E: Platform>(form: Form, bytes: &[u8]) -> Option<
     }
 }
 
-/// The byte at the start and the bytes after it, if the byte is written by itself: a character of ASCII,
+/// The byte at the start and the bytes after it, if the byte is written alone: an ASCII character,
 /// or a unit of one byte.
 #[inline(always)]
 fn split_byte<E: Platform>(bytes: &[u8]) -> Option<(u8, &[u8])>
@@ -98,8 +98,8 @@ fn split_byte<E: Platform>(bytes: &[u8]) -> Option<(u8, &[u8])>
     Some((unit as u8, bytes.split_at(size).1))
 }
 
-/// Writes the text of the first byte or, where all is shown, the first character from an index on, and
-/// returns the index after it and the bytes that are left; `None` if the bytes begin otherwise.
+/// Writes the text of the first byte from an index on or, where all is shown, the first character.
+/// Returns the index after it and the remaining bytes; `None` if the bytes begin otherwise.
 #[inline(always)]
 pub(crate) fn put_next<'a, E: Platform>(
     form: Form,

@@ -1,4 +1,4 @@
-//! The escape of a string, piece by piece, for whatever takes it.
+//! Writes the escape of a string, piece by piece, to a sink.
 ghost use Rattle.os_quote.specs.{FormatterSink.formatter_rules, Sinks.SinkRules, Sinks.Takes, Sinks.TakesBeginning, Start.byte_item, Buffers.text_escape, Buffers.token_of, Escaped.escape_of, Item.item_text, Item.unit_item, Shown.shown_by, Hidden.AreUnchanged, Hidden.IsCutAtToken};
 ghost use Rattle.std.specs.Prelude.{◌≤◌, ◌++◌, IfOk, MatchOption, length};
 ghost use Rattle.platform_str.specs.Strings.{bytes};
@@ -13,16 +13,17 @@ use crate::write_token::TokenText;
 use os_str_bytes::{OsStr, Platform};
 use std::fmt;
 
-/// What takes an escape, piece by piece: a formatter, a buffer, or a text that is compared with it.
+/// A sink, which takes an escape piece by piece: a formatter, a buffer, or a text to compare with
+/// it.
 pub(crate) trait Sink {
     ghost rules: { SinkRules Self };
 
-    /// Takes a piece, or refuses it, and with it the escape.
+    /// Takes a piece. An error rejects the piece, and with it the whole escape.
     fn take(&mut self, piece: &str) -> fmt::Result
         requires { rules.has_room self.old piece.now }
         ensures { Takes rules self.old piece.now result self.new };
 
-    /// The same of a token.
+    /// Takes the text of a token, as `take` takes a piece.
     #[inline(always)]
     fn take_token(&mut self, token: TokenText) -> fmt::Result
         requires { rules.has_room self.old token }
@@ -41,8 +42,9 @@ impl<W: fmt::Write> Sink for fmt::Formatter<W> {
     }
 }
 
-/// Gives a sink the escape of a string in a form, piece by piece: each piece right after it was looked
-/// at, and before the next one is. Each form has a loop of its own, which asks nothing about forms.
+/// Writes the escape of a string in a form to a sink, piece by piece. Each piece is written right
+/// after it was examined, and before the next one is. Each form has its own loop, which doesn't
+/// test the form.
 #[inline(always)]
 pub(crate) fn write_escape_to<E: Platform, S: Sink>(
     form: Form,
@@ -59,7 +61,7 @@ pub(crate) fn write_escape_to<E: Platform, S: Sink>(
     }
 }
 
-/// The same.
+/// Writes the escape of a string to a sink, as [`write_escape_to`] does, in a loop for one form.
 #[inline(always)]
 fn walk<E: Platform, S: Sink>(form: Form, string: OsStr<'_, E>, sink: &mut S) -> fmt::Result
     requires { S.rules.has_room sink.old (escape_of (shown_by form) E.units (bytes string)) }
@@ -77,7 +79,7 @@ fn walk<E: Platform, S: Sink>(form: Form, string: OsStr<'_, E>, sink: &mut S) ->
             write_text(form, text, sink)?;
             rest = following;
         } else {
-            // its number was asked before, whether it is one byte
+            // its number was tested before, to find whether it is one byte
             let (unit, size) = E::first_unit(rest);
             write_unit(unit, sink)?;
             rest = rest.split_at(size).1;
@@ -86,9 +88,9 @@ fn walk<E: Platform, S: Sink>(form: Form, string: OsStr<'_, E>, sink: &mut S) ->
     Ok(())
 }
 
-/// Gives it the texts of a byte and of what follows it, collected as long as there is room for one more
-/// and not too many characters in a row are shown as they are. Returns what is left, whose first
-/// character [`walk`] asks again.
+/// Writes the texts of a byte and of the bytes after it to a sink. Texts are collected while there
+/// is room for one more, and until too many characters in a row are shown as they are. Returns the
+/// remaining bytes. [`walk`] tests their first character again.
 #[inline(always)]
 fn write_bytes<'a, E: Platform, S: Sink>(
     form: Form,
@@ -121,7 +123,8 @@ fn write_bytes<'a, E: Platform, S: Sink>(
     Ok(rest)
 }
 
-/// Gives it a text in a form, piece by piece: what is shown as it is, and the token after it.
+/// Writes a text in a form to a sink, piece by piece: what is shown as it is, and the token after
+/// it.
 #[inline(always)]
 fn write_text<S: Sink>(form: Form, text: &str, sink: &mut S) -> fmt::Result
     requires { S.rules.has_room sink.old (text_escape (shown_by form) text.now) }
@@ -136,7 +139,7 @@ fn write_text<S: Sink>(form: Form, text: &str, sink: &mut S) -> fmt::Result
     sink.take(rest)
 }
 
-/// Gives it a text as it is, if there is any: where one token follows another, there is none.
+/// Writes a text to a sink as it is, unless it is empty, as between two tokens in a row.
 #[inline(always)]
 fn write_unchanged<S: Sink>(text: &str, sink: &mut S) -> fmt::Result
     requires { S.rules.has_room sink.old text.now }
@@ -148,7 +151,7 @@ fn write_unchanged<S: Sink>(text: &str, sink: &mut S) -> fmt::Result
     sink.take(text)
 }
 
-/// Gives it the token of a unit: `\xHH` if it is below 100 (hexadecimal), else `\uHHHH`.
+/// Writes the token of a unit to a sink: `\xHH` if it is below 100 (hexadecimal), else `\uHHHH`.
 #[inline(always)]
 fn write_unit<S: Sink>(unit: u16, sink: &mut S) -> fmt::Result
     requires { S.rules.has_room sink.old (item_text (unit_item unit)) }
@@ -161,8 +164,8 @@ fn write_unit<S: Sink>(unit: u16, sink: &mut S) -> fmt::Result
     }
 }
 
-/// Gives it the token of a character that isn't shown, or is the backslash: `\\`, `\uHHHH` where it has
-/// 16 bits, else `\u{H..}`.
+/// Writes the token of a character that isn't shown, or is the backslash, to a sink: `\\`, `\uHHHH`
+/// if it has 16 bits, else `\u{H..}`.
 #[inline(always)]
 fn write_character<S: Sink>(character: char, sink: &mut S) -> fmt::Result
     requires { S.rules.has_room sink.old (item_text (token_of character)) }
@@ -178,8 +181,8 @@ fn write_character<S: Sink>(character: char, sink: &mut S) -> fmt::Result
     }
 }
 
-/// What comes before the first character of a text that is written as a token in a form, that
-/// character, and what comes after it.
+/// Splits a text around its first character that is written as a token in a form: what comes before
+/// it, the character, and what comes after it.
 #[inline(always)]
 pub(crate) fn split_at_token(form: Form, text: &str) -> Option<(&str, char, &str)>
     ensures { MatchOption result (AreUnchanged (shown_by form) text.now)

@@ -1,4 +1,4 @@
--- What contracts say of raw strings: their bytes, their units, and for owned ones the vector.
+-- The view that contracts have of raw strings: their bytes, their units, and for owned ones the vector.
 use Rattle.std.specs.Prelude.{ℕ, ◌≤◌, List, length}
 use Rattle.std.specs.{declared.vec.Vec.Vec, Box.boxed_slice_items}
 use Rattle.wtf8_core.specs.Boundary.{IsBoundary}
@@ -23,6 +23,6 @@ module _ {E A : Type 0} {P : Ghosts E} where
   abbrev pub box_bytes : RawOsStrBox E A P → List ℕ
   box_bytes s = boxed_slice_items s.bytes
 
--- `truncate` of s may be called with at: it is a boundary, or past the length
+-- `truncate` of s may be called with `at`: it is a boundary, or past the length
 abbrev pub MayTruncate : List ℕ → ℕ → Type 0
 MayTruncate s at = at ≤ length s → IsBoundary s at

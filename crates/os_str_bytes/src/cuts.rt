@@ -8,21 +8,21 @@ use crate::raw_string::RawOsString;
 use os_str_ext::Platform;
 use std::alloc::{AllocError, Allocator};
 
-/// What each way to cut at a boundary gives. Each field has the name of the call.
+/// The results of the calls that cut a string at a boundary. Each field has the name of its call.
 #[derive(Drop)]
 pub struct Cuts<'a, E: Platform + 'a, A: Allocator> {
     pub split_at: (RawOsStr<'a, E>, RawOsStr<'a, E>),
     /// The parts `..at` and `at..`.
     pub index: (RawOsStr<'a, E>, RawOsStr<'a, E>),
-    /// The same parts.
+    /// The parts `..at` and `at..`, as in `index`.
     pub get_unchecked: (RawOsStr<'a, E>, RawOsStr<'a, E>),
-    /// What is left of a copy of the string, and what was split off it.
+    /// What remains of a copy of the string, and the part that was split off.
     pub split_off: Result<(RawOsString<E, A>, RawOsString<E, A>), AllocError>,
-    /// What is left of a copy of the string.
+    /// What remains of a copy of the string.
     pub truncate: Result<RawOsString<E, A>, AllocError>,
 }
 
-/// Calls `split_off` on a copy: what is left of the copy, and what was split off it.
+/// Calls `split_off` on a copy, and returns what remains of the copy and the part split off.
 pub(crate) fn split_copy<'a, E: Platform, A: Allocator>(
     alloc: &'a A,
     string: RawOsStr<'a, E>,
@@ -37,7 +37,7 @@ pub(crate) fn split_copy<'a, E: Platform, A: Allocator>(
     Ok((prefix, suffix))
 }
 
-/// Calls `truncate` on a copy: what is left of the copy.
+/// Calls `truncate` on a copy, and returns what remains of the copy.
 pub(crate) fn truncated_copy<'a, E: Platform, A: Allocator>(
     alloc: &'a A,
     string: RawOsStr<'a, E>,

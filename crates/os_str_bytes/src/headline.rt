@@ -20,7 +20,7 @@ use std::alloc::{AllocError, Allocator};
 use std::cmp::Ordering;
 use wtf8_core::laws as wtf8_laws;
 
-/// What each call answers. Each field has the name of the call.
+/// The result of each call. Each field has the name of its call.
 #[derive(Drop)]
 pub struct Answers<'a, E: Platform + 'a, P: Pattern, A: Allocator> {
     pub cow_from_raw_bytes: Result<CowRawOsStr<'a, E>, EncodingError>,
@@ -45,7 +45,7 @@ pub struct Answers<'a, E: Platform + 'a, P: Pattern, A: Allocator> {
     /// `None` if the pattern is empty.
     pub rsplit: Option<RawRSplit<'a, E, P>>,
     pub is_boundary: bool,
-    /// `None` if the index isn't a boundary, since the string may not be cut there.
+    /// `None` if the index isn't a boundary, since the string can't be cut there.
     pub cuts: Option<Cuts<'a, E, &'a A>>,
     pub push: Result<OsString<E, &'a A>, AllocError>,
     pub repeat: Result<RawOsString<E, &'a A>, AllocError>,
@@ -53,11 +53,11 @@ pub struct Answers<'a, E: Platform + 'a, P: Pattern, A: Allocator> {
 }
 
 /// Makes each call once, with any raw bytes, any two strings, any pattern, any index and any count,
-/// and returns what they answer.
+/// and returns the results.
 ///
-/// Its contract says what the library is for, and asks nothing of its caller. Units are bytes on
-/// Unix and wasm and 16-bit units on Windows (`laws::platforms` says what each platform is). An
-/// index that is found is a byte index.
+/// Its contract states what the library is for, and has no precondition. Units are bytes on Unix
+/// and wasm and 16-bit units on Windows (`laws::platforms` defines each platform). An index that is
+/// found is a byte index.
 ///
 /// ```
 /// use os_str_bytes::headline::ask;
@@ -81,19 +81,19 @@ pub fn ask<'a, E: Platform + 'a, P: Pattern + Copy, A: Allocator>(
     // The accepted raw byte strings and the platform's unit lists correspond one to one,
     ensures one_to_one { AreOneToOne E.well_formed E.is_unit_list E.units }
     ensures accepted { IfOk result.cow_from_raw_bytes (λ cow. raw_cow_bytes cow ≡ raw.now) }
-    // every other byte string is refused by its first fault,
+    // every other byte string is rejected with its first fault,
     ensures refused { AcceptsOrRefuses E.well_formed E.first_fault raw.now
         result.cow_from_raw_bytes }
-    // and each comparison answers as its definition does on the unit lists, halves of a pair
-    // included; the order is that of the bytes.
+    // and each comparison agrees with its definition on the unit lists, halves of a pair included.
+    // The order is that of the bytes.
     ensures eq { IsTrue result.eq ↔ (raw_units string.entry ≡ raw_units other.entry) }
     ensures cmp { result.cmp ≡ slice_cmp nat_cmp (raw_bytes string.entry) (raw_bytes other.entry) }
     ensures starts_with_os { IsTrue result.starts_with_os
         ↔ IsPrefix (raw_units other.entry) (raw_units string.entry) }
     ensures ends_with_os { IsTrue result.ends_with_os
         ↔ IsSuffix (raw_units other.entry) (raw_units string.entry) }
-    // So does each search: the index is that of the first or the last unit at which the pattern's
-    // units occur,
+    // So does each search. It returns the index of the first or the last unit at which the
+    // pattern's units occur,
     ensures find { FindsInUnits IsFirstIndex E.well_formed E.units (P.text pattern)
         (raw_bytes string.entry) result.find }
     ensures rfind { FindsInUnits IsLastIndex E.well_formed E.units (P.text pattern)
@@ -104,12 +104,12 @@ pub fn ask<'a, E: Platform + 'a, P: Pattern + Copy, A: Allocator>(
         ↔ IsPrefix (E.units (P.text pattern)) (raw_units string.entry) }
     ensures ends_with { IsTrue result.ends_with
         ↔ IsSuffix (E.units (P.text pattern)) (raw_units string.entry) }
-    // and the string may be cut at every index answered, and after the match.
+    // and the string can be cut at every index returned, and after the match.
     ensures find_cuts { MayBeCutAround (raw_bytes string.entry) (length (P.text pattern))
         result.find }
     ensures rfind_cuts { MayBeCutAround (raw_bytes string.entry) (length (P.text pattern))
         result.rfind }
-    // Each strip and trim takes units off the start or the end.
+    // Each strip and trim removes units from the start or the end.
     ensures strip_prefix { StripsPrefix raw_units (E.units (P.text pattern))
         (raw_units string.entry) result.strip_prefix }
     ensures strip_suffix { StripsSuffix raw_units (E.units (P.text pattern))
@@ -129,10 +129,10 @@ pub fn ask<'a, E: Platform + 'a, P: Pattern + Copy, A: Allocator>(
         result.split }
     ensures rsplit { SplitsUnlessEmpty E.units IsRSplit (P.text pattern) (raw_bytes string.entry)
         result.rsplit }
-    // Each cut at a boundary gives strings whose units, joined, are the string's.
+    // Each cut at a boundary returns strings whose units, joined, are the string's.
     ensures is_boundary { IsTrue result.is_boundary ↔ IsBoundary (raw_bytes string.entry) at }
     ensures cuts { CutsAt string.entry at result.cuts }
-    // Each join, unless memory is refused, joins the units, also two halves of a pair.
+    // Each join, unless an allocation fails, joins the units, also two halves of a pair.
     ensures push { IfOk result.push (λ joined. E.units (string_vec_of joined).items
         ≡ raw_units string.entry ++ raw_units other.entry) }
     ensures repeat { IfOk result.repeat (λ made. E.units (raw_vec_of made).items
@@ -168,7 +168,7 @@ pub fn ask<'a, E: Platform + 'a, P: Pattern + Copy, A: Allocator>(
     }
 }
 
-/// What calls answer about Windows strings in addition to [`Answers`].
+/// The results of calls on Windows strings, in addition to [`Answers`].
 #[derive(Drop)]
 pub struct WindowsAnswers<'a> {
     pub cmp: Ordering,
@@ -176,7 +176,7 @@ pub struct WindowsAnswers<'a> {
     pub utf8_chunks: Utf8Chunks<'a, Windows>,
 }
 
-/// Makes once each call whose answer says more on Windows.
+/// Makes each call once whose contract states more on Windows.
 ///
 /// ```
 /// use os_str_bytes::RawOsStr;
@@ -190,10 +190,10 @@ pub fn ask_windows<'a>(
     string: RawOsStr<'a, Windows>,
     other: RawOsStr<'a, Windows>,
 ) -> WindowsAnswers<'a>
-    // The order is that of the lists of code points that the strings encode, and not of their units.
+    // The order is that of the lists of code points that the strings encode, not of their units.
     ensures cmp { (cs : List ℕ) → (ds : List ℕ) → Encodes (raw_bytes string.entry) cs
         → Encodes (raw_bytes other.entry) ds → result.cmp ≡ slice_cmp nat_cmp cs ds }
-    // The units are given one by one.
+    // The units are yielded one by one.
     ensures encode_wide { HasUnits (raw_bytes string.entry) result.encode_wide }
     // The parts that aren't empty are the forms of the maximal runs of surrogates of the list that
     // the string encodes.
@@ -217,8 +217,8 @@ pub struct FromUnits<'a, A: Allocator> {
     pub wasm: Result<CowRawOsStr<'a, Wasm>, EncodingError>,
 }
 
-/// Makes the calls that make a string from its units: each list of units of a platform is that of
-/// some string, and a call gives that string.
+/// Makes each call that makes a string from its units. Each list of units of a platform is that of
+/// some string, and the call returns that string.
 ///
 /// ```
 /// use os_str_bytes::headline::ask_units;
@@ -231,7 +231,7 @@ pub fn ask_units<'a, A: Allocator>(alloc: &'a A, bytes: &'a [u8], wide: &[u16]) 
     ensures unix { IsOk result.unix }
     ensures unix_units { IfOk result.unix (λ cow. ⟦<Unix as Platform>⟧.units (raw_cow_bytes cow)
         ≡ bytes.now) }
-    // any 16-bit units, unless memory is refused, those of a Windows string,
+    // any 16-bit units, unless an allocation fails, those of a Windows string,
     ensures windows_units { IfOk result.windows (λ string.
         ⟦<Windows as Platform>⟧.units (string_vec_of string).items ≡ wide.now) }
     // and the bytes of any text those of a wasm string.

@@ -16,8 +16,8 @@ pub use wtf8_core::{CodePoints, DecodeWide, EncodeWide};
 /// An iterator over the pieces of a raw string between the matches of a pattern, from the start or
 /// from the end: the items of [`Pieces`] as raw strings.
 ///
-/// Cloning doesn't allocate and its answer is always `Ok`; the clone has the same pieces left.
-/// After `None` it gives only `None`.
+/// Cloning doesn't allocate and always returns `Ok`. The clone yields the same remaining pieces.
+/// After `None` the iterator returns only `None`.
 #[derive(Drop)]
 pub struct RawPieces<'a, E: Platform + 'a, P: Pattern, D: Direction> {
     pieces: Pieces<'a, E, P, D>,
@@ -42,8 +42,8 @@ impl<'a, E: Platform, P: Pattern, D: Direction> RawPieces<'a, E, P, D> {
         RawPieces { pieces }
     }
 
-    /// The rest of the raw string, whose pieces are left, or `None` once all pieces were given
-    /// ([`Pieces::rest`] as a raw string).
+    /// The rest of the raw string, with the remaining pieces, or `None` once all pieces were
+    /// yielded ([`Pieces::rest`] as a raw string).
     ///
     /// ```
     /// use os_str_bytes::{RawOsStr, Unix};

@@ -1,6 +1,6 @@
 //! The laws of every platform and of raw strings. Each is the contract of a function that does
-//! nothing. The laws of bytes, code points and units are in [`crate::wtf8_laws`]; [`order`], which
-//! says what the order of Windows strings is, is here too.
+//! nothing. The laws of bytes, code points and units are in [`crate::wtf8_laws`]. This module also
+//! has [`order`], which states the order of Windows strings.
 ghost use Rattle.std.specs.Prelude.{◌≡◌, ◌↔◌, ℕ, List, IsTrue, Some};
 ghost use Rattle.std.specs.{Cmp.Lexicographic.slice_cmp, Ordering.nat_cmp, List.All, Str.IsUtf8};
 ghost use Rattle.std.specs.Hash as fed;
@@ -19,12 +19,12 @@ use std::hash::Hash;
 pub use wtf8_core::laws::order;
 
 /// What the platforms are. Unix strings are any bytes, which are their units, and no bytes are
-/// refused. Windows strings are WTF-8, and their units any 16-bit units (RFC 2781). Wasm strings
+/// rejected. Windows strings are WTF-8, and their units any 16-bit units (RFC 2781). Wasm strings
 /// are UTF-8, and their bytes are their units. On Unix all strings are IO-safe, on the other
 /// platforms those that are UTF-8. In a lossy text U+FFFD replaces each maximal ill-formed part
-/// (Unicode, section 3.9) on Unix and each surrogate on Windows; on wasm the lossy text is the
+/// (Unicode, section 3.9) on Unix and each surrogate on Windows. On wasm the lossy text is the
 /// string. The units of the part of a chunk are at least 80 (hexadecimal) on Unix and lone
-/// surrogates on Windows; on wasm there are none.
+/// surrogates on Windows. On wasm there are none.
 pub fn platforms()
     ensures unix { IsPlatform ⟦<Unix as Platform>⟧ (All IsByte) (AreItself (All IsByte))
         (All IsByte) IsNoFault (All IsByte) IsLossyText IsIllFormedPart AreAboveAscii }
@@ -37,8 +37,9 @@ pub fn platforms()
     lossy_text();
 }
 
-/// How the platforms read arbitrary bytes lossily. On Unix they stay as they are; U+FFFD replaces
-/// on Windows each refused part, on wasm each maximal ill-formed part (Unicode, section 3.9).
+/// How the platforms read arbitrary bytes lossily. On Unix the bytes stay as they are. U+FFFD
+/// replaces each rejected part on Windows and each maximal ill-formed part on wasm (Unicode,
+/// section 3.9).
 pub fn platform_readings()
     ensures unix { (b : List ℕ) → (c : List ℕ) → ⟦<Unix as Platform>⟧.reads_as b c ↔ (c ≡ b) }
     ensures windows { (b : List ℕ) → (c : List ℕ) → ⟦<Windows as Platform>⟧.reads_as b c

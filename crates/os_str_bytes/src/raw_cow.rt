@@ -25,7 +25,7 @@ pub trait RawOsStrCow<'a, E: Platform + 'a>: Sized {
     // both values are borrowed, or both are owned and have the same vector
     ghost is_kept: { Self.OsStrCow → Self → Type 0 };
 
-    /// The same string, borrowed or moved in its own vector.
+    /// Converts the platform's own type to a raw string, borrowed or moved in its own vector.
     ///
     /// ```
     /// use os_str_bytes::{CowRawOsStr, OsStr, OsStrCow, RawOsStrCow, Unix};
@@ -37,7 +37,7 @@ pub trait RawOsStrCow<'a, E: Platform + 'a>: Sized {
         ensures bytes { bytes_of result ≡ os_bytes_of string }
         ensures kept { is_kept string result };
 
-    /// The same string, borrowed or moved in its own vector.
+    /// Converts the raw string to the platform's own type, borrowed or moved in its own vector.
     ///
     /// ```
     /// use os_str_bytes::{OsStr, RawOsStr, RawOsStrCow, Unix};

@@ -89,7 +89,8 @@ impl<'a, E: Platform> RawOsStr<'a, E> {
         RawOsStr::new(range.index(self.string))
     }
 
-    /// The same as [`RawOsStr::index`], as std's `str::get_unchecked`, but safe.
+    /// The part of the string in the range, as [`RawOsStr::index`]. It has the name of std's
+    /// `str::get_unchecked`, but is safe.
     ///
     /// ```
     /// use os_str_bytes::{RawOsStr, Unix};
@@ -198,8 +199,8 @@ impl<'a, E: Platform> RawOsStr<'a, E> {
         self.string.ends_with(pattern)
     }
 
-    /// Whether the units of the string start with the units of `prefix`; half of a surrogate pair
-    /// counts.
+    /// Whether the units of the string start with the units of `prefix`. Half of a surrogate pair
+    /// counts as a unit.
     ///
     /// ```
     /// use os_str_bytes::{OsString, RawOsStr, RawOsString, Windows};
@@ -213,8 +214,8 @@ impl<'a, E: Platform> RawOsStr<'a, E> {
         self.string.starts_with_os(prefix.string)
     }
 
-    /// Whether the units of the string end with the units of `suffix`; half of a surrogate pair
-    /// counts.
+    /// Whether the units of the string end with the units of `suffix`. Half of a surrogate pair
+    /// counts as a unit.
     ///
     /// ```
     /// use os_str_bytes::{OsString, RawOsStr, RawOsString, Windows};
@@ -263,8 +264,8 @@ impl<'a, E: Platform> RawOsStr<'a, E> {
         Some(RawOsStr::new(self.string.strip_suffix(pattern)?))
     }
 
-    /// The string with all prefixes that match the pattern repeatedly removed; the whole string if
-    /// the pattern is empty.
+    /// The string with all prefixes that match the pattern repeatedly removed. If the pattern is
+    /// empty, it is the whole string.
     ///
     /// ```
     /// use os_str_bytes::{RawOsStr, Unix};
@@ -278,8 +279,8 @@ impl<'a, E: Platform> RawOsStr<'a, E> {
         RawOsStr::new(self.string.trim_start_matches(pattern))
     }
 
-    /// The string with all suffixes that match the pattern repeatedly removed; the whole string if
-    /// the pattern is empty.
+    /// The string with all suffixes that match the pattern repeatedly removed. If the pattern is
+    /// empty, it is the whole string.
     ///
     /// ```
     /// use os_str_bytes::{RawOsStr, Unix};
@@ -393,8 +394,8 @@ impl<'a, E: Platform> RawOsStr<'a, E> {
     // Characters.
 
     /// The first character and the rest of the string, or `None` if the string doesn't start with a
-    /// whole character (own call; if the string is a text, what std's `str::chars` gives: `next`
-    /// the character and `as_str` the rest).
+    /// whole character (own call). On valid UTF-8, the character is what `next` of std's
+    /// `str::chars` returns, and the rest is its `as_str`.
     ///
     /// ```
     /// use os_str_bytes::{RawOsStr, Unix};
@@ -414,8 +415,8 @@ impl<'a, E: Platform> RawOsStr<'a, E> {
     }
 
     /// The last character and the rest of the string, or `None` if the string doesn't end with a
-    /// whole character (own call; if the string is a text, what std's `str::chars` gives by
-    /// `next_back`).
+    /// whole character (own call). On valid UTF-8, it is what `next_back` of std's `str::chars`
+    /// returns.
     ///
     /// ```
     /// use os_str_bytes::{RawOsStr, Unix};
@@ -464,7 +465,8 @@ impl<'a, E: Platform> RawOsStr<'a, E> {
     // Symbols.
 
     /// The string's symbols, one by one: its whole characters, and the units of what isn't text
-    /// (own call; if the string is a text, what std's `str::chars` gives). It doesn't allocate.
+    /// (own call). On valid UTF-8, they are the characters that std's `str::chars` yields. It
+    /// doesn't allocate.
     ///
     /// ```
     /// use os_str_bytes::{RawOsStr, Symbol, Unix};
@@ -492,7 +494,7 @@ impl<'a, E: Platform> RawOsStr<'a, E> {
     ///
     /// # Errors
     ///
-    /// `AllocError` if the memory is refused, or if `count` times the number of bytes is more than
+    /// `AllocError` if the allocation fails, or if `count` times the number of bytes is more than
     /// `usize::MAX`.
     ///
     /// ```

@@ -44,7 +44,7 @@ impl<'a, E: Platform> RawOsStr<'a, E> {
         RawOsStr { string }
     }
 
-    /// The same as [`RawOsStr::new`].
+    /// The string as a raw string, as [`RawOsStr::new`].
     ///
     /// ```
     /// use os_str_bytes::{OsStr, RawOsStr, Unix};
@@ -57,7 +57,7 @@ impl<'a, E: Platform> RawOsStr<'a, E> {
         RawOsStr::new(string)
     }
 
-    /// The raw string of a text; every text is a string of every platform.
+    /// The raw string of a `str`. Every `str` is a string of every platform.
     ///
     /// ```
     /// use os_str_bytes::{RawOsStr, Wasm};
@@ -70,8 +70,8 @@ impl<'a, E: Platform> RawOsStr<'a, E> {
         RawOsStr::new(OsStr::new(text))
     }
 
-    /// The raw string of well-formed bytes (test: [`Platform::check`]). It is safe, and the
-    /// counterpart of std's `OsStr::from_encoded_bytes_unchecked`.
+    /// The raw string of well-formed bytes (test: [`Platform::check`]). This call is safe, unlike
+    /// its counterpart, std's `OsStr::from_encoded_bytes_unchecked`.
     ///
     /// ```
     /// use os_str_bytes::{RawOsStr, Unix};
@@ -86,14 +86,14 @@ impl<'a, E: Platform> RawOsStr<'a, E> {
         RawOsStr::new(OsStr::from_encoded_bytes_unchecked(encoded))
     }
 
-    /// The raw string of raw bytes, as a view of them (own call): [`RawOsStr::cow_from_raw_bytes`]
-    /// answers a value that may be borrowed or owned. It doesn't allocate.
+    /// The raw string of raw bytes, as a view of them (own call). It doesn't allocate. In contrast,
+    /// [`RawOsStr::cow_from_raw_bytes`] returns a value that may be borrowed or owned.
     ///
     /// On Windows ED A0 80 (hexadecimal) is accepted, and ED A0 80 ED B0 80 isn't.
     ///
     /// # Errors
     ///
-    /// The first fault of the bytes if they aren't well formed: what [`Platform::check`] answers.
+    /// The first fault of the bytes if they aren't well formed, as [`Platform::check`] returns it.
     ///
     /// ```
     /// use os_str_bytes::{EncodingError, RawOsStr, Windows};
@@ -125,7 +125,8 @@ impl<'a, E: Platform> RawOsStr<'a, E> {
         CowRawOsStr::Borrowed(RawOsStr::from_encoded_bytes_unchecked(raw))
     }
 
-    /// The same as [`RawOsStr::assert_cow_from_raw_bytes`].
+    /// The raw string of well-formed bytes, as [`RawOsStr::assert_cow_from_raw_bytes`] (test:
+    /// [`RawOsStr::cow_from_raw_bytes`]).
     ///
     /// ```
     /// use os_str_bytes::{RawOsStr, Unix};
@@ -220,7 +221,7 @@ impl<'a, E: Platform> RawOsStr<'a, E> {
         ByteCow::Borrowed(self.as_encoded_bytes())
     }
 
-    /// The string as a text, or `None` if it isn't UTF-8 (std's `OsStr::to_str`). It doesn't
+    /// The string as a `str`, or `None` if it isn't valid UTF-8 (std's `OsStr::to_str`). It doesn't
     /// allocate.
     ///
     /// ```
@@ -236,12 +237,12 @@ impl<'a, E: Platform> RawOsStr<'a, E> {
         self.string.to_str()
     }
 
-    /// The lossy text (std's `OsStr::to_string_lossy`). If the string is UTF-8 it is the string
-    /// itself, which doesn't allocate, else a text with U+FFFD for what isn't text.
+    /// The lossy text (std's `OsStr::to_string_lossy`). If the string is valid UTF-8, it is the
+    /// string itself, without allocating. Otherwise it is a text with U+FFFD for what isn't text.
     ///
     /// # Errors
     ///
-    /// `AllocError` if the memory is refused.
+    /// `AllocError` if the allocation fails.
     ///
     /// ```
     /// use os_str_bytes::{RawOsStr, Unix};
@@ -256,8 +257,8 @@ impl<'a, E: Platform> RawOsStr<'a, E> {
         self.string.to_string_lossy(alloc)
     }
 
-    /// The lossy text, for printing (std's `OsStr::display`): `{}` writes the text that
-    /// [`RawOsStr::to_str_lossy`] gives. It doesn't allocate.
+    /// The lossy text, for printing (std's `OsStr::display`). `{}` writes the text that
+    /// [`RawOsStr::to_str_lossy`] returns. It doesn't allocate.
     ///
     /// ```
     /// use os_str_bytes::{OsString, RawOsString, Windows};
@@ -290,7 +291,7 @@ impl<'a, E: Platform> RawOsStr<'a, E> {
     ///
     /// # Errors
     ///
-    /// `AllocError` if the memory is refused.
+    /// `AllocError` if the allocation fails.
     ///
     /// ```
     /// use os_str_bytes::{RawOsStr, Unix};
@@ -305,7 +306,7 @@ impl<'a, E: Platform> RawOsStr<'a, E> {
         Ok(RawOsString::new(self.string.to_owned(alloc)?))
     }
 
-    /// Whether the string equals this text (own call; `==` between the types in the Rust crate).
+    /// Whether the string equals this `str` (own call; `==` between the types in the Rust crate).
     ///
     /// ```
     /// use os_str_bytes::{RawOsStr, Unix};

@@ -120,7 +120,7 @@ impl<E: Platform, A: Allocator> RawOsString<E, A> {
     ///
     /// # Errors
     ///
-    /// The first fault of the bytes if they aren't well formed; the vector is then dropped.
+    /// The first fault of the bytes if they aren't well formed. The vector is then dropped.
     ///
     /// ```
     /// use os_str_bytes::{EncodingError, RawOsString, Windows};
@@ -219,7 +219,7 @@ impl<E: Platform, A: Allocator> RawOsString<E, A> {
         self.truncate(0);
     }
 
-    /// Keeps the bytes before a boundary and removes the others; an index past the length changes
+    /// Keeps the bytes before a boundary and removes the others. An index past the length changes
     /// nothing (test: [`RawOsString::is_boundary`], or a comparison with the length). The units
     /// that are kept and those of the bytes that are removed, joined, are the string's. It neither
     /// allocates nor frees memory.
@@ -243,12 +243,12 @@ impl<E: Platform, A: Allocator> RawOsString<E, A> {
         self.vec.truncate(at);
     }
 
-    /// Splits off the bytes from a boundary on (test: [`RawOsString::is_boundary`]), into a string
-    /// of their own; the bytes before it stay. The units of both, joined, are the string's.
+    /// Splits off the bytes from a boundary on (test: [`RawOsString::is_boundary`]), into a new
+    /// string. The bytes before it stay. The units of both, joined, are the string's.
     ///
     /// # Errors
     ///
-    /// `AllocError` if the memory is refused; the string is then as it was.
+    /// `AllocError` if the allocation fails. The string is then unchanged.
     ///
     /// ```
     /// use os_str_bytes::{RawOsString, Unix};
@@ -281,7 +281,7 @@ impl<E: Platform, A: Allocator> RawOsString<E, A> {
     ///
     /// # Errors
     ///
-    /// `AllocError` if the memory is refused.
+    /// `AllocError` if the allocation fails.
     ///
     /// ```
     /// use os_str_bytes::{RawOsString, Unix};
@@ -332,7 +332,7 @@ impl<E: Platform, A: Allocator> RawOsString<E, A> {
     ///
     /// # Errors
     ///
-    /// `AllocError` if the memory is refused; the string is then dropped.
+    /// `AllocError` if the allocation fails. The string is then dropped.
     ///
     /// ```
     /// use os_str_bytes::{RawOsString, Unix};
@@ -400,11 +400,11 @@ impl<E: Platform, A: Allocator> RawOsString<E, A> {
         OsString::from_encoded_bytes_unchecked(self.vec)
     }
 
-    /// The string as a text, in its own memory. It doesn't allocate.
+    /// The string as a `String`, in its own memory. It doesn't allocate.
     ///
     /// # Errors
     ///
-    /// The same string again if it isn't UTF-8.
+    /// The string itself, unchanged, if it isn't valid UTF-8.
     ///
     /// ```
     /// use os_str_bytes::{RawOsString, Unix};
@@ -426,7 +426,7 @@ impl<E: Platform, A: Allocator> RawOsString<E, A> {
             .map_err(RawOsString::new)
     }
 
-    /// Whether the string equals this text (own call; `==` between the types in the Rust crate).
+    /// Whether the string equals this `str` (own call; `==` between the types in the Rust crate).
     ///
     /// ```
     /// use os_str_bytes::{RawOsString, Unix};

@@ -1,4 +1,4 @@
--- The chunks of bytes as a function, and where the first one ends. `AreChunks` of wtf8_core says what chunks are.
+-- The chunks of bytes as a function, and where the first one ends. `AreChunks` of wtf8_core defines chunks.
 use Rattle.std.specs.Prelude.{ℕ, ◌<◌, ◌≤◌, List, ◌++◌, length, take, drop}
 use Rattle.std.specs.{Int.IsInRange, Str.IsUtf8}
 use Rattle.wtf8_core.specs.{Character.WholeCharacter, Chunks.Chunk, Covered.IsCovered, Covered.HasNoCharacter}

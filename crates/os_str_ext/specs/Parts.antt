@@ -1,4 +1,4 @@
--- What contracts say of a part and of a unit: the part's bytes, and the unit's number.
+-- The view that contracts have of a part and of a unit: the part's bytes, and the unit's number.
 use Rattle.std.specs.Prelude.{ℕ, List}
 use Rattle.platform_str.specs.{declared.platform.Platform.Ghosts, Strings.bytes}
 use Rattle.os_str_ext.specs.declared.os_units.{NonUnicodeOsStr.NonUnicodeOsStr, OsUnit.OsUnit}

@@ -21,7 +21,7 @@ pub data SplitsInto (Cuts : List ℕ → List ℕ → List ℕ → Type 0) (Whol
 abbrev pub IsSplit : List ℕ → List ℕ → List (List ℕ) → Type 0
 IsSplit p = SplitsInto (λ s piece rest. SplitsAt IsFirstIndex p s piece rest) (OccursNowhere p)
 
--- the same from the end, each cut at the last occurrence in what is left
+-- the pieces of s between the occurrences of p from the end, each cut at the last one in what is left
 abbrev pub IsRSplit : List ℕ → List ℕ → List (List ℕ) → Type 0
 IsRSplit p = SplitsInto (λ s piece rest. SplitsAt IsLastIndex p s rest piece) (OccursNowhere p)
 

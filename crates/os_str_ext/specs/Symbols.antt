@@ -29,7 +29,7 @@ abbrev pub symbol_bytes : Symbol → List ℕ
 symbol_bytes (Character c) = encode_utf8 c
 symbol_bytes (symbol.Unit u) = unit_bytes (unit_number u)
 
--- what a hasher is fed of a symbol: which of the two it is, and then the character or the unit's number
+-- what a hasher receives for a symbol: which of the two it is, and then the character or the unit's number
 abbrev pub symbol_fed : Symbol → HashWrites
 symbol_fed (Character c) = fed.isize (pos 0) ++ fed.char c
 symbol_fed (symbol.Unit u) = fed.isize (pos 1) ++ fed.u16 (unit_number u)

@@ -1,4 +1,4 @@
-//! Where strings may be cut, and the parts that such cuts give.
+//! The indices at which strings can be cut, and the parts that such cuts return.
 ghost use Rattle.std.specs.Prelude.{◌≡◌, ◌<◌, ◌≤◌, ◌+◌, ◌-◌, ◌↔◌, ◌++◌, IsTrue, length, take, drop};
 ghost use Rattle.wtf8_core.specs.{Character.WholeCharacter, Boundary.IsBoundary};
 ghost use Rattle.platform_str.specs.Strings.{bytes};

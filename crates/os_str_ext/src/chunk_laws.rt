@@ -8,7 +8,7 @@ ghost use Rattle.os_str_ext.specs.Chunks.{IsChunkOf};
 
 use platform_str::Platform;
 
-/// Each chunk of a string is a string without whole characters and then a text, not both empty.
+/// Each chunk of a string is a string without whole characters and then a `str`, not both empty.
 pub fn each_chunk<E: Platform>()
     ensures { (s : List ℕ) → E.well_formed s → (chunks : List Chunk) → AreChunks s chunks
         → All (IsChunkOf E.well_formed) chunks }

@@ -12,14 +12,14 @@ use std::alloc::AllocError;
 use std::marker::Model;
 use std::ops::Range;
 
-/// An iterator over the chunks of a string, from the first on. After `None` it gives only `None`.
+/// An iterator over the chunks of a string, from the first on. After `None` it returns only `None`.
 ///
-/// [`OsStrBytesExt::utf8_chunks`](crate::OsStrBytesExt::utf8_chunks) makes it. A clone has the same
-/// chunks left; cloning doesn't allocate, and its answer is always `Ok`.
+/// [`OsStrBytesExt::utf8_chunks`](crate::OsStrBytesExt::utf8_chunks) makes it. A clone yields the
+/// same remaining chunks. Cloning doesn't allocate, and always returns `Ok`.
 #[derive(Drop)]
 pub struct Utf8Chunks<'a, E: Platform + 'a> {
     rest: OsStr<'a, E>,
-    // No whole character starts at any of the first `uncovered` bytes; this is known from the fault
+    // No whole character starts at any of the first `uncovered` bytes. This is known from the fault
     // at which the text before them ended.
     uncovered: usize,
 }
@@ -57,8 +57,8 @@ impl<'a, E: Platform> Utf8Chunks<'a, E> {
         }
     }
 
-    /// The rest of the string, whose chunks are left (as std's `str::Chars::as_str`). It borrows
-    /// from the original string and doesn't allocate.
+    /// The rest of the string, with the remaining chunks (as std's `str::Chars::as_str`). It
+    /// borrows from the original string and doesn't allocate.
     ///
     /// ```
     /// use os_str_bytes::{OsStr, OsStrBytesExt, Unix};
@@ -117,11 +117,11 @@ fn first_chunk<'a, E: Platform>(
     (part, text, Utf8Chunks { rest, uncovered })
 }
 
-/// The text of the first chunk, which starts where the part ends, and a number of bytes after it at
-/// none of which a whole character starts. None starts at any of the first `uncovered` bytes.
+/// The text of the first chunk, which starts where the part ends, and a number of bytes after it.
+/// No whole character starts at any of these bytes, nor at any of the first `uncovered` bytes.
 ///
-/// The part is skipped fault by fault, by the length of each. A byte with which no character begins
-/// is skipped by itself, without a search.
+/// The part is skipped fault by fault, by the length of each. A byte that can't begin a character
+/// is skipped alone, without a search.
 fn first_text<E: Platform>(bytes: &[u8], uncovered: usize) -> (Range<usize>, usize)
     requires formed { E.well_formed bytes.now }
     requires uncovered { IsUncoveredUpTo bytes.now uncovered }
@@ -155,7 +155,7 @@ fn begins_no_character(byte: u8) -> bool
     byte >= 0x80 && !matches!(byte, 0xC2..=0xF4)
 }
 
-/// The length in bytes of the ill-formed part of a fault; the part may reach the end of the bytes.
+/// The length in bytes of the ill-formed part of a fault. The part may reach the end of the bytes.
 #[inline(always)]
 fn part_len(bytes: &[u8], valid_up_to: usize, error_len: Option<u8>) -> usize
     requires { IsUtf8Fault bytes.now valid_up_to error_len }

@@ -1,10 +1,10 @@
-//! Whether bytes are equal: a pattern's and those at the start or the end of the string.
+//! Compares a pattern's bytes with those at the start or the end of the string.
 ghost use Rattle.std.specs.Prelude.{◌≡◌, ◌+◌, ◌≤◌, ◌↔◌, IsTrue, length, take, drop};
 
 use std::simd::prelude::*;
 
-/// Whether two lists of bytes of the same length are equal. Of two to 32 bytes, the first ones and
-/// the last ones are compared, 2, 4, 8 or 16 at once and without a jump between.
+/// Whether two lists of bytes of the same length are equal. For 2 to 32 bytes, it compares the
+/// first ones and the last ones, 2, 4, 8 or 16 at once, without a branch in between.
 #[inline(always)]
 pub(crate) fn are_same(a: &[u8], b: &[u8]) -> bool
     requires { length a.now ≡ length b.now }
@@ -22,7 +22,7 @@ pub(crate) fn are_same(a: &[u8], b: &[u8]) -> bool
     a == b
 }
 
-/// The same for up to eight bytes.
+/// Whether two lists of up to eight bytes, of the same length, are equal.
 #[inline(always)]
 fn are_same_few(a: &[u8], b: &[u8]) -> bool
     requires lengths { length a.now ≡ length b.now }
@@ -38,7 +38,7 @@ fn are_same_few(a: &[u8], b: &[u8]) -> bool
     a.is_empty() || a[0] == b[0]
 }
 
-/// The same for N to 2 N bytes.
+/// Whether two lists of N to 2 N bytes, of the same length, are equal.
 #[inline(always)]
 fn are_ends_same<const N: usize>(a: &[u8], b: &[u8]) -> bool
     requires lengths { length a.now ≡ length b.now }

@@ -77,7 +77,8 @@ pub trait OsStrBytesExt<'a>: OsStrBytes<'a> {
         ensures units { IsPartInUnits Self.Platform.units (Self.bytes_of self) (I.first_index range)
             (I.end_index range (length (Self.bytes_of self))) (Self.bytes_of result) };
 
-    /// The same as [`OsStrBytesExt::index`], as std's `str::get_unchecked`, but safe.
+    /// The part of the string in the range, as [`OsStrBytesExt::index`]. It has the name of std's
+    /// `str::get_unchecked`, but is safe.
     ///
     /// ```
     /// use os_str_bytes::{OsStr, OsStrBytesExt, Unix};
@@ -171,8 +172,8 @@ pub trait OsStrBytesExt<'a>: OsStrBytes<'a> {
         ensures units { IsTrue result ↔ IsSuffix (Self.Platform.units (P.text pattern))
             (units_of self) };
 
-    /// Whether the units of the string start with the units of `prefix`; half of a surrogate pair
-    /// counts.
+    /// Whether the units of the string start with the units of `prefix`. Half of a surrogate pair
+    /// counts as a unit.
     ///
     /// ```
     /// use os_str_bytes::{OsStrBytesExt, OsString, Windows};
@@ -184,8 +185,8 @@ pub trait OsStrBytesExt<'a>: OsStrBytes<'a> {
     fn starts_with_os(self, prefix: Self) -> bool
         ensures { IsTrue result ↔ IsPrefix (units_of prefix) (units_of self) };
 
-    /// Whether the units of the string end with the units of `suffix`; half of a surrogate pair
-    /// counts.
+    /// Whether the units of the string end with the units of `suffix`. Half of a surrogate pair
+    /// counts as a unit.
     ///
     /// ```
     /// use os_str_bytes::{OsStrBytesExt, OsString, Windows};
@@ -226,8 +227,8 @@ pub trait OsStrBytesExt<'a>: OsStrBytes<'a> {
         ensures units { StripsSuffix units_of (Self.Platform.units (P.text pattern)) (units_of self)
             result };
 
-    /// The string with all prefixes that match the pattern repeatedly removed; the whole string if
-    /// the pattern is empty.
+    /// The string with all prefixes that match the pattern repeatedly removed. If the pattern is
+    /// empty, it is the whole string.
     ///
     /// ```
     /// use os_str_bytes::{OsStr, OsStrBytesExt, Unix};
@@ -239,8 +240,8 @@ pub trait OsStrBytesExt<'a>: OsStrBytes<'a> {
         ensures { Trims Self.Platform.units IsStartTrim (P.text pattern) (Self.bytes_of self)
             (Self.bytes_of result) };
 
-    /// The string with all suffixes that match the pattern repeatedly removed; the whole string if
-    /// the pattern is empty.
+    /// The string with all suffixes that match the pattern repeatedly removed. If the pattern is
+    /// empty, it is the whole string.
     ///
     /// ```
     /// use os_str_bytes::{OsStr, OsStrBytesExt, Unix};
@@ -342,8 +343,8 @@ pub trait OsStrBytesExt<'a>: OsStrBytes<'a> {
     // Characters.
 
     /// The first character and the rest of the string, or `None` if the string doesn't start with a
-    /// whole character (own call; if the string is a text, what std's `str::chars` gives: `next`
-    /// the character and `as_str` the rest).
+    /// whole character (own call). On valid UTF-8, the character is what `next` of std's
+    /// `str::chars` returns, and the rest is its `as_str`.
     ///
     /// ```
     /// use os_str_bytes::{OsStr, OsStrBytesExt, Unix};
@@ -359,8 +360,8 @@ pub trait OsStrBytesExt<'a>: OsStrBytes<'a> {
             ≡ Self.Platform.units (encode_utf8 parts.0) ++ units_of parts.1) };
 
     /// The last character and the rest of the string, or `None` if the string doesn't end with a
-    /// whole character (own call; if the string is a text, what std's `str::chars` gives by
-    /// `next_back`).
+    /// whole character (own call). On valid UTF-8, it is what `next_back` of std's `str::chars`
+    /// returns.
     ///
     /// ```
     /// use os_str_bytes::{OsStr, OsStrBytesExt, Unix};
@@ -406,9 +407,10 @@ pub trait OsStrBytesExt<'a>: OsStrBytes<'a> {
     // Symbols.
 
     /// The string's symbols, one by one: its whole characters, and the units of what isn't text
-    /// (own call; if the string is a text, what std's `str::chars` gives). They are the symbols of
-    /// its chunks: of each chunk, the units of its part and then the characters of its text. Their
-    /// bytes joined are the string, and it has no other list of them. It doesn't allocate.
+    /// (own call). On valid UTF-8, they are the characters that std's `str::chars` yields. They are
+    /// the symbols of its chunks: for each chunk, the units of its part and then the characters of
+    /// its text. Their bytes joined are the string, and it has no other list of them. It doesn't
+    /// allocate.
     ///
     /// ```
     /// use os_str_bytes::{OsStrBytesExt, OsString, Symbol, Windows};
@@ -439,7 +441,7 @@ pub trait OsStrBytesExt<'a>: OsStrBytes<'a> {
     ///
     /// # Errors
     ///
-    /// `AllocError` if the memory is refused, or if `count` times the number of bytes is more than
+    /// `AllocError` if the allocation fails, or if `count` times the number of bytes is more than
     /// `usize::MAX`.
     ///
     /// ```

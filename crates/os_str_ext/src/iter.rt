@@ -78,8 +78,8 @@ impl Direction for FromEnd {
 /// the end: [`Split`] and [`RSplit`].
 ///
 /// It holds the rest of the string and the encoded pattern, and copies no bytes. Cloning doesn't
-/// allocate and its answer is always `Ok`; the clone has the same pieces left. After `None` it
-/// gives only `None`.
+/// allocate and always returns `Ok`. The clone yields the same remaining pieces. After `None` the
+/// iterator returns only `None`.
 pub struct Pieces<'a, E: Platform + 'a, P: Pattern, D: Direction> {
     rest: Option<OsStr<'a, E>>,
     pattern: P::__Encoded,
@@ -114,8 +114,8 @@ impl<'a, E: Platform, P: Pattern, D: Direction> Pieces<'a, E, P, D> {
         }
     }
 
-    /// The rest of the string, whose pieces are left, or `None` once all pieces were given (std's
-    /// `str::Split::remainder`). It borrows from the original string and doesn't allocate.
+    /// The rest of the string, with the remaining pieces, or `None` once all pieces were yielded
+    /// (std's `str::Split::remainder`). It borrows from the original string and doesn't allocate.
     ///
     /// ```
     /// use os_str_bytes::{OsStr, OsStrBytesExt, Unix};

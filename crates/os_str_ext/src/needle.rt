@@ -11,20 +11,21 @@ use wtf8_core::vectors::window::put_in_zeros;
 /// The longest needle that is searched for by two of its bytes, or by its last byte alone.
 const LONGEST: usize = 32;
 
-/// In longer strings the time that `memmem` takes to prepare for a needle pays off, unless its letters
-/// are rare.
+/// In strings longer than this, preparing `memmem` for a needle pays off, unless the needle's
+/// letters are rare.
 const SHORT: usize = 128;
 
-/// The same for a needle of two bytes, which occurs wherever they do.
+/// The limit [`SHORT`] for a needle of two bytes, which occurs wherever its pair of bytes does.
 const SHORT_FOR_TWO: usize = 1024;
 
-/// With so many bytes a search for two of them that are up to three apart reads whole vectors.
+/// With at least this many bytes, a search for two bytes that are up to three apart reads whole
+/// vectors.
 const ENOUGH: usize = 35;
 
-/// The length of a copy of fewer, with zeros after them.
+/// The length of a copy of fewer bytes, with zeros after them.
 const WINDOW: usize = 64;
 
-/// The index of the first occurrence of a needle; a needle of one byte is searched for as a byte.
+/// The index of the first occurrence of a needle. A needle of one byte is searched for as a byte.
 #[inline(always)]
 #[tactic(auto, using(crate::proofs::lemmas::OneByte::first_byte_of_needle))]
 pub(crate) fn first_of(bytes: &[u8], needle: &[u8]) -> Option<usize>
@@ -36,7 +37,7 @@ pub(crate) fn first_of(bytes: &[u8], needle: &[u8]) -> Option<usize>
     first_by_pair(bytes, needle)
 }
 
-/// The index of the last occurrence of a needle; a needle of one byte is searched for as a byte.
+/// The index of the last occurrence of a needle. A needle of one byte is searched for as a byte.
 #[inline(always)]
 #[tactic(auto, using(crate::proofs::lemmas::OneByte::last_byte_of_needle))]
 pub(crate) fn last_of(bytes: &[u8], needle: &[u8]) -> Option<usize>
@@ -79,8 +80,8 @@ fn first_byte(byte: u8, bytes: &[u8]) -> Option<usize>
     indices.next()
 }
 
-/// The index of the first occurrence of a needle, which often is the start. `memmem` searches for long
-/// needles, and in long strings.
+/// The index of the first occurrence of a needle, which often is the start. `memmem` searches for
+/// long needles, and in long strings.
 #[inline(never)]
 fn first_by_pair(bytes: &[u8], needle: &[u8]) -> Option<usize>
     ensures { FindsNeedle bytes.now needle.now 0 result }
@@ -102,7 +103,7 @@ fn first_by_pair(bytes: &[u8], needle: &[u8]) -> Option<usize>
     first_in_short(bytes, needle)
 }
 
-/// The same for any needle and string.
+/// The index of the first occurrence of any needle in any string, by `memmem`.
 #[inline(never)]
 fn first_by_memmem(bytes: &[u8], needle: &[u8]) -> Option<usize>
     ensures { FindsNeedle bytes.now needle.now 0 result }
@@ -142,8 +143,8 @@ fn copied<'a>(bytes: &'a [u8], window: &'a mut [u8; WINDOW]) -> &'a [u8]
     window
 }
 
-/// Two bytes of a needle. Of more than two bytes the first isn't one of them: that is often a
-/// separator, or the first byte of a character, and so more common than those after it.
+/// Two bytes of a needle. If the needle has more than two bytes, the first isn't one of them. It is
+/// often a separator, or the first byte of a character, and so more common than those after it.
 #[inline(always)]
 fn pair_of(needle: &[u8]) -> Option<Pair>
     ensures { IfSome result (λ pair. IsPairOf pair needle.now) }
@@ -155,9 +156,9 @@ fn pair_of(needle: &[u8]) -> Option<Pair>
     }
 }
 
-/// The index of the first occurrence of a needle, by a copy of the bytes, which may go on after them.
-/// The needle is compared where its pair of bytes occurs, at index 0 a second time. After four such
-/// indices where it doesn't occur, `memmem` searches for it.
+/// The index of the first occurrence of a needle, by a copy of the bytes, which may be longer than
+/// they are. The needle is compared where its pair of bytes occurs, at index 0 a second time. After
+/// four such indices where it doesn't occur, `memmem` searches for it.
 #[inline(always)]
 fn first_in_copy(finder: &Finder, bytes: &[u8], copy: &[u8], needle: &[u8]) -> Option<usize>
     requires finder { IsPairFinderOf finder.now needle.now }
@@ -206,8 +207,8 @@ fn first_from(bytes: &[u8], needle: &[u8], from: usize) -> Option<usize>
     }
 }
 
-/// The index of the last occurrence of a needle. The needle is compared where its last byte occurs;
-/// after four such indices where it doesn't end, `memmem` searches what comes before them.
+/// The index of the last occurrence of a needle. The needle is compared where its last byte occurs.
+/// After four such indices where the needle doesn't end, `memmem` searches the bytes before them.
 #[inline(never)]
 fn last_by_end(bytes: &[u8], needle: &[u8]) -> Option<usize>
     ensures { FindsLastNeedle bytes.now needle.now result }

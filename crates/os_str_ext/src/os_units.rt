@@ -138,10 +138,10 @@ impl From<OsUnit> for u64 {
     }
 }
 
-/// An iterator over the units of a part, from the first on. After `None` it gives only `None`.
+/// An iterator over the units of a part, from the first on. After `None` it returns only `None`.
 ///
-/// [`NonUnicodeOsStr::os_units`] makes it. A clone has the same units left; cloning doesn't
-/// allocate, and its answer is always `Ok`.
+/// [`NonUnicodeOsStr::os_units`] makes it. A clone yields the same remaining units. Cloning doesn't
+/// allocate, and always returns `Ok`.
 #[derive(Drop)]
 pub struct OsUnits<'a, E: Platform + 'a> {
     rest: NonUnicodeOsStr<'a, E>,
@@ -159,7 +159,7 @@ impl<'a, E: Platform> Model for OsUnits<'a, E> {
 impl<'a, E: Platform> OsUnits<'a, E> {
     ghost use Rattle.os_str_ext.specs.Parts.{part_bytes};
 
-    /// No units: the units of an empty part.
+    /// Makes an iterator over no units: those of an empty part.
     ///
     /// ```
     /// use os_str_bytes::{OsUnits, Unix};
@@ -172,8 +172,8 @@ impl<'a, E: Platform> OsUnits<'a, E> {
         NonUnicodeOsStr::new(OsStr::new("")).os_units()
     }
 
-    /// The rest of the part, whose units are left. It borrows from the original part and doesn't
-    /// allocate.
+    /// The rest of the part, with the remaining units. It borrows from the original part and
+    /// doesn't allocate.
     ///
     /// ```
     /// use os_str_bytes::{OsStr, OsStrBytesExt, Unix};
@@ -191,8 +191,8 @@ impl<'a, E: Platform> OsUnits<'a, E> {
         self.rest
     }
 
-    /// What [`OsUnits::rest`] gives, as a string (as std's `str::Chars::as_str`). It doesn't
-    /// allocate.
+    /// The rest of the part as a string, as [`OsUnits::rest`] (std's `str::Chars::as_str`). It
+    /// doesn't allocate.
     ///
     /// ```
     /// use os_str_bytes::{OsStr, OsStrBytesExt, Unix};

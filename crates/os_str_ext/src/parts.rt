@@ -24,8 +24,8 @@ pub(crate) fn strip_prefix<'a, E: Platform>(
     Some(split_at(string, text.len()).1)
 }
 
-/// The same as [`starts_with`]. It isn't inlined, so that a caller gets an answer and no jump for each
-/// length of the text.
+/// Whether the bytes start with the text, as [`starts_with`]. It isn't inlined, so a caller
+/// contains one call instead of a branch for each length of the text.
 #[inline(never)]
 fn has_prefix(bytes: &[u8], text: &str) -> bool
     ensures prefix { IsTrue result ↔ IsPrefix text.now bytes.now }

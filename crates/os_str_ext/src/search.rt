@@ -1,4 +1,4 @@
-//! Where a text occurs in bytes.
+//! Searches for a text in bytes.
 ghost use Rattle.std.specs.Prelude.{◌+◌, ◌-◌, ◌^◌, ◌↔◌, ◌<◌, ◌≤◌, IsTrue, IfSome, length};
 ghost use Rattle.wtf8_core.specs.Occurrence.{Finds, IsFirstIndex, IsLastIndex, IsPrefix, IsSuffix};
 ghost use Rattle.wtf8_core.specs.Boundary.{IsBoundary};

@@ -1,4 +1,4 @@
-//! Laws of patterns, and of what comes before and after an occurrence of one.
+//! Laws of patterns, and of the parts before and after an occurrence of one.
 //!
 //! Each law is the contract of a function that does nothing. They are about lists, so each holds of
 //! bytes and of units.
@@ -11,8 +11,8 @@ ghost use Rattle.wtf8_core.specs.Occurrence.{OccursNowhere, IsFirstIndex, IsLast
 use crate::pattern::Pattern;
 
 /// A pattern that isn't empty doesn't occur in the part before its first occurrence, nor in the
-/// part after its last one. So it doesn't occur in the first part that `split_once` gives, nor in
-/// the last part that `rsplit_once` gives.
+/// part after its last one. So it doesn't occur in the first part that `split_once` returns, nor in
+/// the last part that `rsplit_once` returns.
 pub fn around_index()
     ensures before_first { (p : List ℕ) → (s : List ℕ) → (prefix : List ℕ) → (suffix : List ℕ)
         → 0 < length p

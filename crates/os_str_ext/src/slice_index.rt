@@ -50,7 +50,8 @@ pub trait SliceIndex: Sized {
         ensures units { IsPartInUnits E.units (bytes string.entry) (first_index self)
             (end_index self (length (bytes string.entry))) (bytes result) };
 
-    /// The same part as [`SliceIndex::index`], as std's `str::get_unchecked`, but safe.
+    /// The part of the string in the range, as [`SliceIndex::index`]. It has the name of std's
+    /// `str::get_unchecked`, but is safe.
     ///
     /// ```
     /// use os_str_bytes::{OsStr, SliceIndex, Unix};
@@ -162,7 +163,7 @@ fn fits<E: Platform>(string: OsStr<'_, E>, start: usize, end: usize) -> bool
     start <= end && end <= bytes.len() && is_boundary(bytes, start) && is_boundary(bytes, end)
 }
 
-/// The same for the bytes from index `start` to index `last` (inclusive).
+/// Whether the bytes from index `start` to index `last` (inclusive) are a part that may be cut out.
 fn fits_inclusive<E: Platform>(string: OsStr<'_, E>, start: usize, last: usize) -> bool
     ensures { IsTrue result ↔ FitsIn (bytes string.entry) start (last + 1) }
 {

@@ -10,7 +10,7 @@ use platform_str::Platform;
 use std::hash::Hash;
 
 /// A string has exactly one list of symbols, and the bytes of the symbols, joined, are the string.
-/// The bytes of a character are those that std's `char::encode_utf8` writes; the bytes of a unit
+/// The bytes of a character are those that std's `char::encode_utf8` writes. The bytes of a unit
 /// are its own.
 pub fn symbols<E: Platform>()
     ensures some { (s : List ℕ) → (symbols : List Symbol) × AreSymbols E.units s symbols }
@@ -20,9 +20,9 @@ pub fn symbols<E: Platform>()
         → AreSymbols E.units s symbols → flat_map symbol_bytes symbols ≡ s }
 {}
 
-/// Symbols are equal where both are the same character, or units of the same number. A hasher is fed
-/// which of the two it is, as an `isize`, and then the character or the unit's number, so equal
-/// symbols hash alike.
+/// Symbols are equal where both are the same character, or units of the same number. A hasher
+/// receives which of the two it is, as an `isize`, and then the character or the unit's number. So
+/// equal symbols have equal hashes.
 pub fn symbol_comparisons(a: &Symbol, b: &Symbol)
     ensures equal { IsTrue (⟦<Symbol as PartialEq>⟧.eq a.now b.now) ↔ (a.now ≡ b.now) }
     ensures hash { ⟦<Symbol as Hash>⟧.hash_input a.now ≡ symbol_fed a.now }

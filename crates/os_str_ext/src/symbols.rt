@@ -23,10 +23,11 @@ pub enum Symbol {
     Unit(OsUnit),
 }
 
-/// An iterator over the symbols of a string, from the first on. After `None` it gives only `None`.
+/// An iterator over the symbols of a string, from the first on. After `None` it returns only
+/// `None`.
 ///
-/// [`OsStrBytesExt::symbols`](crate::OsStrBytesExt::symbols) makes it. A clone has the same symbols
-/// left; cloning doesn't allocate, and its answer is always `Ok`.
+/// [`OsStrBytesExt::symbols`](crate::OsStrBytesExt::symbols) makes it. A clone yields the same
+/// remaining symbols. Cloning doesn't allocate, and always returns `Ok`.
 #[derive(Drop)]
 pub struct Symbols<'a, E: Platform + 'a> {
     rest: OsStr<'a, E>,
@@ -62,8 +63,8 @@ impl<'a, E: Platform> Symbols<'a, E> {
         Symbols { rest: string }
     }
 
-    /// The rest of the string, whose symbols are left (as std's `str::Chars::as_str`). It borrows
-    /// from the original string and doesn't allocate.
+    /// The rest of the string, with the remaining symbols (as std's `str::Chars::as_str`). It
+    /// borrows from the original string and doesn't allocate.
     ///
     /// ```
     /// use os_str_bytes::{OsStr, OsStrBytesExt, Symbol, Unix};
@@ -96,7 +97,7 @@ impl<'a, E: Platform> Iterator for Symbols<'a, E> {
     }
 }
 
-/// The first symbol of a string, and what comes after it; `None` if the string is empty.
+/// The first symbol of a string and the rest of the string, or `None` if the string is empty.
 #[inline(always)]
 fn split_first_symbol<E: Platform>(string: OsStr<'_, E>) -> Option<(Symbol, OsStr<'_, E>)>
     ensures { MatchOption result (symbols_of E.units (bytes string.entry) ≡ [])

@@ -1,11 +1,11 @@
--- The words that ask for each command.
+-- The arguments that specify each command.
 use Rattle.std.specs.Prelude.{◌≡◌, ℕ, List, [], ◌∷◌, length, codes}
 use Rattle.program_frame.specs.Os.{os_word}
 use Rattle.program_frame.specs.declared.os.Os.{Os}
 use Rattle.osbytes_commands.specs.declared.command.Command.{Command}
 use Rattle.osbytes_commands.specs.declared.command.Command.TheVariants.{Units, Raw, Find, Split, Chunks, Quote, Unquote}
 
--- the words after the program's name that ask for the command
+-- the arguments after the program's name that specify the command
 abbrev pub words_of : Command → List (List ℕ)
 words_of (Units os) = codes "units" ∷ os_word os ∷ []
 words_of (Raw os) = codes "raw" ∷ os_word os ∷ []

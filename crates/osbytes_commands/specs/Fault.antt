@@ -7,7 +7,7 @@ use Rattle.program_frame.specs.declared.fault.Failure.TheVariants as failure
 use Rattle.osbytes_commands.specs.declared.fault.Fault.{Fault}
 use Rattle.osbytes_commands.specs.declared.fault.Fault.TheVariants.{Refused, BadLine, BadQuote, Usage, Memory, Read, Write}
 
--- what the program prints of the fault; want of memory is a fault of its own
+-- what the program prints of the fault; out of memory is a fault of its own
 abbrev pub text_of : Fault → List ℕ
 text_of (Refused error) = fault_text error
 text_of (BadLine number) = codes "line " ++ (decimal number ++ codes " is not a unit")

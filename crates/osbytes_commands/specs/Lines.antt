@@ -42,7 +42,7 @@ pub record AreUnitLines (os : Os) (bytes us : List ℕ) : Type 0 where
 abbrev pub BeginsWithUnitLine : Os → List ℕ → Type 0
 BeginsWithUnitLine os bytes = (u : ℕ) × IsUnit os u × ((rest : List ℕ) × (bytes ≡ unit_line os u ++ rest))
 
--- the first line that is no unit's, counted from 1: the lines before it are units', and the bytes from it on begin with none
+-- the first line that isn't a unit's, counted from 1: the lines before it are units', and the bytes from it on begin with none
 pub record IsFirstBadLine (os : Os) (bytes : List ℕ) (number : ℕ) : Type 0 where
   pub before : List ℕ
   pub from : List ℕ

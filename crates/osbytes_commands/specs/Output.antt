@@ -19,7 +19,7 @@ use Rattle.osbytes_commands.specs.Command.{os_of}
 use Rattle.osbytes_commands.specs.Lines.{unit_lines, index_line, piece_lines, chunk_lines, AreUnitLines, IsFirstBadLine}
 use Rattle.program_frame.specs.Strings.{strings}
 
--- the first line that the command can't read: for `raw` the first that is no unit's
+-- the first line that the command can't read: for `raw` the first that isn't a unit's
 abbrev pub HasBadLine : Command → List ℕ → ℕ → Type 0
 HasBadLine (Units os) input number = ⊥
 HasBadLine (Raw os) input number = IsFirstBadLine os input number
@@ -29,7 +29,7 @@ HasBadLine (Chunks os) input number = ⊥
 HasBadLine (Quote os) input number = ⊥
 HasBadLine (Unquote os) input number = ⊥
 
--- on a platform that says this of its strings:
+-- on a platform with these properties of its strings:
 module _ {E : Type 0} (p : Ghosts E) where
   -- the first index of the pattern in the input, None where it doesn't occur: in their bytes, and in their units
   abbrev pub FindsFirst : List ℕ → List ℕ → Option ℕ → Type 0
@@ -49,7 +49,7 @@ module _ {E : Type 0} (p : Ghosts E) where
   IsOutputOn (Quote os) input output = p.well_formed input × IsEscape p.units input output
   IsOutputOn (Unquote os) input output = p.well_formed output × IsEscape p.units output input
 
-  -- `units`, `find`, `chunks`, `quote`, and `split` of a pattern that isn't empty: the first fault of bytes that are no string; `raw`: that of the bytes that units on the lines would be, which no string has; `unquote`: that of bytes that are no UTF-8
+  -- the fault of an invalid input. For `units`, `find`, `chunks`, `quote`, and `split` of a pattern that isn't empty, it is the first fault of bytes that aren't a string. For `raw` it is the first fault of the bytes that the units on the lines would encode, if they aren't the units of a string. For `unquote` it is the first fault of invalid UTF-8.
   abbrev pub HasFaultOn : Command → List ℕ → EncodingError → Type 0
   HasFaultOn (Units os) input error = p.first_fault input error
   HasFaultOn (Find os pattern) input error = p.first_fault input error
@@ -59,7 +59,7 @@ module _ {E : Type 0} (p : Ghosts E) where
   HasFaultOn (Unquote os) input error = IsTextFault input error
   HasFaultOn (Raw os) input error = (us : List ℕ) × AreUnitLines os input us × (¬ (p.is_unit_list us)) × p.first_fault us error
 
-  -- `unquote`: why a text is the escape of no string
+  -- `unquote`: why a text isn't the escape of a string
   abbrev pub HasBadQuoteOn : Command → List ℕ → QuoteError → Type 0
   HasBadQuoteOn (Units os) input error = ⊥
   HasBadQuoteOn (Raw os) input error = ⊥
@@ -79,11 +79,11 @@ module _ {E : Type 0} (p : Ghosts E) where
   IsRefusalOn command input Read = ⊥
   IsRefusalOn command input Write = ⊥
 
-  -- the faults that the command may end with: what it refuses the input with, and want of memory
+  -- the faults that the command may end with: that of an invalid input, and out of memory
   abbrev pub IsFaultOn : Command → List ℕ → Fault → Type 0
   IsFaultOn command input fault = (fault ≡ Memory) ⊎ IsRefusalOn command input fault
 
-  -- r is the first fault of bytes that are no string: it is found before any memory is asked for
+  -- r is the first fault of bytes that aren't a string; it is found before any memory is allocated
   abbrev pub RefusesNoString : {T : Type 0} → List ℕ → Result T Fault → Type 0
   RefusesNoString input r = (error : EncodingError) → p.first_fault input error → r ≡ Err (Refused error)
 
@@ -99,7 +99,7 @@ IsRefusal command = IsRefusalOn (strings (os_of command)) command
 abbrev pub IsFault : Command → List ℕ → Fault → Type 0
 IsFault command = IsFaultOn (strings (os_of command)) command
 
--- the faults that say what is wrong with the input
+-- the faults that state what is wrong with the input
 abbrev pub IsOfInput : Fault → Type 0
 IsOfInput (Refused error) = Unit {0}
 IsOfInput (BadLine number) = Unit {0}

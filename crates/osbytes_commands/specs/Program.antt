@@ -11,7 +11,7 @@ use Rattle.osbytes_commands.specs.Run.{WritesOutput, WritesBeginning, RefusesInp
 abbrev pub AreNoCommand : List (List ℕ) → Type 0
 AreNoCommand words = (command : Command) → words ≡ words_of command → IsUnusable command
 
--- what `run` says of the command, its input, what its writer held and holds, and its answer
+-- what `run` ensures of the command, its input, what its writer held and holds, and its result
 pub record IsOutcome {T : Type 0} (command : Command) (input old new : Option (List ℕ)) (answer : Result T Fault) : Type 0 where
   pub written : OnOk answer (WritesOutput command input old new)
   pub of_input : IfErr answer (λ fault. IsOfInput fault → RefusesInput command input fault)

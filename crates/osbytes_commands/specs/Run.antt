@@ -21,7 +21,7 @@ WritesBeginning command input old new =
 abbrev pub RefusesInput : Command → Option (List ℕ) → Fault → Type 0
 RefusesInput command input fault = IfSome input (λ bytes. IsRefusal command bytes fault)
 
--- where the command refuses the input with a fault, the answer is that fault, unless a read failed or memory was refused
+-- if the command rejects the input with a fault, the result is that fault, unless a read failed or memory was refused
 abbrev pub AnswersRefusal : {T : Type 0} → Command → Option (List ℕ) → Result T Fault → Type 0
 AnswersRefusal command input answer =
     IfSome input (λ bytes. (fault : Fault) → IsRefusal command bytes fault

@@ -36,7 +36,7 @@ pub fn answer<A: Allocator + Copy>(
     }
 }
 
-/// The same on the command's platform.
+/// Returns the output of the command on its platform, as `answer` does on any.
 fn answer_on<E: Target, A: Allocator + Copy>(
     alloc: A,
     command: Command<'_>,

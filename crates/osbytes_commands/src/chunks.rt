@@ -13,8 +13,8 @@ use std::alloc::{AllocError, Allocator};
 
 /// The lines of the chunks of a string, or the first fault of its bytes.
 ///
-/// A fault is found before any memory is asked for. For 66 6F 80 FF 6F (hexadecimal) on Unix
-/// the lines are `- 666f` and `80ff 6f`.
+/// A fault is found before any memory is allocated. For 66 6F 80 FF 6F (hexadecimal) on Unix the
+/// lines are `- 666f` and `80ff 6f`.
 pub fn chunks<E: Target, A: Allocator>(alloc: A, input: &[u8]) -> Result<Vec<u8, A>, Fault>
     ensures output { IfOk result (λ output. IsOutputOn ⟦<E as Platform>⟧ (Chunks E.os) input.now
         output.items) }

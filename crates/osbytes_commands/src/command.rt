@@ -1,4 +1,4 @@
-//! Commands, and the words that ask for them.
+//! Commands, and the arguments that name them.
 ghost use Rattle.std.specs.Prelude.{◌≡◌, ◌≢◌, ◌↔◌, IsTrue, IfOk, IfErr, OnErr, map, string_bytes};
 ghost use Rattle.osbytes_commands.specs.Command.{os_of, words_of, IsUnusable};
 ghost use Rattle.osbytes_commands.specs.declared.command.Command.{Command};
@@ -6,7 +6,7 @@ ghost use Rattle.osbytes_commands.specs.declared.command.Command.{Command};
 use crate::fault::Fault;
 use program_frame::os::Os;
 
-/// What the program is asked to do with its input.
+/// What the program does with its input.
 #[derive(Clone, Copy, PartialEq, Eq)]
 pub enum Command<'a> {
     /// `units`: reads the bytes of a string, and writes its units, each on a line.
@@ -72,8 +72,9 @@ impl<'a> Command<'a> {
         }
     }
 
-    /// The command that the words after the program's name ask for: the command's name, the
-    /// platform's and, for `find` and `split`, the pattern, and nothing else. It takes no memory.
+    /// Returns the command that the arguments after the program's name specify. They are the
+    /// command's name, the platform's and, for `find` and `split`, the pattern, and nothing else.
+    /// It doesn't allocate.
     ///
     /// # Errors
     ///

@@ -19,12 +19,12 @@ use std::fmt::Display as _;
 pub enum Fault {
     /// The input is not the bytes of a string of the platform.
     Refused(EncodingError),
-    /// This line of the input, counted from 1, is the first that is no unit's.
+    /// This line of the input, counted from 1, is the first that isn't a unit's.
     BadLine(usize),
-    /// The input is the escape of no string of the platform. Want of memory is
-    /// [`Fault::Memory`], also in quoting.
+    /// The input isn't the escape of a string of the platform. Out of memory is [`Fault::Memory`],
+    /// also in quoting.
     BadQuote(QuoteError),
-    /// The words ask for no command.
+    /// The arguments name no command.
     Usage,
     /// A request for memory was refused.
     Memory,
@@ -70,8 +70,8 @@ impl ProgramFault for Fault {
 
     ghost printed = { λ _. refl };
 
-    /// The status that the program ends with: 1 for input that it refuses, 2 for its
-    /// words, 3 for want of memory, and 4 for a failed read or write. That of `BadLine(2)` is 1.
+    /// The status that the program ends with: 1 for invalid input, 2 for its arguments, 3 if it is
+    /// out of memory, and 4 for a failed read or write. That of `BadLine(2)` is 1.
     ///
     /// ```
     /// use program_frame::ended::ProgramFault;

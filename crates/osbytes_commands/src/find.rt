@@ -12,7 +12,7 @@ use std::alloc::{AllocError, Allocator};
 
 /// The line of the first index of a pattern in a string, or the first fault of its bytes.
 ///
-/// A fault is found before any memory is asked for. For F0 90 80 80 61 (hexadecimal) and the
+/// A fault is found before any memory is allocated. For F0 90 80 80 61 (hexadecimal) and the
 /// pattern `a` on Windows the line is `4`, for `b` it is `none`.
 pub fn find<E: Target, A: Allocator>(
     alloc: A,

@@ -1,8 +1,8 @@
 //! What the program `osbytes` does, over ends of any kind: platform strings as bytes and as units.
 //!
-//! Words are a command ([`Command::parse`](command::Command::parse)). It reads all of its input,
-//! makes the whole output of it, and then writes that ([`run::run`]). Where it can't, the text of
-//! a [`Fault`](fault::Fault) says why ([`program::execute`]).
+//! The arguments specify a command ([`Command::parse`](command::Command::parse)). It reads all of
+//! its input, makes the whole output, and then writes it ([`run::run`]). If it can't, the text of a
+//! [`Fault`](fault::Fault) states why ([`program::execute`]).
 //!
 //! Two of its calls have a `requires`: [`run::run`] and [`program::execute`] take a reader and a
 //! writer whose marks are unset, as `Marked::new` makes them.

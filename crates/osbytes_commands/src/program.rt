@@ -23,12 +23,13 @@ use std::io::{ErrorKind, Read, Write};
 
 /// The program with these arguments over these ends.
 ///
-/// The arguments begin with the program's name. Those after it are the words of a command
-/// ([`Command::parse`]), which is run as [`run`] says. Where no command that can run has them,
-/// where the arguments couldn't be had, or where the run fails, the fault's message goes to `errors`,
-/// or where not all of it is taken a beginning of it, and nothing else does. Nothing goes there where
-/// nobody reads the output any more ([`Marked::closed`]). Both marks must be unset ([`Marked::failed`]
-/// tells).
+/// The arguments begin with the program's name. Those after it specify a command
+/// ([`Command::parse`]), which [`run`] runs. Both marks must be unset (test: [`Marked::failed`]).
+///
+/// The message of a fault goes to `errors`, and nothing else does. The fault is that no command
+/// that can run has the arguments, that they aren't available, or that the run fails. If not all of
+/// the message is taken, a beginning of it is. If the reader of the output is gone
+/// ([`Marked::closed`]), no message is written.
 ///
 /// For the words `units` and `windows` and the input F0 90 80 80 (hexadecimal) it writes
 /// `d800`, a newline, `dc00` and a newline, and its status is 0. For no words it writes the
@@ -100,7 +101,7 @@ pub fn execute<A: Allocator, R: Read, W: Output, E: Messages>(
     }
 }
 
-/// The answer of the run of the command that has these words.
+/// Runs the command that has these arguments, and returns the outcome.
 fn run_words<A: Allocator, R: Read, W: Write>(
     alloc: A,
     words: &[String],

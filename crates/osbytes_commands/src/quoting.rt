@@ -12,7 +12,7 @@ use std::alloc::Allocator;
 
 /// The escape of a string, or the first fault of its bytes.
 ///
-/// A fault is found before any memory is asked for. Of 66 6F 80 FF 6F (hexadecimal) on Unix the
+/// A fault is found before any memory is allocated. Of 66 6F 80 FF 6F (hexadecimal) on Unix the
 /// escape is `fo\x80\xFFo`.
 pub fn quote<E: Target, A: Allocator>(alloc: A, input: &[u8]) -> Result<Vec<u8, A>, Fault>
     ensures output { IfOk result (λ output. IsOutputOn ⟦<E as Platform>⟧ (Quote E.os) input.now
@@ -25,8 +25,8 @@ pub fn quote<E: Target, A: Allocator>(alloc: A, input: &[u8]) -> Result<Vec<u8, 
     Ok(escape(alloc, string)?.into_bytes())
 }
 
-/// The bytes of the string with this escape; or the first fault of bytes that aren't UTF-8, or
-/// why the text is the escape of no string.
+/// Returns the bytes of the string with this escape. The error is the first fault of invalid UTF-8,
+/// or the reason why the text isn't the escape of a string.
 ///
 /// Of `fo\x80\xFFo` on Unix it is 66 6F 80 FF 6F (hexadecimal), of `a\q` [`Fault::BadQuote`]
 /// with the index 1.

@@ -10,8 +10,8 @@ use crate::target::Target;
 use os_str_bytes::{Platform, laws};
 use std::alloc::Allocator;
 
-/// The bytes of the string whose units are on the lines, or the first bad line, or else the
-/// first fault of units that no string has.
+/// Returns the bytes of the string whose units are on the lines. The error is the first bad line,
+/// or else the first fault of units that aren't those of a string.
 ///
 /// For the lines `d800` and `dc00` on Windows they are F0 90 80 80 (hexadecimal).
 pub fn raw<E: Target, A: Allocator + Copy>(alloc: A, input: &[u8]) -> Result<Vec<u8, A>, Fault>
@@ -41,8 +41,8 @@ fn read_units<E: Target, A: Allocator>(alloc: A, input: &[u8]) -> Result<Vec<E::
     Ok(units)
 }
 
-/// The bytes of the string that has these units, or, found before any memory is asked for, the
-/// first fault of units that no string has.
+/// Returns the bytes of the string that has these units. The error is the first fault of units that
+/// aren't those of a string. It is found before any memory is allocated.
 fn encode<E: Target, A: Allocator>(alloc: A, units: &[E::Unit]) -> Result<Vec<u8, A>, Fault>
     requires { All (IsUnit E.os) (map E.number units.now) }
     ensures bytes { IfOk result (λ bytes. E.well_formed bytes.items

@@ -17,15 +17,15 @@ use std::alloc::Allocator;
 use std::io::{Read, Write};
 
 /// Reads all that the reader has, then writes the command's output for it and flushes. Both marks
-/// must be unset ([`Marked::failed`] tells).
+/// must be unset (test: [`Marked::failed`]).
 ///
 /// # Errors
 ///
-/// [`Fault::Read`] exactly where a read failed, [`Fault::Write`] exactly where a write or the flush
-/// did, [`Fault::Memory`] where memory was refused, and [`Fault::Usage`] exactly where the command
+/// [`Fault::Read`] exactly where a read failed. [`Fault::Write`] exactly where a write or the flush
+/// did. [`Fault::Memory`] where memory was refused. [`Fault::Usage`] exactly where the command
 /// can't run ([`Command::is_unusable`]), with nothing read. Every other fault is that of the whole
-/// input. Nothing is written before a fault other than `Write`, and before that one a beginning of
-/// the output.
+/// input. Before `Write` a beginning of the output is written. Before any other fault nothing is
+/// written.
 ///
 /// ```
 /// use osbytes_commands::command::Command;

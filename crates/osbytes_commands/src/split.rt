@@ -14,7 +14,7 @@ use std::alloc::{AllocError, Allocator};
 /// The lines of the pieces of a string between the occurrences of a pattern, or the first fault of
 /// its bytes. The pattern isn't empty (test: `str::is_empty`).
 ///
-/// A fault is found before any memory is asked for. For F0 90 80 80 61 (hexadecimal) and the
+/// A fault is found before any memory is allocated. For F0 90 80 80 61 (hexadecimal) and the
 /// pattern `a` on Windows the lines are `f0908080` and `-`.
 pub fn split<E: Target, A: Allocator>(
     alloc: A,

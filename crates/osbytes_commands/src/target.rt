@@ -7,7 +7,7 @@ use crate::lines::{byte_lines, leading_byte, leading_wide, wide_lines};
 use os_str_bytes::{EncodingError, OsStr, OsString, Platform, Unix, Wasm, Windows, laws};
 use std::alloc::{AllocError, Allocator};
 
-/// A platform that a command can name: what commands ask of it beside [`Platform`].
+/// A platform that a command can name, with what commands require of it besides [`Platform`].
 pub trait Target: Platform {
     /// A unit: a byte, on Windows a number of 16 bits.
     type Unit: Copy;

@@ -11,8 +11,8 @@ use std::alloc::Allocator;
 
 /// The lines of the units of a string, or the first fault of its bytes.
 ///
-/// A fault is found before any memory is asked for. For F0 90 80 80 (hexadecimal) on Windows
-/// the lines are `d800` and `dc00`.
+/// A fault is found before any memory is allocated. For F0 90 80 80 (hexadecimal) on Windows the
+/// lines are `d800` and `dc00`.
 pub fn units<E: Target, A: Allocator>(alloc: A, input: &[u8]) -> Result<Vec<u8, A>, Fault>
     ensures output { IfOk result (λ output. IsOutputOn ⟦<E as Platform>⟧ (Units E.os) input.now
         output.items) }

@@ -1,4 +1,4 @@
--- What of a path's parts an iterator has left. Step words: no public contract names them.
+-- The parts of a path that an iterator has left. Step words: no public contract names them.
 use Rattle.std.specs.Prelude.{◌≡◌, ◌≢◌, ◌⊎◌, ◌≤◌, ◌+◌, ℕ, Bool, true, false, List, [], ◌∷◌, ◌++◌, length}
 use Rattle.path_rules.specs.declared.rules.Rules.{Rules}
 use Rattle.path_rules.specs.declared.rules.Style as whose
@@ -37,7 +37,7 @@ pub data ArePartsLeft (h left : Head) (begun : Bool) (front behind : List Item) 
   none_left : left.prefix.now ≡ [] → left.start ≡ Nothing → left.body.now ≡ [] → ArePartsLeft h left begun front behind
   body_alone : begun ≡ true → left.prefix.now ≡ [] → left.start ≡ Nothing → IsInBody h.rules h.body.now left.body.now behind → ArePartsLeft h left begun front behind
 
--- left of these parts, after so many components
+-- left of these parts, after `count` components
 pub record AreLeftIn (h left : Head) (begun : Bool) (count : ℕ) : Type 0 where
   pub rules : left.rules ≡ h.rules
   pub front : List Item

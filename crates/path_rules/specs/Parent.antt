@@ -22,7 +22,7 @@ IsBelow CurDir = Unit {0}
 IsBelow ParentDir = Unit {0}
 IsBelow (Normal s) = Unit {0}
 
--- the path goes on where the parent ends, with its own last component, and has one component more, which is neither a prefix nor a root; unless that is `.` at the start, what comes after the parent is in the path's body
+-- the path goes on where the parent ends, and has one component more, its last, which is neither a prefix nor a root. What comes after the parent is in the path's body, unless that component is `.` at the start
 pub record IsParent (style : Style) (path parent : List ℕ) : Type 0 where
   pub after : List ℕ
   pub joined : path ≡ parent ++ after

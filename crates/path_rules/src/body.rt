@@ -66,7 +66,7 @@ pub fn next_back_in(rules: Rules, body: &[u8]) -> Option<(&[u8], Component<&[u8]
     }
 }
 
-/// Without the separators and parts at the end that name nothing.
+/// The body without the separators and parts at its end that name nothing.
 pub fn trimmed(rules: Rules, body: &[u8]) -> &[u8]
     ensures items { components_in rules body.now ≡ components_in rules result.now }
     ensures before { (result.now ≡ []) ⊎ IsUpTo rules body.now result.now }

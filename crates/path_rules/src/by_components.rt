@@ -21,12 +21,12 @@ use crate::stripped::first_of;
 use std::cmp::Ordering;
 use std::hash::{Hash, Hasher};
 
-/// A path that is compared, ordered and hashed by its components (std's `==`, `Ord` and `Hash` of
-/// paths), as the key of a map.
+/// A path that is compared, ordered and hashed by its components, for example as the key of a map
+/// (std's `==`, `Ord` and `Hash` of paths).
 ///
-/// Components are compared one by one: a prefix is less than a root, that than `.`, that than `..`,
-/// that than a name, and names are compared as bytes. Prefixes are compared by kind and parts, so
-/// that the drives `C:` and `c:` are the same.
+/// Components are compared one by one. In ascending order they are a prefix, a root, `.`, `..` and
+/// a name. Names are compared as bytes. Prefixes are compared by kind and parts, so the drives `C:`
+/// and `c:` are the same.
 #[derive(Clone, Copy)]
 pub struct ByComponents<'a> {
     prefix: Option<Prefix<&'a [u8]>>,
@@ -34,7 +34,7 @@ pub struct ByComponents<'a> {
 }
 
 impl<'a> ByComponents<'a> {
-    /// The path of a style, for comparisons.
+    /// Wraps the path of a style, for comparisons.
     ///
     /// ```
     /// use path_rules::{ByComponents, Style};
@@ -102,8 +102,8 @@ fn prefix_of(style: Style, path: &[u8]) -> Option<Prefix<&[u8]>>
     }
 }
 
-/// The order of two lists of components. Where both start alike, those are left out that the same
-/// bytes spell.
+/// The order of two lists of components. If both start alike, components that the same bytes spell
+/// are skipped.
 #[inline(always)]
 fn compare_items(a: Head<'_>, b: Head<'_>) -> Ordering
     ensures { result ≡ keys_cmp (item_keys (items_of a.entry)) (item_keys (items_of b.entry)) }
@@ -192,7 +192,7 @@ fn walk_items(a: Head<'_>, b: Head<'_>) -> Ordering
     }
 }
 
-/// The order of two components that are no prefixes.
+/// The order of two components that aren't prefixes.
 fn compare_components(x: Component<&[u8]>, y: Component<&[u8]>) -> Ordering
     ensures { result ≡ key_cmp (item_key (item_of x.entry)) (item_key (item_of y.entry)) }
 {

@@ -9,10 +9,11 @@ use crate::components::Components;
 use crate::prefix::{Prefix, windows_prefix};
 use crate::rules::Style;
 
-/// Whether the first components of the path are those of the base (std's `Path::starts_with`).
+/// Returns `true` if the first components of the path are those of the base (std's
+/// `Path::starts_with`).
 ///
 /// Components are compared, not bytes: `/usr/lib` starts with `/usr/` and not with `/us`. Prefixes
-/// are compared by kind and parts, so that the drives `C:` and `c:` are the same.
+/// are compared by kind and parts, so the drives `C:` and `c:` are the same.
 ///
 /// ```
 /// use path_rules::{Style, starts_with};
@@ -27,7 +28,8 @@ pub fn starts_with(style: Style, path: &[u8], base: &[u8]) -> bool
     starts_alike(Components::new(style, path), Components::new(style, base))
 }
 
-/// Whether the last components of the path are those of the child (std's `Path::ends_with`).
+/// Returns `true` if the last components of the path are those of the child (std's
+/// `Path::ends_with`).
 ///
 /// ```
 /// use path_rules::{Style, ends_with};
@@ -42,7 +44,7 @@ pub fn ends_with(style: Style, path: &[u8], child: &[u8]) -> bool
     ends_alike(Components::new(style, path), Components::new(style, child))
 }
 
-/// Whether the first components left are alike the wanted ones.
+/// Whether the first remaining components are alike the wanted ones.
 fn starts_alike(mut left: Components<'_>, mut wanted: Components<'_>) -> bool
     ensures { IsTrue result ↔ StartsAlike left.entry.items wanted.entry.items }
 {
@@ -59,7 +61,7 @@ fn starts_alike(mut left: Components<'_>, mut wanted: Components<'_>) -> bool
     }
 }
 
-/// Whether the last components left are alike the wanted ones.
+/// Whether the last remaining components are alike the wanted ones.
 fn ends_alike(mut left: Components<'_>, mut wanted: Components<'_>) -> bool
     ensures { IsTrue result ↔ EndsAlike left.entry.items wanted.entry.items }
 {
@@ -76,8 +78,8 @@ fn ends_alike(mut left: Components<'_>, mut wanted: Components<'_>) -> bool
     }
 }
 
-/// Whether two components are alike: prefixes if they are of one kind with the same parts, others if
-/// they are the same.
+/// Returns `true` if two components are alike. Prefixes are alike if they are of one kind with the
+/// same parts, and other components if they are the same.
 ///
 /// ```
 /// use path_rules::Component;

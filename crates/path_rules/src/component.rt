@@ -10,8 +10,7 @@ use crate::rules::Rules;
 /// A component of a path (std's `Component`). Its strings are of type `S`, such as `&[u8]`.
 #[derive(Clone, Copy, Debug, PartialEq, Eq)]
 pub enum Component<S> {
-    /// The prefix of a Windows path, as it is written: its kind is what [`crate::windows_prefix`]
-    /// answers for it.
+    /// The prefix of a Windows path, as it is written. [`crate::windows_prefix`] returns its kind.
     Prefix(S),
     /// The root.
     RootDir,
@@ -24,7 +23,8 @@ pub enum Component<S> {
 }
 
 impl<'a> Component<&'a [u8]> {
-    /// The name, if the component is one (own call; std's `Path::file_name` of the last one).
+    /// Returns the name, if the component is one (own call; std's `Path::file_name` of the last
+    /// one).
     ///
     /// ```
     /// use path_rules::Component;
@@ -43,7 +43,7 @@ impl<'a> Component<&'a [u8]> {
     }
 }
 
-/// The component that a part between separators is; `None` for a part that names nothing.
+/// Returns the component that a part between separators is, or `None` if it names nothing.
 ///
 /// ```
 /// use path_rules::parts::component_of;

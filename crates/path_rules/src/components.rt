@@ -12,15 +12,15 @@ use crate::rules::Style;
 use crate::stripped::start_trimmed;
 use std::marker::Model;
 
-/// The components of a path that are left, from both ends (std's `Components`).
+/// An iterator over the components of a path, from both ends (std's `Components`).
 ///
-/// The components are one list: `next` takes its first, `next_back` its last, in any order of
-/// calls.
+/// The remaining components are one list. `next` takes the first, and `next_back` takes the last,
+/// in any order of calls.
 #[derive(Drop)]
 pub struct Components<'a> {
     style: Style,
     path: &'a [u8],
-    /// How many components were taken from the front.
+    /// The number of components that were taken from the front.
     taken: usize,
     /// Whether what comes before the body was taken from the front.
     begun: bool,
@@ -45,7 +45,7 @@ impl<'a> Model for Components<'a> {
 }
 
 impl<'a> Components<'a> {
-    /// The components of a path (std's `Path::components`).
+    /// Returns an iterator over the components of a path (std's `Path::components`).
     ///
     /// ```
     /// use path_rules::{Component, Components, Style};
@@ -72,12 +72,15 @@ impl<'a> Components<'a> {
         }
     }
 
-    /// The part of the path where the components are that are left (std's `Components::as_path`).
+    /// Returns the part of the path that the remaining components span (std's
+    /// `Components::as_path`).
     ///
-    /// It begins where the first of them does and ends where the last does, without the separators
-    /// and dots at its ends that name nothing; a root at its end stays. On Unix it has these components by itself. So it has
-    /// on Windows unless it is a prefix without the root that is always there (`\\server\share`), or
-    /// what is left begins after the prefix: then it has them in the path.
+    /// It begins where the first of them begins and ends where the last ends. It doesn't include
+    /// the separators and dots at its ends that name nothing, but it keeps a root at its end.
+    ///
+    /// On Unix the part alone, as a path, has these components. On Windows there are two
+    /// exceptions, where it has them only within the whole path: a prefix without its implicit root
+    /// (`\\server\share`), and a part that begins after the prefix.
     ///
     /// ```
     /// use path_rules::{Components, Style};
@@ -114,7 +117,7 @@ impl<'a> Components<'a> {
     }
 }
 
-/// Whether neither a start nor a body is left.
+/// Whether neither a start nor a body remains.
 fn is_over(start: Start, body: &[u8]) -> bool
     ensures { IsTrue result ↔ ((body.now ≡ []) × (start ≡ Start.Nothing)) }
 {

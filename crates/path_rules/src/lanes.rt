@@ -1,5 +1,5 @@
-//! Many bytes at once: how many come before the first that is a certain byte, and how many two slices
-//! have alike.
+//! Examines many bytes at once: counts those before a certain byte, and those that two slices have
+//! alike.
 ghost use Rattle.std.specs.Prelude.{◌≡◌, ℕ, ◌+◌, ◌≤◌, ◌<◌, false, length, slice_index, nat_eq, IsTrue};
 
 use std::simd::prelude::*;
@@ -10,10 +10,10 @@ pub(crate) const LANES: usize = 16;
 /// The bytes of half a vector.
 pub(crate) const HALF: usize = 8;
 
-/// The bytes that one test of [`are_alike`] is of.
+/// The number of bytes that [`are_alike`] compares.
 pub(crate) const BLOCK: usize = 128;
 
-/// How many of the N bytes from an index on come before the first that is `value`.
+/// The number of bytes before the first that is `value`, among the N bytes from an index on.
 #[inline(always)]
 pub(crate) fn len_before<const N: usize>(value: u8, bytes: &[u8], from: usize) -> usize
     requires inside { from + N ≤ length bytes.now }
@@ -25,7 +25,7 @@ pub(crate) fn len_before<const N: usize>(value: u8, bytes: &[u8], from: usize) -
     lanes_before(value, load::<N>(bytes, from))
 }
 
-/// How many of the N bytes from an index on are alike in both, before the first that isn't.
+/// The number of bytes before the first that differs, among the N bytes of both from an index on.
 #[inline(always)]
 pub(crate) fn alike_len<const N: usize>(a: &[u8], b: &[u8], from: usize) -> usize
     requires first { from + N ≤ length a.now }
@@ -69,7 +69,7 @@ fn load<const N: usize>(bytes: &[u8], from: usize) -> Simd<u8, N>
     Simd::from_slice(&bytes[from..])
 }
 
-/// How many lanes come before the first that is `value`.
+/// The number of lanes before the first that is `value`.
 #[inline(always)]
 fn lanes_before<const N: usize>(value: u8, lanes: Simd<u8, N>) -> usize
     requires { N ≤ 64 }
@@ -83,7 +83,7 @@ fn lanes_before<const N: usize>(value: u8, lanes: Simd<u8, N>) -> usize
     mask.trailing_zeros() as usize
 }
 
-/// How many lanes are alike in both before the first that isn't.
+/// The number of lanes before the first that differs.
 #[inline(always)]
 fn lanes_alike<const N: usize>(a: Simd<u8, N>, b: Simd<u8, N>) -> usize
     requires { N ≤ 64 }

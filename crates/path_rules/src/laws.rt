@@ -1,4 +1,4 @@
-//! What holds of paths whatever a call answers. Each law is the contract of a function that does
+//! Laws of paths that hold whatever a call returns. Each is the contract of a function that does
 //! nothing.
 ghost use Rattle.std.specs.Prelude.{◌≡◌, ◌<◌, ◌⊎◌, ◌++◌, ◌∷◌, ◌↔◌, [], List, ℕ, length, IsTrue, Some};
 ghost use Rattle.path_rules.specs.declared.rules.Style as whose;
@@ -29,8 +29,8 @@ pub fn one_list()
         → AreComponents style s one → AreComponents style s other → one ≡ other }
 {}
 
-/// The bytes of a path are its components and, by turns with these, what is between them: separators,
-/// and dots that name nothing. Between two names, and between a root and a name, a separator comes
+/// The bytes of a path alternate between its components and what is between them: separators, and
+/// dots that name nothing. Between two names, and between a root and a name, a separator comes
 /// first and one comes last. Each cut is at an end of the path or beside an ASCII byte.
 pub fn divided()
     ensures { (style : whose.Style) → (path : List ℕ) → (items : List Item)
@@ -79,8 +79,8 @@ pub fn parent_is_shorter()
         → length parent < length s }
 {}
 
-/// Paths that are compared by their components are equal exactly if their keys are equal, and
-/// ordered as lists of these are. A hasher receives the keys, so equal paths have equal hashes.
+/// Paths that are compared by their components are equal exactly if their keys are equal. They are
+/// ordered as lists of keys are. A hasher receives the keys, so equal paths have equal hashes.
 pub fn comparisons<'a>(a: &ByComponents<'a>, b: &ByComponents<'a>)
     ensures equal { IsTrue (⟦<ByComponents<'a> as PartialEq>⟧.eq a.now b.now)
         ↔ (keys_of a.now ≡ keys_of b.now) }
@@ -91,14 +91,14 @@ pub fn comparisons<'a>(a: &ByComponents<'a>, b: &ByComponents<'a>)
     ensures hash { ⟦<ByComponents<'a> as Hash>⟧.hash_input a.now ≡ keys_writes (keys_of a.now) }
 {}
 
-/// Paths have the same keys exactly if they have as many components, alike one by one.
+/// Paths have the same keys exactly if they have equally many components, alike one by one.
 pub fn alike_keys()
     ensures { (style : whose.Style) → (path : List ℕ) → (other : List ℕ)
         → (keys : List (List ℕ)) → (others : List (List ℕ)) → HasKeys style path keys
         → HasKeys style other others → (keys ≡ others) ↔ HaveAlikeComponents style path other }
 {}
 
-/// The stem of a name that has an extension, a dot and the extension are the name.
+/// A name that has an extension is its stem, a dot and the extension.
 pub fn stem_joined()
     ensures { (name : List ℕ) → (stem : List ℕ) → (other : List ℕ) → (extension : List ℕ)
         → IsStem name stem → IsExtension name other extension → name ≡ stem ++ 0x2E ∷ extension }
@@ -120,15 +120,15 @@ pub fn starts_and_ends()
         → StartsAlike items first ↔ ((more : List Item) × (items ≡ first ++ more)) }
 {}
 
-/// On Unix the part of a path that is left ([`crate::Components::as_path`]) has the components that
-/// are left by itself.
+/// On Unix the remaining part of a path ([`crate::Components::as_path`]), as a path of its own, has
+/// the remaining components.
 pub fn left_on_unix()
     ensures { (path : List ℕ) → (taken : ℕ) → (items : List Item) → (part : List ℕ)
         → IsLeft Unix path taken items part → AreUnixComponents part items }
 {}
 
-/// A path that was simplified ([`crate::simplified`]) is absolute, has a root and has the same
-/// components below its prefix exactly as the path.
+/// A simplified path ([`crate::simplified`]) is absolute and has a root exactly if the path does.
+/// Below its prefix it has the same components.
 pub fn simplified_place()
     ensures { (style : whose.Style) → (path : List ℕ) → (items : List Item) → (t : List ℕ)
         → AreComponents style path items → IsSimplified style path t

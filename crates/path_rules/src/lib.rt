@@ -1,20 +1,22 @@
-//! What the bytes of a path say, on Unix and on Windows, without a file system.
+//! Parses paths by the rules of Unix and of Windows, without a file system.
 //!
-//! A [`Style`] says whose rules a path follows; both can be asked on any machine. [`Components`]
-//! iterates over the components of a path from both ends; [`parent`] and [`file_name`] take off
-//! the last one; [`stem`], [`extension`] and [`name_prefix`] divide a name at its dots;
-//! [`starts_with`] and [`ends_with`] compare components; [`windows_prefix`] reads the prefix of a
-//! Windows path, as std documents `Prefix`, and [`is_reserved`] knows the names that Windows keeps
-//! for itself.
+//! A [`Style`] selects the rules that a path follows. Both styles are available on any machine.
 //!
-//! Paths are bytes here, in no encoding: all that a rule looks at is ASCII. Each part that a call
-//! answers is cut at an end of the path or beside an ASCII byte. A component of a path is what
-//! POSIX (4.13) and "Naming Files, Paths, and Namespaces" say; an empty part names nothing, and
-//! neither does `.`, but for a `.` at the start of a path without a root or a prefix, and after
-//! `\\?\`, where it is a component. `..` is a component, and no call here resolves it.
+//! - [`Components`] iterates over the components of a path from both ends.
+//! - [`parent`] and [`file_name`] split off the last component.
+//! - [`stem`], [`extension`] and [`name_prefix`] divide a name at its dots.
+//! - [`starts_with`] and [`ends_with`] compare components.
+//! - [`windows_prefix`] parses the prefix of a Windows path, as std documents `Prefix`.
+//! - [`is_reserved`] tests for the names that Windows reserves.
 //!
-//! No call allocates, and none has a condition. What builds paths is in `path_building`, which takes
-//! them apart by [`parts`].
+//! Paths are bytes here, in no encoding, since the rules examine only ASCII bytes. Each part that a
+//! call returns is cut at an end of the path or beside an ASCII byte. POSIX (4.13) and "Naming
+//! Files, Paths, and Namespaces" define the components of a path. An empty part names nothing, and
+//! neither does `.`, with two exceptions: it is a component at the start of a path without a root
+//! or a prefix, and after `\\?\`. `..` is a component, and no call here resolves it.
+//!
+//! No call allocates, and none has a precondition. The crate `path_building` builds paths, and
+//! takes them apart with [`parts`].
 #![tactic(auto)]
 
 mod body;

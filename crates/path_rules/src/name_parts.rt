@@ -4,8 +4,8 @@ ghost use Rattle.path_rules.specs.Name.{IsExtension, HasNoExtension, IsStem, IsN
 
 use crate::rules::Style;
 
-/// The name without its extension, and the extension: what comes before the last dot, and what
-/// comes after it. `None` if the only dot is the first byte, if there is none, and for `..`.
+/// Splits a name at its last dot into the name without its extension, and the extension. Returns
+/// `None` if the only dot is the first byte, if there is none, and for `..`.
 ///
 /// The two parts, joined by a dot, are the name.
 ///
@@ -33,8 +33,8 @@ pub fn split_extension(name: &[u8]) -> Option<(&[u8], &[u8])>
     None
 }
 
-/// The name without its extension and the dot before it (std's `Path::file_stem` of a path whose
-/// last component is the name); the name itself if it has no extension.
+/// Returns the name without its extension and the dot before it, or the whole name if it has no
+/// extension (std's `Path::file_stem` of a path whose last component is the name).
 ///
 /// ```
 /// use path_rules::stem;
@@ -51,8 +51,9 @@ pub fn stem(name: &[u8]) -> &[u8]
     }
 }
 
-/// What comes after the last dot of a name (std's `Path::extension` of a path whose last component
-/// is the name); `None` if the only dot is the first byte, if there is none, and for `..`.
+/// Returns the extension of a name, which follows its last dot (std's `Path::extension` of a path
+/// whose last component is the name). Returns `None` if the only dot is the first byte, if there is
+/// none, and for `..`.
 ///
 /// ```
 /// use path_rules::extension;
@@ -70,9 +71,9 @@ pub fn extension(name: &[u8]) -> Option<&[u8]>
     }
 }
 
-/// What comes before the first dot of a name that isn't its first byte (std's `Path::file_prefix`
-/// of a path whose last component is the name); the name itself if there is no such dot, and for
-/// `..`.
+/// Returns the part of a name before its first dot, where a dot as the first byte doesn't count.
+/// Returns the whole name if there is no such dot, and for `..`. It is std's `Path::file_prefix` of
+/// a path whose last component is the name.
 ///
 /// ```
 /// use path_rules::name_prefix;
@@ -107,8 +108,8 @@ fn is_dot_dot(name: &[u8]) -> bool
     }
 }
 
-/// Whether no byte separates, as in each extension that `set_extension` of `path_building` and its
-/// kin take (own call).
+/// Returns `true` if the bytes have no separator, which `set_extension` of `path_building` and its
+/// kin require of an extension (own call).
 ///
 /// ```
 /// use path_rules::{Style, is_extension_text};

@@ -7,12 +7,12 @@ use crate::components::Components;
 use crate::head::{Start, head_of};
 use crate::rules::Style;
 
-/// The path without its last component (std's `Path::parent`); `None` if the path has no component,
-/// or if its last one is a prefix or a root.
+/// Returns the path without its last component (std's `Path::parent`). Returns `None` if the path
+/// has no component, or if its last one is a prefix or a root.
 ///
 /// The parent is a part of the path's bytes. It ends where its own last component ends, so
-/// separators and `.` between the two components go with the last one, but the separator of a root
-/// stays. `..` is a component like any other: the parent of `a/..` is `a`.
+/// separators and `.` between the two components are removed with the last one. The separator of a
+/// root stays. `..` is a component like any other: the parent of `a/..` is `a`.
 ///
 /// ```
 /// use path_rules::{Style, parent};
@@ -41,8 +41,8 @@ pub fn parent(style: Style, path: &[u8]) -> Option<&[u8]>
     }
 }
 
-/// The last component if it is a name (std's `Path::file_name`); `None` if it is a prefix, a root,
-/// `.` or `..`, and for a path without components.
+/// Returns the last component if it is a name (std's `Path::file_name`). Returns `None` if it is a
+/// prefix, a root, `.` or `..`, and for a path without components.
 ///
 /// ```
 /// use path_rules::{Style, file_name};

@@ -1,9 +1,10 @@
-//! What a path is taken apart into, for crates that build paths of it.
+//! The parts of a path, for crates that build paths from them.
 //!
-//! [`head_of`] gives the parts of a path: its prefix, with what it starts after that, and its body.
-//! [`next_in`] and [`last_in`] find components in a body, and [`component_of`] says what a part
-//! between separators is. [`is_verbatim`], [`begins_with_separator`] and [`are_alike`] ask of a
-//! prefix, a path and two components what a join, a clean form and a comparison have to know.
+//! [`head_of`] returns the parts of a path: its prefix, what it starts with after that, and its
+//! body. [`next_in`] and [`last_in`] find components in a body. [`component_of`] returns the
+//! component that a part between separators is. [`is_verbatim`], [`begins_with_separator`] and
+//! [`are_alike`] test a prefix, a path and two components, as a join, a clean form and a comparison
+//! require.
 pub use crate::body::{last_in, next_in};
 pub use crate::compare::are_alike;
 pub use crate::component::component_of;

@@ -84,7 +84,7 @@ pub(crate) fn upper(byte: u8) -> u8
     }
 }
 
-/// How a path begins: at most four bytes tell.
+/// How a path begins, which at most four bytes determine.
 fn lead_of(path: &[u8]) -> Lead<&[u8]>
     ensures { lead_view result ≡ lead_of path.now }
 {
@@ -100,7 +100,7 @@ fn lead_of(path: &[u8]) -> Lead<&[u8]>
     Lead::Plain
 }
 
-/// How a path begins that begins with two separators.
+/// How a path with two separators at its start begins.
 fn double_lead(a: u8, b: u8, path: &[u8]) -> Lead<&[u8]>
     ensures { lead_view result ≡ double_lead a b path.now }
 {
@@ -130,8 +130,8 @@ fn verbatim_lead<'a>(part: &[u8], after: &'a [u8]) -> VerbatimLead<&'a [u8]>
     }
 }
 
-/// The prefix of a Windows path, and what follows it; `None` if there is none. A path has at most
-/// one prefix, of at most one kind (std's `PrefixComponent::kind`).
+/// Splits the prefix off a Windows path, and returns it and the rest; `None` if there is none. A
+/// path has at most one prefix, of at most one kind (std's `PrefixComponent::kind`).
 ///
 /// - `\\?\UNC\server\share`, `\\?\C:` and `\\?\name` end before a `\`; the server and the share
 ///   of the first may be empty, and `C:` is a drive only if a separator or nothing follows it;

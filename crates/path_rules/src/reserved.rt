@@ -1,4 +1,4 @@
-//! Names that Windows keeps for itself.
+//! Names that Windows reserves.
 ghost use Rattle.std.specs.Prelude.{◌≡◌, ◌↔◌, ℕ, List, IsTrue, nat_eq, slice_index};
 ghost use Rattle.std.specs.List.{list_any};
 ghost use Rattle.path_rules.specs.Separators.{IsFieldBy};
@@ -6,12 +6,16 @@ ghost use Rattle.path_rules.specs.Reserved.{is_reserved_byte, is_dot_or_space, E
 
 use crate::prefix::upper;
 
-/// Whether Windows keeps a name for itself (CPython 3.13's `ntpath.isreserved`, of one component).
+/// Returns `true` if Windows reserves a name (CPython 3.13's `ntpath.isreserved`, of one
+/// component).
 ///
-/// Reserved is a name that ends in a dot or a space, but not `.` and `..`; one that has a control
-/// character or one of `" * / : < > ? \ |`; and that of a device, whatever follows its first dot
-/// and in upper or lower case: `CON`, `PRN`, `AUX`, `NUL`, `CONIN$`, `CONOUT$`, and `COM` and
-/// `LPT` with a digit from 1 to 9 or one of `¹`, `²`, `³`.
+/// Three kinds of names are reserved:
+///
+/// - names that end in a dot or a space, other than `.` and `..`;
+/// - names with a control character or one of `" * / : < > ? \ |`;
+/// - the names of devices, in upper or lower case, whatever follows the first dot. These are `CON`,
+///   `PRN`, `AUX`, `NUL`, `CONIN$`, `CONOUT$`, and `COM` and `LPT` with a digit from 1 to 9 or one
+///   of `¹`, `²`, `³`.
 ///
 /// ```
 /// use path_rules::is_reserved;

@@ -7,11 +7,11 @@ ghost use Rattle.path_rules.specs.Root.{BeginsWithSeparator, HasRootAfter, HasPr
 use crate::prefix::{Prefix, windows_prefix};
 use crate::rules::{Rules, Style};
 
-/// Whether the path has a root (std's `Path::has_root`).
+/// Returns `true` if the path has a root (std's `Path::has_root`).
 ///
-/// A Unix path has one if it begins with `/`, and so has a Windows path without a prefix that
-/// begins with `/` or `\`. After a drive, as in `C:\`, the root is such a separator; every other
-/// prefix has a root, also where no separator follows it.
+/// A Unix path has one if it begins with `/`. A Windows path without a prefix has one if it begins
+/// with `/` or `\`. After a drive, as in `C:\`, the root is such a separator. Every other prefix
+/// has a root, even if no separator follows it.
 ///
 /// ```
 /// use path_rules::{Style, has_root};
@@ -29,8 +29,8 @@ pub fn has_root(style: Style, path: &[u8]) -> bool
     }
 }
 
-/// Whether the path is absolute (std's `Path::is_absolute`): on Unix, if it has a root; on Windows,
-/// if it has a prefix and a root.
+/// Returns `true` if the path is absolute (std's `Path::is_absolute`). A Unix path is if it has a
+/// root, and a Windows path if it has a prefix and a root.
 ///
 /// ```
 /// use path_rules::{Style, is_absolute};
@@ -47,7 +47,7 @@ pub fn is_absolute(style: Style, path: &[u8]) -> bool
     }
 }
 
-/// Whether the path begins with a separator.
+/// Returns `true` if the path begins with a separator.
 ///
 /// ```
 /// use path_rules::Rules;

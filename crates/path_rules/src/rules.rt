@@ -1,11 +1,11 @@
-//! Which bytes separate, and whose rules a path follows.
+//! Path styles, and the bytes that separate components.
 ghost use Rattle.std.specs.Prelude.{◌≡◌, ℕ, ◌+◌, ◌≤◌, ◌<◌, true, false, length, slice_index, MatchOption};
 ghost use Rattle.path_rules.specs.Separators.{separates, IsPlain, IsPlainBelow, IsCut, IsField};
 ghost use Rattle.path_rules.specs.StyleRules.{rules_of_style, main_separator};
 
 use crate::lanes::{HALF, LANES, len_before};
 
-/// Which bytes separate the components of a path.
+/// The bytes that separate the components of a path.
 #[derive(Clone, Copy, Debug, PartialEq, Eq)]
 pub enum Rules {
     /// `/` alone: Unix and wasm.
@@ -17,7 +17,7 @@ pub enum Rules {
 }
 
 impl Rules {
-    /// Whether a byte separates (std's `path::is_separator`, of a byte).
+    /// Returns `true` if a byte is a separator (std's `path::is_separator`, of a byte).
     ///
     /// ```
     /// use path_rules::Rules;
@@ -61,7 +61,7 @@ impl Rules {
         ensures separator { result < length path.now
             → separates self (slice_index path.now result) ≡ true }
     {
-        // one loop for each, so that none asks at each byte which rules they are
+        // one loop for each, so that none tests the rules at each byte
         match self {
             Rules::Slash => Rules::Slash.seek_separator(path),
             Rules::Either => Rules::Either.seek_separator(path),
@@ -69,7 +69,8 @@ impl Rules {
         }
     }
 
-    /// The same.
+    /// The index of the first separator, as `first_separator` returns it, in a loop for one
+    /// value of `self`.
     #[inline(always)]
     fn seek_separator(self, path: &[u8]) -> usize
         ensures within { result ≤ length path.now }
@@ -84,8 +85,8 @@ impl Rules {
         at
     }
 
-    /// An index up to which no byte separates: of the first separator, or one after which fewer bytes
-    /// than half a vector has are left.
+    /// An index up to which no byte separates. It is that of the first separator, or one after
+    /// which fewer bytes remain than half a vector has.
     #[inline(always)]
     fn skip_lanes(self, path: &[u8]) -> usize
         ensures within { result ≤ length path.now }
@@ -105,7 +106,7 @@ impl Rules {
         at + self.lanes_before::<HALF>(path, at)
     }
 
-    /// How many of the N bytes from an index on come before the first separator.
+    /// The number of bytes before the first separator, among the N bytes from an index on.
     #[inline(always)]
     fn lanes_before<const N: usize>(self, path: &[u8], from: usize) -> usize
         requires inside { from + N ≤ length path.now }
@@ -149,7 +150,7 @@ fn lesser(a: usize, b: usize) -> usize
     if a < b { a } else { b }
 }
 
-/// Whose rules a path follows.
+/// The platform whose rules a path follows.
 #[derive(Clone, Copy, Debug, PartialEq, Eq)]
 pub enum Style {
     /// POSIX: `/` separates, and there are no prefixes.

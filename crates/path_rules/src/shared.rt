@@ -1,12 +1,12 @@
-//! What two paths begin with alike.
+//! The common start of two paths.
 ghost use Rattle.std.specs.Prelude.{◌≡◌, ◌<◌, ◌≤◌, length, MatchOption};
 ghost use Rattle.path_rules.specs.Shared.{SharesItems, AreAlikeBelow};
 
 use crate::lanes::{BLOCK, LANES, alike_len, are_alike};
 use crate::rules::Rules;
 
-/// What is left of two bodies after the last separator of what they begin with alike; `None` where
-/// they are the same.
+/// The rests of two bodies after the last separator of their common prefix; `None` if they are the
+/// same.
 #[inline(always)]
 pub(crate) fn after_shared<'a, 'b>(
     rules: Rules,
@@ -30,7 +30,7 @@ pub(crate) fn after_shared<'a, 'b>(
     Some((left, other))
 }
 
-/// How many bytes two slices begin with alike.
+/// The length of the common prefix of two slices.
 #[inline(always)]
 fn shared_len(a: &[u8], b: &[u8]) -> usize
     ensures first { result ≤ length a.now }
@@ -49,8 +49,8 @@ fn shared_len(a: &[u8], b: &[u8]) -> usize
     }
 }
 
-/// The same, the first 64 bytes by themselves, so that slices that soon differ cost no more, then by
-/// blocks.
+/// The length of the common prefix, found by blocks. The first 64 bytes are compared separately, so
+/// that slices that differ early take no longer.
 #[inline(always)]
 fn shared_by_blocks(a: &[u8], b: &[u8], end: usize) -> usize
     requires room { 64 ≤ end }
@@ -66,7 +66,8 @@ fn shared_by_blocks(a: &[u8], b: &[u8], end: usize) -> usize
     shared_by::<64>(a, b, alike_blocks(a, b, 64, end), end)
 }
 
-/// An index up to which whole blocks are alike, from one on before which all bytes are.
+/// An index up to which all bytes are alike, found by whole blocks. All bytes before `from` are
+/// known to be alike.
 #[inline(always)]
 fn alike_blocks(a: &[u8], b: &[u8], from: usize, end: usize) -> usize
     requires inside { from ≤ end }
@@ -83,8 +84,9 @@ fn alike_blocks(a: &[u8], b: &[u8], from: usize, end: usize) -> usize
     at
 }
 
-/// The same, by N at once from an index on before which all are alike; the last N, or the last 16
-/// where no more are left, are looked at together, also where some were before.
+/// The length of the common prefix, found by N bytes at once. All bytes before `from` are known to
+/// be alike. The last step compares the last N bytes, or the last 16 if no more remain. It may
+/// compare some bytes again.
 #[inline(always)]
 fn shared_by<const N: usize>(a: &[u8], b: &[u8], from: usize, end: usize) -> usize
     requires room { N ≤ end }
@@ -114,7 +116,7 @@ fn shared_by<const N: usize>(a: &[u8], b: &[u8], from: usize, end: usize) -> usi
     last + alike_len::<N>(a, b, last)
 }
 
-/// The same, byte by byte.
+/// The length of the common prefix, found byte by byte.
 #[inline(always)]
 fn shared_by_bytes(a: &[u8], b: &[u8], end: usize) -> usize
     requires first { end ≤ length a.now }

@@ -13,15 +13,16 @@ use crate::reserved::is_reserved;
 use crate::root::is_absolute;
 use crate::rules::Style;
 
-/// The path without `\\?\`, if that names the same path (the crate dunce's `simplified`); any other
-/// path is returned as it is, and so is each path of Unix.
+/// Returns the path without `\\?\`, if that names the same path (the crate dunce's `simplified`).
+/// Any other path is returned as it is, and so is each path of Unix.
 ///
-/// `\\?\` is taken off before a drive and its root, if no component is `.` or `..`, none is reserved
+/// `\\?\` is removed before a drive and its root, if no component is `.` or `..`, none is reserved
 /// ([`crate::is_reserved`]) or longer than 255 UTF-16 code units, and the path isn't longer than
-/// 260. A name with a lone surrogate may be among them. The path that is returned is absolute, has a
-/// root and has the same components below its prefix exactly as the path
-/// ([`crate::laws::simplified_place`]). So `\\?\C:`, which is absolute, stays: `C:` is the current
-/// directory of the drive.
+/// 260. A name with a lone surrogate may be among them.
+///
+/// The returned path is absolute and has a root exactly if the path does. Below its prefix it has
+/// the same components ([`crate::laws::simplified_place`]). So `\\?\C:`, which is absolute, stays,
+/// since `C:` is the current directory of the drive.
 ///
 /// ```
 /// use path_rules::{Style, simplified};
@@ -77,7 +78,7 @@ fn has_verbatim_drive(path: &[u8]) -> bool
     }
 }
 
-/// Whether each component that is left is plain.
+/// Whether each remaining component is plain.
 fn are_plain(items: Components<'_>) -> bool
     ensures { IsTrue result ↔ AllByRecursion IsPlainItem items.entry.items }
 {
@@ -115,7 +116,7 @@ fn is_plain_name(name: &[u8]) -> bool
     fits(name, 255)
 }
 
-/// Whether bytes have at most so many UTF-16 code units.
+/// Whether bytes have at most `most` UTF-16 code units.
 fn fits(bytes: &[u8], most: usize) -> bool
     ensures { IsTrue result ↔ (wide_len bytes.now ≤ most) }
 {
@@ -134,7 +135,7 @@ fn fits(bytes: &[u8], most: usize) -> bool
     }
 }
 
-/// How many UTF-16 code units a byte begins.
+/// The number of UTF-16 code units that a byte begins.
 #[inline(always)]
 fn wide_units(byte: u8) -> usize
     ensures { result ≡ wide_units_of byte }

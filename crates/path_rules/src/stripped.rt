@@ -1,4 +1,4 @@
-//! What of a path follows the components of a base.
+//! The rest of a path after the components of a base.
 ghost use Rattle.std.specs.Prelude.{◌≡◌, ◌∷◌, [], List, MatchOption, IfSome};
 ghost use Rattle.path_rules.specs.Component.{Item, components_in};
 ghost use Rattle.path_rules.specs.Views.{item_of};
@@ -16,8 +16,8 @@ use crate::components::Components;
 use crate::head::{Head, Start, head_of};
 use crate::rules::{Rules, Style};
 
-/// The rest of the path after the components of the base (std's `Path::strip_prefix`); `None` if
-/// the path's first components aren't those of the base ([`crate::starts_with`]).
+/// Returns the rest of the path after the components of the base (std's `Path::strip_prefix`).
+/// Returns `None` if the path's first components aren't those of the base ([`crate::starts_with`]).
 ///
 /// The rest is a part of the path's bytes, from its next component to the end of its last. It
 /// begins with the root if the base is a prefix alone, as `C:`. The base joined with the rest has
@@ -53,9 +53,11 @@ pub fn strip_prefix<'a>(style: Style, path: &'a [u8], base: &[u8]) -> Option<&'a
     Some(whole)
 }
 
-/// The path up to the end of its last component (std's `Components::as_path` of all components).
+/// Returns the path up to the end of its last component (std's `Components::as_path` of all
+/// components).
 ///
-/// Separators after it go, and each `.` that names nothing; a prefix and a root stay.
+/// Separators after it are removed, and so is each `.` after it that names nothing. A prefix and a
+/// root stay.
 ///
 /// ```
 /// use path_rules::{Style, end_trimmed};
@@ -72,7 +74,7 @@ pub fn end_trimmed(style: Style, path: &[u8]) -> &[u8]
     kept
 }
 
-/// The parts that are left after components alike those of the base.
+/// The remaining parts after components alike those of the base.
 fn after_base<'a>(head: Head<'a>, base: Components<'_>) -> Option<Head<'a>>
     ensures { MatchOption result (¬ (StartsAlike (items_of head.entry) base.entry.items))
         (λ left. AreTaken head.entry base.entry.items left) }
@@ -93,7 +95,7 @@ fn after_base<'a>(head: Head<'a>, base: Components<'_>) -> Option<Head<'a>>
     }
 }
 
-/// The first component, and the parts that are left.
+/// The first component, and the remaining parts.
 pub(crate) fn first_of(head: Head<'_>) -> Option<(Component<&[u8]>, Head<'_>)>
     ensures items { MatchOption result (items_of head.entry ≡ [])
         (λ first. items_of head.entry ≡ item_of first.0 ∷ items_of first.1) }
@@ -149,7 +151,7 @@ fn first_in(rules: Rules, body: &[u8]) -> Option<(Component<&[u8]>, &[u8])>
     }
 }
 
-/// Without the separators and parts at the start that name nothing.
+/// The body without the separators and parts at its start that name nothing.
 pub(crate) fn start_trimmed(rules: Rules, body: &[u8]) -> &[u8]
     ensures items { components_in rules body.now ≡ components_in rules result.now }
     ensures after { IsTail body.now result.now }

@@ -8,8 +8,8 @@ use crate::prefix::rules_of;
 use crate::root::has_root;
 use crate::rules::{Rules, Style};
 
-/// Whether the last byte is a separator (std's `Path::has_trailing_sep`); on Windows `/` is one
-/// everywhere, also after `\\?\`.
+/// Returns `true` if the last byte is a separator (std's `Path::has_trailing_sep`). On Windows `/`
+/// is one everywhere, even after `\\?\`.
 ///
 /// ```
 /// use path_rules::{Style, has_trailing_sep};
@@ -26,11 +26,11 @@ pub fn has_trailing_sep(style: Style, path: &[u8]) -> bool
     }
 }
 
-/// The path without the separators at its end (std's `Path::trim_trailing_sep`). A path that has a
-/// root and no parent is kept as it is.
+/// Returns the path without the separators at its end (std's `Path::trim_trailing_sep`). A path
+/// that has a root and no parent is unchanged.
 ///
-/// The path's own rules say what separates: after `\\?\` a `/` is part of a name and stays, where std
-/// takes it off.
+/// The path's own rules define its separators: after `\\?\` a `/` is part of a name and stays, but
+/// std removes it.
 ///
 /// ```
 /// use path_rules::{Style, trim_trailing_sep};

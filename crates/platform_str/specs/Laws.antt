@@ -13,7 +13,7 @@ pub record IsReplaced (well_formed : List ℕ → Type 0) (lossy : List ℕ → 
 
 -- the laws of a platform
 pub record PlatformLaws (first_fault : List ℕ → EncodingError → Type 0) (well_formed : List ℕ → Type 0) (units : List ℕ → List ℕ) (is_unit_list io_safe : List ℕ → Type 0) (lossy : List ℕ → List ℕ) (replaces : List ℕ → ℕ → Type 0) : Type 0 where
-  -- faults: refused bytes aren't well formed, and have exactly one first fault
+  -- faults: rejected bytes aren't well formed, and have exactly one first fault
   pub faulty : (b : List ℕ) (f : EncodingError) → first_fault b f → ¬ (well_formed b)
   pub one_fault : (b : List ℕ) (f g : EncodingError) → first_fault b f → first_fault b g → f ≡ g
   -- encoding: each list of units has one encoding

@@ -139,12 +139,12 @@ pub trait OsStrBytes<'a>: Sized + Copy {
         ensures value { byte_cow_bytes result ≡ bytes_of self }
         ensures formed { Self.Platform.well_formed (byte_cow_bytes result) };
 
-    /// The string's bytes if they are IO-safe, which doesn't allocate, else those of its lossy
-    /// text.
+    /// Returns the string's bytes if they are IO-safe, which doesn't allocate. Otherwise it returns
+    /// the bytes of the lossy text.
     ///
     /// # Errors
     ///
-    /// `AllocError` if the memory is refused.
+    /// `AllocError` if the allocation fails.
     ///
     /// ```
     /// use os_str_bytes::{OsStrBytes, OsString, Windows};
@@ -242,8 +242,8 @@ pub trait OsStringBytes: Sized + Drop {
             (λ _. Self.Platform.well_formed (Self.Vec.as_vec raw).items)
             (λ fault. Self.Platform.first_fault (Self.Vec.as_vec raw).items fault) };
 
-    /// The string of a vector of IO-safe bytes. If they aren't IO-safe it answers `None` and drops
-    /// the vector.
+    /// Returns the string of a vector of IO-safe bytes. If they aren't IO-safe, it returns `None`
+    /// and drops the vector.
     ///
     /// ```
     /// use os_str_bytes::{OsString, OsStringBytes, Unix, Wasm};
@@ -256,7 +256,8 @@ pub trait OsStringBytes: Sized + Drop {
         ensures cases { MatchOption result (¬ (Self.Platform.io_safe (Self.Vec.as_vec raw).items))
             (λ _. Self.Platform.io_safe (Self.Vec.as_vec raw).items) };
 
-    /// The string's vector if its bytes are IO-safe. Else it answers `None` and drops the string.
+    /// Returns the string's vector if its bytes are IO-safe. Otherwise it returns `None` and drops
+    /// the string.
     ///
     /// ```
     /// use os_str_bytes::{OsString, OsStringBytes, Windows};
@@ -270,10 +271,9 @@ pub trait OsStringBytes: Sized + Drop {
             (¬ (Self.Platform.io_safe (Self.Vec.as_vec (vec_of self)).items))
             (λ _. Self.Platform.io_safe (Self.Vec.as_vec (vec_of self)).items) };
 
-    /// The string's vector. If the string isn't IO-safe, the vector has the bytes of the lossy
-    /// text, written in place, in the same block of memory. It doesn't allocate: on Windows a
-    /// surrogate and U+FFFD have three bytes each, and on the other platforms every string is
-    /// IO-safe.
+    /// Returns the string's vector. If the string isn't IO-safe, the lossy text overwrites it in
+    /// the same block of memory. It doesn't allocate: on Windows a surrogate and U+FFFD have three
+    /// bytes each, and on the other platforms every string is IO-safe.
     ///
     /// ```
     /// use os_str_bytes::{OsString, OsStringBytes, Unix, Windows};

@@ -1,5 +1,5 @@
-//! The bytes of units, 16 units at once: ASCII is narrowed, and of other units each gives what the
-//! units beside it say, without a branch.
+//! The bytes of units, 16 units at a time. ASCII is narrowed. Any other unit adds bytes that depend
+//! on the units beside it, without a branch.
 ghost use Rattle.std.specs.Prelude.{◌≡◌, ◌++◌, ◌+◌, ◌*◌, ◌/◌, ◌≤◌, ◌<◌, ℕ, List, true, leb, take, drop, length, slice_index};
 ghost use Rattle.std.specs.List.{All, count_by, flat_map};
 ghost use Rattle.wtf8_core.specs.{Wtf8.HasUnits, Truncated.IsTruncated};
@@ -8,7 +8,7 @@ ghost use Rattle.platform_str.specs.{Bulk.pairs, FromWide.bytes_by_neighbours, F
 use std::simd::prelude::*;
 use wtf8_core::{DecodeWide, first_pair, is_pair, write_form};
 
-/// How many of the first 16 units are `least` or more.
+/// Returns the number of the first 16 units that are `least` or more.
 #[inline(always)]
 pub(crate) fn count_from(units: &[u16], least: u16) -> usize
     requires { 16 ≤ length units.now }
@@ -21,7 +21,7 @@ pub(crate) fn count_from(units: &[u16], least: u16) -> usize
     ones as usize
 }
 
-/// How many pairs begin with one of the first 16 units.
+/// Returns the number of pairs that begin with one of the first 16 units.
 #[inline(always)]
 fn count_pairs(units: &[u16]) -> usize
     requires { 17 ≤ length units.now }
@@ -77,8 +77,8 @@ fn goes_on_in_ascii(units: &[u16]) -> bool
             == 0
 }
 
-/// The bytes that each of 16 units after the first gives, as a word: the first byte in its lowest
-/// bits, and in its highest how many they are.
+/// Returns the bytes that each of 16 units after the first adds, as a word. The first byte is in
+/// its lowest bits, and the number of bytes in its highest.
 #[inline(always)]
 fn unit_words(units: &[u16]) -> [u32; 16]
     requires { 18 ≤ length units.now }
@@ -140,8 +140,8 @@ fn put_words(bytes: &mut [u8], at: usize, words: &[u32]) -> usize
     end
 }
 
-/// Writes what 16 units after the first give from index `at` on, and returns the index after it. It
-/// is kept out of the loop over ASCII, which is faster without it.
+/// Writes the bytes that 16 units after the first add, from index `at` on, and returns the index
+/// after them. It is kept out of the loop over ASCII, which is faster without it.
 #[inline(never)]
 fn put_block(bytes: &mut [u8], at: usize, units: &[u16]) -> usize
     requires some { 20 < length units.now }
@@ -155,7 +155,7 @@ fn put_block(bytes: &mut [u8], at: usize, units: &[u16]) -> usize
     put_words(bytes, at, &unit_words(units))
 }
 
-/// Writes what a unit gives from index `at` on, and returns the index after it.
+/// Writes the bytes that a unit adds, from index `at` on, and returns the index after them.
 #[tactic(auto, using(crate::proofs::lemmas::FromWide::giving))]
 #[inline(always)]
 fn put_unit(bytes: &mut [u8], at: usize, before: u16, unit: u16, after: u16) -> usize
@@ -234,8 +234,8 @@ fn fill(units: &[u16], bytes: &mut [u8])
     }
 }
 
-/// Writes the bytes of units into a buffer, as far as there is room, and returns how many there
-/// are.
+/// Writes the bytes of units into a buffer, as far as there is room, and returns the number of
+/// bytes of the whole string.
 pub(crate) fn write_bytes(units: &[u16], buffer: &mut [u8]) -> usize
     ensures { (string : List ℕ) × (HasUnits string units.now
         × IsTruncated string buffer.old buffer.new result) }

@@ -6,10 +6,10 @@ use crate::memory::Pushed;
 use std::alloc::Allocator;
 use wtf8_core::{pair_between, write_form};
 
-/// Appends a Windows string to another (WTF-8: concatenation). If the one ends with a high
-/// surrogate and the other starts with a low one, the form of the pair's code point replaces both.
-/// Nothing changes if the memory is refused: it is requested first, and then the form is written in
-/// place.
+/// Appends a Windows string to another (WTF-8: concatenation). If the first ends with a high
+/// surrogate and the second starts with a low one, the form of the pair's code point replaces both.
+/// Nothing changes if the allocation fails: memory is requested first, and then the form is written
+/// in place.
 pub(crate) fn push_wtf8<A: Allocator>(string: &mut Vec<u8, A>, more: &[u8]) -> Pushed
     requires string { IsWtf8 string.old.items }
     requires more { IsWtf8 more.now }

@@ -14,7 +14,7 @@ use crate::platform::Platform;
 use std::alloc::Allocator;
 use std::hash::Hash;
 
-/// Bytes that are refused aren't well formed, and have exactly one first fault.
+/// Bytes that are rejected aren't well formed, and have exactly one first fault.
 pub fn faults<E: Platform>()
     ensures faulty { (b : List ℕ) → (f : EncodingError) → E.first_fault b f → ¬ (E.well_formed b) }
     ensures one_fault { (b : List ℕ) → (f : EncodingError) → (g : EncodingError) → E.first_fault b f

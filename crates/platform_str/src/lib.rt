@@ -10,14 +10,15 @@
 //! The bytes of a string are its raw bytes, its encoded bytes and, if it is IO-safe, its IO bytes.
 //! So a conversion that succeeds borrows or moves.
 //!
-//! A call that allocates takes an allocator first, or uses that of its vector, and answers
-//! [`std::alloc::AllocError`] if the memory is refused: what was borrowed is then as it was, and
-//! what was moved in is dropped. No other call allocates, so none of them can run out of memory.
+//! A call that allocates takes an allocator as its first argument, or uses that of its vector. It
+//! returns [`std::alloc::AllocError`] if the allocation fails. Then what was borrowed is unchanged,
+//! and what was moved in is dropped. No other call allocates, so none of them can run out of
+//! memory.
 //!
 //! # Calls with a condition
 //!
-//! A call with a `requires` can only be made where its condition is proved. Calls whose names begin
-//! with `assert_from_raw` or end in `_unchecked` need well-formed bytes (test:
+//! A call with a `requires` clause can only be made where its precondition is proved. Calls whose
+//! names begin with `assert_from_raw` or end in `_unchecked` need well-formed bytes (test:
 //! [`Platform::check`]), and so do the calls of [`Platform`] except `check`, `is_io_safe` and
 //! `read_lossy`. Of these, `lossy_len`, `replaced_len` and `first_unit` need bytes that aren't
 //! empty and don't begin with a whole character (test: `wtf8_core::char_at` at 0).

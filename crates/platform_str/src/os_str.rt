@@ -71,14 +71,15 @@ impl<'a, E: Platform> OsStr<'a, E> {
         }
     }
 
-    /// The string of raw bytes, as a view of them (own call): [`OsStrBytes::from_raw_bytes`]
-    /// answers a value that may be borrowed or owned. It doesn't allocate.
+    /// Returns the string of raw bytes, as a view of them (own call).
+    /// [`OsStrBytes::from_raw_bytes`] returns a value that may be borrowed or owned instead. It
+    /// doesn't allocate.
     ///
     /// On Windows ED A0 80 (hexadecimal) is accepted, and ED A0 80 ED B0 80 isn't.
     ///
     /// # Errors
     ///
-    /// The first fault of the bytes if they aren't well formed: what [`Platform::check`] answers.
+    /// The first fault of the bytes if they aren't well formed, as [`Platform::check`] returns it.
     ///
     /// ```
     /// use os_str_bytes::{EncodingError, OsStr, Windows};
@@ -96,14 +97,14 @@ impl<'a, E: Platform> OsStr<'a, E> {
         Ok(OsStr::from_encoded_bytes_unchecked(encoded))
     }
 
-    /// The string of arbitrary raw bytes, with each refused part replaced by U+FFFD: the bytes
-    /// themselves if they are well formed, which doesn't allocate, and else what
-    /// [`Platform::read_lossy`] gives. `OsStrBytes::from_raw_bytes` answers the first fault
-    /// instead. On wasm it is equivalent to std's `String::from_utf8_lossy`.
+    /// Returns the string of arbitrary raw bytes, with each rejected part replaced by U+FFFD.
+    /// Well-formed bytes are borrowed as they are, which doesn't allocate. For any others it
+    /// returns what [`Platform::read_lossy`] returns. `OsStrBytes::from_raw_bytes` returns the
+    /// first fault instead. On wasm it is equivalent to std's `String::from_utf8_lossy`.
     ///
     /// # Errors
     ///
-    /// `AllocError` if the memory is refused.
+    /// `AllocError` if the allocation fails.
     ///
     /// ```
     /// use os_str_bytes::{HasBytes, OsStr, Windows};
@@ -191,14 +192,14 @@ impl<'a, E: Platform> OsStr<'a, E> {
         }
     }
 
-    /// The lossy text. If the string is UTF-8 it is the string itself, which doesn't allocate. Else
-    /// it is a text in which U+FFFD replaces what isn't text: on Windows each surrogate, on Unix
-    /// each maximal ill-formed part (Unicode's maximal subpart), as in std's
+    /// Returns the lossy text. If the string is UTF-8, this is the string itself, which doesn't
+    /// allocate. Otherwise it is a text in which U+FFFD replaces what isn't text: on Windows each
+    /// surrogate, on Unix each maximal ill-formed part (Unicode's maximal subpart), as in std's
     /// `OsStr::to_string_lossy`.
     ///
     /// # Errors
     ///
-    /// `AllocError` if the memory is refused.
+    /// `AllocError` if the allocation fails.
     ///
     /// ```
     /// use os_str_bytes::{OsStr, Unix};
@@ -218,8 +219,8 @@ impl<'a, E: Platform> OsStr<'a, E> {
         Ok(StrCow::Owned(unsafe { String::from_utf8_unchecked(text) }))
     }
 
-    /// The lossy text, for printing (std's `OsStr::display`): `{}` writes the text that
-    /// [`OsStr::to_string_lossy`] gives. It doesn't allocate.
+    /// Returns the lossy text, for printing (std's `OsStr::display`): `{}` writes the text that
+    /// [`OsStr::to_string_lossy`] returns. It doesn't allocate.
     ///
     /// ```
     /// use os_str_bytes::{OsStr, Unix};
@@ -233,9 +234,9 @@ impl<'a, E: Platform> OsStr<'a, E> {
         OsStrDisplay { string: self }
     }
 
-    /// Writes the lossy text into a buffer, truncated if the buffer is too short for it, and returns
-    /// the length of the whole text (own call; the text is that of [`OsStr::to_string_lossy`]). What
-    /// the text doesn't reach stays as it is. It doesn't allocate, and with an empty buffer only
+    /// Writes the lossy text into a buffer and returns the length of the whole text (own call). The
+    /// text is that of [`OsStr::to_string_lossy`], truncated if the buffer is too short for it. The
+    /// rest of the buffer is unchanged. It doesn't allocate, and with an empty buffer it only
     /// counts.
     ///
     /// Three times the string's length is below 2^64 (test: `string.len() <= usize::MAX / 3`).
@@ -255,11 +256,12 @@ impl<'a, E: Platform> OsStr<'a, E> {
         lossy::write_text::<E>(self.bytes, buffer)
     }
 
-    /// An owned copy (std's `OsStr::to_os_string`). A copy of the empty string doesn't allocate.
+    /// Returns an owned copy (std's `OsStr::to_os_string`). A copy of the empty string doesn't
+    /// allocate.
     ///
     /// # Errors
     ///
-    /// `AllocError` if the memory is refused.
+    /// `AllocError` if the allocation fails.
     ///
     /// ```
     /// use os_str_bytes::{OsStr, Unix};

@@ -57,14 +57,14 @@ impl<E: Platform, A: Allocator> OsString<E, A> {
         }
     }
 
-    /// The string of arbitrary raw bytes, with each refused part replaced by U+FFFD. If the bytes
-    /// are well formed they stay in their own vector, which doesn't allocate. Else it is what
-    /// [`Platform::read_lossy`] gives, in new memory, and the vector is dropped, also if that
-    /// memory is refused. On wasm it is the text that std's `String::from_utf8_lossy` gives.
+    /// Returns the string of arbitrary raw bytes, with each rejected part replaced by U+FFFD.
+    /// Well-formed bytes stay in their own vector, which doesn't allocate. Otherwise it returns
+    /// what [`Platform::read_lossy`] returns, in new memory, and drops the vector, even if that
+    /// allocation fails. On wasm it returns the text that std's `String::from_utf8_lossy` returns.
     ///
     /// # Errors
     ///
-    /// `AllocError` if the memory is refused.
+    /// `AllocError` if the allocation fails.
     ///
     /// ```
     /// use os_str_bytes::{OsString, Unix, Windows};
@@ -128,7 +128,7 @@ impl<E: Platform, A: Allocator> OsString<E, A> {
     ///
     /// # Errors
     ///
-    /// The same string again if it isn't UTF-8.
+    /// The string itself, unchanged, if it isn't UTF-8.
     ///
     /// ```
     /// use os_str_bytes::{OsString, Unix, Windows};
@@ -151,14 +151,14 @@ impl<E: Platform, A: Allocator> OsString<E, A> {
         }
     }
 
-    /// Appends a string: the units are those of both, one after the other (std's `OsString::push`).
-    /// On Windows a high surrogate at the end of the one and a low one at the start of the other
-    /// become one code point (WTF-8, "Concatenating"). It doesn't allocate if the vector has room
-    /// for the bytes of both.
+    /// Appends a string, so that the units are those of both, one after the other (std's
+    /// `OsString::push`). On Windows, a high surrogate at the end of the first string and a low one
+    /// at the start of the second become one code point (WTF-8, "Concatenating"). It doesn't
+    /// allocate if the vector has room for the bytes of both.
     ///
     /// # Errors
     ///
-    /// `AllocError` if the memory is refused; the string is then as it was.
+    /// `AllocError` if the allocation fails. The string is then unchanged.
     ///
     /// ```
     /// use os_str_bytes::{OsStr, OsString, Windows};
@@ -183,7 +183,7 @@ impl<E: Platform, A: Allocator> OsString<E, A> {
     ///
     /// # Errors
     ///
-    /// `AllocError` if the memory is refused.
+    /// `AllocError` if the allocation fails.
     ///
     /// ```
     /// use os_str_bytes::{OsStr, Unix};

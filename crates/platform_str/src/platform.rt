@@ -12,12 +12,12 @@ use wtf8_core::{EncodingError, utf8_fault};
 /// The strings of a platform, as lists of bytes.
 ///
 /// An implementation proves the laws of the trait, which are all that generic code knows of a
-/// platform: each list of units has one encoding; texts are strings, and what follows a text at the
-/// start of a string is well formed; at a boundary both parts are well formed, and their units,
-/// joined, are the string's; before a byte that is no continuation what follows is well formed; a
-/// text occurs in a string's bytes where its units occur in the string's; for any two strings some
-/// string has the units of both, joined; any bytes have one lossy reading, which is a string. The
-/// module `laws` states them one by one.
+/// platform. Each list of units has one encoding. Texts are strings, and what follows a text at the
+/// start of a string is well formed. At a boundary both parts are well formed, and their units,
+/// joined, are the string's. Before a byte that isn't a continuation, what follows is well formed.
+/// A text occurs in a string's bytes where its units occur in the string's units. For any two
+/// strings some string has the units of both, joined. Any bytes have one lossy reading, which is a
+/// string. The module `laws` states the laws one by one.
 pub trait Platform {
     // which bytes are a string
     ghost well_formed: { List ℕ → Type 0 };
@@ -43,7 +43,7 @@ pub trait Platform {
     // how many of the first bytes one U+FFFD replaces in the lossy text
     ghost replaces: { List ℕ → ℕ → Type 0 };
 
-    // the lossy reading of any bytes, in which U+FFFD replaces each refused part
+    // the lossy reading of any bytes, in which U+FFFD replaces each rejected part
     ghost reads_as: { List ℕ → List ℕ → Type 0 };
 
     // what the units are of a string that contains no whole character
@@ -53,9 +53,9 @@ pub trait Platform {
     ///
     /// # Errors
     ///
-    /// The first fault of bytes that aren't well formed: on Windows the first that
-    /// `wtf8_core::CodePoints` gives, on wasm that of `wtf8_core::utf8_fault`. On Unix there is
-    /// none.
+    /// The first fault of bytes that aren't well formed. On Windows it is the first fault that
+    /// `wtf8_core::CodePoints` returns, and on wasm that of `wtf8_core::utf8_fault`. On Unix there
+    /// is none.
     ///
     /// ```
     /// use os_str_bytes::{Platform, Unix, Wasm, Windows};
@@ -103,11 +103,11 @@ pub trait Platform {
     fn is_io_safe(bytes: &[u8]) -> bool
         ensures { IsTrue result ↔ io_safe bytes.now };
 
-    /// How many of the first bytes one U+FFFD replaces in the lossy text.
+    /// Returns the number of bytes at the start that one U+FFFD replaces in the lossy text.
     ///
     /// The bytes are well formed (test: [`Platform::check`]) and aren't empty, and no whole
     /// character starts at index 0 (test: `wtf8_core::char_at` at 0). What follows the replaced
-    /// bytes is well formed. On Windows the answer is three, the length of a surrogate's form.
+    /// bytes is well formed. On Windows it returns three, the length of a surrogate's form.
     ///
     /// ```
     /// use os_str_bytes::{Platform, Unix, Windows};
@@ -121,9 +121,10 @@ pub trait Platform {
         requires uncovered { StartsWithNoCharacter bytes.now }
         ensures { replaces bytes.now result };
 
-    /// The same number as [`Platform::lossy_len`], for a caller that knows the fault at the start
-    /// of the bytes: `wtf8_core::utf8_fault` of them is `Some((0, error_len))`. So a platform
-    /// doesn't have to find that fault again. The default implementation calls `lossy_len`.
+    /// Returns the number that [`Platform::lossy_len`] returns, for a caller that knows the fault
+    /// at the start of the bytes: `wtf8_core::utf8_fault` of them is `Some((0, error_len))`. A
+    /// platform then doesn't have to find that fault again. The default implementation calls
+    /// `lossy_len`.
     ///
     /// ```
     /// use os_str_bytes::{Platform, Unix, utf8_fault};
@@ -194,15 +195,15 @@ pub trait Platform {
         requires suffix { well_formed suffix.now }
         ensures { IsTrue result ↔ IsSuffix (units suffix.now) (units string.now) };
 
-    /// Appends a string to another: the units are those of both, one after the other (std's
-    /// `OsString::push`). On Windows a high surrogate at the end of the one and a low one at the
-    /// start of the other become one code point (WTF-8, "Concatenating"). Both are well formed
-    /// (test: [`Platform::check`]). It doesn't allocate if the vector has room for the bytes of
-    /// both.
+    /// Appends a string to another, so that the units are those of both, one after the other (std's
+    /// `OsString::push`). On Windows, a high surrogate at the end of the first string and a low one
+    /// at the start of the second become one code point (WTF-8, "Concatenating"). Both are well
+    /// formed (test: [`Platform::check`]). It doesn't allocate if the vector has room for the bytes
+    /// of both.
     ///
     /// # Errors
     ///
-    /// `AllocError` if the memory is refused; the vector's bytes are then as they were.
+    /// `AllocError` if the allocation fails. The vector's bytes are then unchanged.
     ///
     /// ```
     /// use os_str_bytes::{Platform, Windows};
@@ -221,18 +222,18 @@ pub trait Platform {
         ensures full { OnErr result (vec_capacity string.old < vec_len string.old + length
             more.now) };
 
-    /// The lossy reading of arbitrary bytes, in new memory: the bytes themselves if they are well
-    /// formed, else what comes before the first refused part, then U+FFFD, and then the reading of
-    /// what follows that part, which doesn't depend on anything before it.
+    /// Returns the lossy reading of arbitrary bytes, in new memory. Well-formed bytes are their own
+    /// reading. The reading of any others is the part before the first rejected part, then U+FFFD,
+    /// and then the reading of what follows, which doesn't depend on anything before it.
     ///
-    /// On Windows `wtf8_core::wtf8_fault` determines the refused parts, so the reading is the forms
-    /// of what `wtf8_core::CodePoints` gives, with U+FFFD for each `Err`. On wasm a refused part is
-    /// a maximal ill-formed part (Unicode, section 3.9), as in std's `String::from_utf8_lossy`. On
-    /// Unix nothing is refused. It may allocate even if nothing is replaced.
+    /// On Windows `wtf8_core::wtf8_fault` determines the rejected parts. The reading is the forms
+    /// of the items of `wtf8_core::CodePoints`, with U+FFFD for each `Err`. On wasm a rejected part
+    /// is a maximal ill-formed part (Unicode, section 3.9), as in std's `String::from_utf8_lossy`.
+    /// On Unix no bytes are rejected. It may allocate even if nothing is replaced.
     ///
     /// # Errors
     ///
-    /// `AllocError` if the memory is refused.
+    /// `AllocError` if the allocation fails.
     ///
     /// ```
     /// use os_str_bytes::{Platform, Windows};

@@ -6,7 +6,7 @@ use crate::lossy::push_replaced;
 use std::alloc::{AllocError, Allocator};
 use wtf8_core::wtf8_fault;
 
-/// The bytes with each refused part replaced by U+FFFD, in new memory.
+/// Returns the bytes with each rejected part replaced by U+FFFD, in new memory.
 pub(crate) fn read_wtf8<A: Allocator>(alloc: A, bytes: &[u8]) -> Result<Vec<u8, A>, AllocError>
     ensures reading { IfOk result (λ reading. IsLossyReading bytes.now reading.items) }
     ensures formed { IfOk result (λ reading. IsWtf8 reading.items) }

@@ -1,6 +1,6 @@
-//! The units of a Windows string, 16 bytes at once: ASCII is widened, and of other bytes each adds
-//! what the bytes beside it say, without a branch. Units that are added are put together by fours,
-//! which takes three quarters of the time of one by one.
+//! The units of a Windows string, 16 bytes at a time. ASCII is widened. Any other byte adds units
+//! that depend on the bytes beside it, without a branch. Added units are packed four at a time,
+//! which takes three quarters of the time of packing them one by one.
 ghost use Rattle.std.specs.Prelude.{◌≡◌, ◌++◌, ◌+◌, ◌/◌, ◌%◌, ◌^◌, ◌≤◌, ◌<◌, ℕ, true, if◌then◌else◌, take, drop, length, slice_index, count_ones, IsOk, OnOk, vec_len, vec_capacity};
 ghost use Rattle.wtf8_core.specs.{Wtf8.IsWtf8, UnitsOf.units_of};
 ghost use Rattle.platform_str.specs.{Lanes.HasLanes, ToWide.adds_unit, ToWide.unit_at, ToWide.units_after_first, ToWide.chosen};
@@ -32,10 +32,11 @@ pub(crate) fn lanes(bytes: &[u8], from: usize) -> u16x16
     u8x16::from_slice(&bytes[from..]).cast::<u16>()
 }
 
-/// The unit that each of 16 bytes after the first adds, if it adds one. Halves of pairs are computed
-/// once a block may have some, after a lead of four bytes, and `pairs` is set then, so that no later
-/// block is asked: without halves other characters take 0.86 of the time, and to ask each block
-/// costs mixed text a tenth.
+/// Returns the unit that each of 16 bytes after the first adds, if it adds one.
+///
+/// Halves of pairs are only computed once a block may have some, after a lead of four bytes.
+/// `pairs` is set then, so that no later block is tested. Without halves, other characters take
+/// 0.86 of the time, and testing each block costs mixed text a tenth.
 #[inline(always)]
 fn unit_lanes(bytes: &[u8], pairs: &mut bool) -> [u16; 16]
     requires { 19 ≤ length bytes.now }
@@ -61,7 +62,8 @@ fn unit_lanes(bytes: &[u8], pairs: &mut bool) -> [u16; 16]
     ascii.select(first, unit).to_array()
 }
 
-/// For each of up to 16 bytes after the first a bit, from the lowest on: whether it adds a unit.
+/// Returns a bit for each of up to 16 bytes after the first, from the lowest on: whether the byte
+/// adds a unit.
 #[inline(always)]
 fn unit_mask(bytes: &[u8], count: usize) -> usize
     requires some { 17 ≤ length bytes.now }
@@ -98,7 +100,7 @@ fn chosen_first(units: u16x4, mask: usize) -> u16x4
     units.swizzle_dyn_within::<4>(u16x4::from_slice(&CHOICES[4 * mask..]))
 }
 
-/// Writes those units of a block at which a mask has a bit from index `at` on, and returns the index
+/// Writes the units of a block at which a mask has a bit, from index `at` on, and returns the index
 /// after them. Within the block it may also overwrite up to four units after them.
 #[inline(always)]
 pub(crate) fn put_chosen(units: &mut [u16], at: usize, lanes: [u16; 16], mask: usize) -> usize
@@ -120,7 +122,8 @@ pub(crate) fn put_chosen(units: &mut [u16], at: usize, lanes: [u16; 16], mask: u
     end
 }
 
-/// What up to 16 bytes after the first add: a unit for each, and a mask of those that they add.
+/// Returns what up to 16 bytes after the first add: a unit for each byte, and a mask of the bytes
+/// that add theirs.
 #[tactic(auto, using(crate::proofs::lemmas::Choices::few_bits))]
 #[inline(always)]
 pub(crate) fn next_block(bytes: &[u8], count: usize, pairs: &mut bool) -> ([u16; 16], usize)
@@ -139,8 +142,8 @@ pub(crate) fn next_block(bytes: &[u8], count: usize, pairs: &mut bool) -> ([u16;
     (unit_lanes(&window, pairs), unit_mask(&window, count))
 }
 
-/// Appends what up to 16 bytes after the first add. It is kept out of the loop over ASCII, which is
-/// faster without it.
+/// Appends the units that up to 16 bytes after the first add. It is kept out of the loop over
+/// ASCII, which is faster without it.
 #[inline(never)]
 fn push_next<A: Allocator>(
     units: &mut Vec<u16, A>,
@@ -228,7 +231,8 @@ pub(crate) fn push_units<A: Allocator>(units: &mut Vec<u16, A>, string: &[u8]) -
             units.extend_from_slice(&lanes(rest, 1).to_array())?;
             rest = rest.split_at(16).1;
         } else if rest.len() <= 16 && rest[1] < 0x80 {
-            // the last letters of ASCII one by one: 49 ns for a path of 10 to 80 bytes, and 71 by a block
+            // the last letters of ASCII one by one: 49 ns for a path of 10 to 80 bytes, and 71 by a
+            // block
             units.push(u16::from(rest[1]))?;
             rest = rest.split_at(1).1;
         } else {

@@ -1,4 +1,4 @@
-//! The strings of Unix: any bytes. Their units are their bytes, and no bytes are refused.
+//! The strings of Unix: any bytes. Their units are their bytes, and no bytes are rejected.
 ghost use Rattle.std.specs.{List.All, Str.Lossy.utf8_lossy};
 ghost use Rattle.wtf8_core.specs.{Byte.IsByte, Utf8.IsIllFormedPart};
 ghost use Rattle.platform_str.specs.PlatformWords.{itself};

@@ -14,8 +14,8 @@ use std::alloc::{AllocError, Allocator};
 use std::marker::Model;
 use wtf8_core::EncodeWide;
 
-/// An iterator over the 16-bit units of a Windows string, from the first on. After `None` it gives
-/// only `None`.
+/// An iterator over the 16-bit units of a Windows string, from the first on. After the last unit
+/// `next` always returns `None`.
 #[derive(Drop)]
 pub struct WideUnits<'a> {
     items: EncodeWide<'a>,
@@ -63,15 +63,15 @@ impl<'a> OsStr<'a, Windows> {
         }
     }
 
-    /// The string's 16-bit units, all at once: those that [`OsStr::encode_wide`] gives, in a
-    /// vector. It makes one request for memory, and none if the string is empty.
+    /// Returns the string's 16-bit units, all at once, in a vector: those of
+    /// [`OsStr::encode_wide`]. It makes one allocation, and none if the string is empty.
     ///
     /// It is equivalent to collecting `OsStrExt::encode_wide` of std on Windows, and, if the string
     /// is a text, to collecting `str::encode_utf16`.
     ///
     /// # Errors
     ///
-    /// `AllocError` if the memory is refused.
+    /// `AllocError` if the allocation fails.
     ///
     /// ```
     /// use os_str_bytes::{OsStr, OsStrBytes, OsString, OsStringBytes, Windows};
@@ -93,10 +93,10 @@ impl<'a> OsStr<'a, Windows> {
         Ok(wide)
     }
 
-    /// Writes the string's 16-bit units into a buffer, truncated if the buffer is too short for
-    /// them, and returns how many the string has (own call; the units are those of
-    /// [`OsStr::encode_wide`]). What the units don't reach stays as it is. It doesn't allocate, and
-    /// with an empty buffer only counts.
+    /// Writes the string's 16-bit units into a buffer and returns the number of units of the string
+    /// (own call). The units are those of [`OsStr::encode_wide`], truncated if the buffer is too
+    /// short for them. The rest of the buffer is unchanged. It doesn't allocate, and with an empty
+    /// buffer it only counts.
     ///
     /// A string has no more units than bytes. A buffer may end between the two units of a pair.
     ///
@@ -118,12 +118,12 @@ impl<'a> OsStr<'a, Windows> {
         write_units(self.as_encoded_bytes(), buffer)
     }
 
-    /// Writes the bytes of the one string with these 16-bit units into a buffer, truncated if the
-    /// buffer is too short for them, and returns how many there are (own call; the string is that
-    /// of [`OsString::from_wide`]). What the bytes don't reach stays as it is. It doesn't allocate,
-    /// and with an empty buffer only counts.
+    /// Writes the bytes of the one string with these 16-bit units into a buffer, and returns the
+    /// number of bytes of the string (own call). The string is that of [`OsString::from_wide`],
+    /// truncated if the buffer is too short for it. The rest of the buffer is unchanged. It doesn't
+    /// allocate, and with an empty buffer it only counts.
     ///
-    /// A unit gives at most three bytes. If the buffer has room for all, they are a string's bytes,
+    /// A unit adds at most three bytes. If the buffer has room for all bytes, they are a string's,
     /// and a prefix of them may end within a character.
     ///
     /// ```
@@ -143,13 +143,13 @@ impl<'a> OsStr<'a, Windows> {
 }
 
 impl<A: Allocator> OsString<Windows, A> {
-    /// The one string with these 16-bit units, as std's `OsStringExt::from_wide` on Windows. For
-    /// the units that [`OsStr::encode_wide`] gives it is the same string again. It makes one
-    /// request for memory, and none if there are no units.
+    /// Returns the one string with these 16-bit units, as std's `OsStringExt::from_wide` on
+    /// Windows. For the units of [`OsStr::encode_wide`] it returns an equal string. It makes one
+    /// allocation, and none if there are no units.
     ///
     /// # Errors
     ///
-    /// `AllocError` if the memory is refused.
+    /// `AllocError` if the allocation fails.
     ///
     /// ```
     /// use os_str_bytes::{OsStr, OsString, Windows};

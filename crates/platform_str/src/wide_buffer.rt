@@ -1,5 +1,5 @@
-//! The units of a Windows string in a buffer, as far as there is room: those of 16 bytes at once.
-//! What is after the last unit stays as it is.
+//! Writes the units of a Windows string into a buffer, as far as there is room, 16 bytes at a time.
+//! The buffer is unchanged after the last unit.
 ghost use Rattle.std.specs.Prelude.{◌≡◌, ◌++◌, ◌+◌, ◌≤◌, ◌<◌, ◌^◌, ℕ, List, drop, length, count_ones};
 ghost use Rattle.wtf8_core.specs.{Wtf8.IsWtf8, UnitsOf.units_of, Truncated.IsTruncated};
 ghost use Rattle.platform_str.specs.ToWide.{Appends, units_after_first, chosen};
@@ -7,14 +7,14 @@ ghost use Rattle.platform_str.specs.ToWide.{Appends, units_after_first, chosen};
 use crate::to_wide::{first_unit, goes_on_in_ascii, lanes, next_block, put_chosen};
 use std::simd::prelude::*;
 
-/// The units of a block, and how many a buffer has room for where a block is written into it: four
-/// are overwritten after it, and put back.
+/// The number of units of a block, and the room that a buffer needs for writing a block into it.
+/// Four units after the block are overwritten and restored.
 const BLOCK: usize = 16;
 
 const ROOM: usize = BLOCK + 4;
 
-/// Appends units to `count` units in a buffer, as far as there is room, and returns how many there
-/// are with them.
+/// Appends units to `count` units in a buffer, as far as there is room, and returns `count` plus
+/// their number.
 #[inline(always)]
 fn push_truncated(buffer: &mut [u16], count: usize, units: &[u16]) -> usize
     requires { count + length units.now < 2 ^ 64 }
@@ -30,7 +30,7 @@ fn push_truncated(buffer: &mut [u16], count: usize, units: &[u16]) -> usize
     len
 }
 
-/// The same where there is no room for all the units.
+/// Appends as many units as the buffer has room for, where there is no room for all of them.
 fn fill_up(buffer: &mut [u16], count: usize, units: &[u16])
     requires { length buffer.now < count + length units.now }
     ensures { Appends units.now buffer.old count buffer.new (count + length units.now) }
@@ -41,8 +41,8 @@ fn fill_up(buffer: &mut [u16], count: usize, units: &[u16])
     }
 }
 
-/// Appends those units of a block at which a mask has a bit, where the buffer has room. What was
-/// overwritten after them is put back.
+/// Appends the units of a block at which a mask has a bit, where the buffer has room. Units that
+/// were overwritten after them are restored.
 #[inline(always)]
 fn push_in_room(buffer: &mut [u16], count: usize, lanes: [u16; 16], mask: usize) -> usize
     requires bits { mask < 2 ^ 16 }
@@ -57,8 +57,8 @@ fn push_in_room(buffer: &mut [u16], count: usize, lanes: [u16; 16], mask: usize)
     end
 }
 
-/// Appends what up to 16 bytes after the first add. It is kept out of the loop over ASCII, which is
-/// faster without it.
+/// Appends the units that up to 16 bytes after the first add. It is kept out of the loop over
+/// ASCII, which is faster without it.
 #[inline(never)]
 fn push_next(buffer: &mut [u16], count: usize, bytes: &[u8], step: usize, pairs: &mut bool) -> usize
     requires step { step ≤ 16 }
@@ -77,8 +77,8 @@ fn push_next(buffer: &mut [u16], count: usize, bytes: &[u8], step: usize, pairs:
     push_truncated(buffer, count, &block[..len])
 }
 
-/// Writes the units of a string into a buffer, as far as there is room, and returns how many the
-/// string has.
+/// Writes the units of a string into a buffer, as far as there is room, and returns the number of
+/// units of the string.
 pub(crate) fn write_units(string: &[u8], buffer: &mut [u16]) -> usize
     requires { IsWtf8 string.now }
     ensures { IsTruncated (units_of string.now) buffer.old buffer.new result }

@@ -13,8 +13,8 @@ pub trait Writeable {
     /// The text.
     ghost text: { Self → List ℕ };
 
-    /// Writes the text without padding, whatever width the formatter has. It is for a `Display` that
-    /// prints a text between other words.
+    /// Writes the text without padding, whatever width the formatter has. It is for a `Display`
+    /// that prints a text between other words.
     ///
     /// ```
     /// use os_str_bytes::{OsStr, OsStrDisplay, Unix, Writeable};
@@ -40,9 +40,9 @@ pub trait Writeable {
         ensures { WritesStyledOnOk W.write_str_gives f.old result (text self.now) f.new };
 }
 
-/// Writes a text, filled to the width that the formatter has (own call; as std's `Formatter::pad`,
-/// which needs a `str`). A width counts characters, and fills after the text if no alignment is
-/// given. A precision doesn't truncate.
+/// Writes a text, filled to the width that the formatter has (own call). It is like std's
+/// `Formatter::pad`, which needs a `str`. A width counts characters, and padding comes after the
+/// text if no alignment is given. A precision doesn't truncate.
 ///
 /// ```
 /// use os_str_bytes::{OsStr, OsStrDisplay, Unix, Writeable, write_filled};
@@ -78,7 +78,7 @@ pub fn write_filled<T: Writeable, W: fmt::Write>(text: &T, f: &mut fmt::Formatte
     }
 }
 
-/// How many characters a text is short of a width.
+/// Returns the number of characters that a text is short of a width.
 fn padding_to<T: Writeable>(width: usize, text: &T) -> Result<usize, fmt::Error>
     ensures { IfOk result (λ padding. padding ≡ width - char_count (T.text text.now)) }
 {
@@ -87,7 +87,7 @@ fn padding_to<T: Writeable>(width: usize, text: &T) -> Result<usize, fmt::Error>
     Ok(counter.into_inner().left)
 }
 
-/// How many characters are left up to a width, after what was written to it.
+/// The number of characters that are left up to a width, after what was written to it.
 #[derive(Drop)]
 struct Shortfall {
     left: usize,

@@ -2,7 +2,7 @@
 use Rattle.std.specs.Prelude.{ℕ, List, ◌++◌, codes, Bool, ⊤, Result, Ok, Err}
 use Rattle.program_frame.specs.declared.ended.Ended.{Ended}
 
--- what its run answered
+-- the outcome of its run
 abbrev pub outcome_of : {F : Type 0} → Ended F → Result ⊤ F
 outcome_of ended = ended.outcome
 

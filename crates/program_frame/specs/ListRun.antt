@@ -15,14 +15,14 @@ abbrev pub start : State
 start = record { begun = []; count = 0; output = [] }
 
 module _ {F : Type 0} (list : ListRules F) where
-  -- the output for an input of which no item is refused
+  -- the output for an input with no item that is rejected
   pub record IsOutput (input output : List ℕ) : Type 0 where
     pub entries : List Entry
     pub are : AllByRecursion (IsEntry list) entries
     pub items : AreIn list entries input
     pub written : output ≡ texts_of entries
 
-  -- the output for some of the first items of the input, each of which has its end
+  -- the output for some of the first items of the input; each of them has its end
   pub record IsBegun (input output : List ℕ) : Type 0 where
     pub entries : List Entry
     pub are : AllByRecursion (IsEntry list) entries
@@ -50,7 +50,7 @@ module _ {F : Type 0} (list : ListRules F) where
   abbrev pub WritesBeginning : Option (List ℕ) → Option (List ℕ) → Option (List ℕ) → Type 0
   WritesBeginning input old new = IfSome input (λ bytes. (output : List ℕ) × ((IsBegun bytes output ⊎ IsOutput bytes output) × AppendsBeginning old new output))
 
-  -- what `run` says of the bytes that its reader had and has left, of what its writer held and holds, and of its answer
+  -- what `run` ensures of the bytes that its reader had and has left, of what its writer held and holds, and of its result
   pub record IsRun (input left old new : Option (List ℕ)) (answer : Result ⊤ (ListFault F)) : Type 0 where
     pub all_read : OnOk answer (IsAtEnd left)
     pub written : OnOk answer (WritesOutput input old new)
@@ -75,11 +75,11 @@ module _ {F : Type 0} (list : ListRules F) where
   abbrev pub Finishes : List ℕ → List ℕ → Type 0
   Finishes begun text = ((begun ≡ []) × (text ≡ [])) ⊎ IsLast begun text
 
--- the answer of a run over a list, as a program gives it
+-- the result of a run over a list, as a program returns it
 abbrev pub answer_of : {F X : Type 0} → (ListFault F → X) → Result ⊤ (ListFault F) → Result ⊤ X
 answer_of fault (Ok done) = Ok done
 answer_of fault (Err why) = Err (fault why)
 
--- the answer is that of a run over the list
+-- the result is that of a run over the list
 abbrev pub Runs : {F X : Type 0} → ListRules F → (ListFault F → X) → Option (List ℕ) → Option (List ℕ) → Option (List ℕ) → Option (List ℕ) → Result ⊤ X → Type 0
 Runs list fault input left old new answer = (ran : Result ⊤ (ListFault _)) × (IsRun list input left old new ran × (answer ≡ answer_of fault ran))

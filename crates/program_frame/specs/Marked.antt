@@ -22,7 +22,7 @@ abbrev pub IsBrokenPipe : {T : Type 0} → Result T Error → Type 0
 IsBrokenPipe (Ok value) = ⊥
 IsBrokenPipe (Err error) = error_kind error ≡ BrokenPipe
 
--- whether a write of these bytes answered an error, or took none of them where there were some
+-- whether a write of these bytes returned an error, or took none of them although there were some
 abbrev pub failed_write : {E : Type 0} → Result ℕ E → List ℕ → Bool
 failed_write (Ok count) bytes = (count == 0) && not (length bytes == 0)
 failed_write (Err error) bytes = true

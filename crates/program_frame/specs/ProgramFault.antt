@@ -16,6 +16,6 @@ abbrev pub status_of : {F U : Type 0} → (U → ℕ) → Fault F U → ℕ
 status_of words (OfList fault) = list_fault.status_of fault
 status_of words (Words why) = words why
 
--- the answer blames a read exactly where the reader's mark is set, and a write exactly where the writer's is
+-- the result blames a read exactly where the reader's mark is set, and a write exactly where the writer's is
 abbrev pub BlamesEnds : {F U : Type 0} → Result ⊤ (Fault F U) → Bool → Bool → Type 0
 BlamesEnds answer reader writer = ((answer ≡ Err (OfList (Run Read))) ↔ (reader ≡ true)) × ((answer ≡ Err (OfList (Run Write))) ↔ (writer ≡ true))

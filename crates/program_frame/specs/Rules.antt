@@ -7,7 +7,7 @@ use Rattle.program_frame.specs.declared.lists.fault.ListFault.{ListFault}
 use Rattle.program_frame.specs.declared.lists.fault.ListFault.TheVariants.{Refused, TooLong, Unended, TooMuch, Run}
 use Rattle.program_frame.specs.Items.{Entry, Lacks, IsLastUnended, items_of}
 
--- what is done with each item of a list: the byte that ends one, whether the last may lack it, how many bytes a name may have, how many an item, what is written for an item, why one is refused, and which items are of a name that is too long
+-- what is done with each item of a list. The fields are the byte that ends an item, whether the last may lack it, and how many bytes a name and an item may have. They also state what is written for an item, why one is rejected, and which items are of a name that is too long.
 pub record ListRules (F : Type 0) : Type 1 where
   pub end : ℕ
   pub takes_unended : Type 0

@@ -15,7 +15,7 @@ marker Unix = unix_type.Unix
 marker Windows = windows_type.Windows
 marker Wasm = wasm_type.Wasm
 
--- what the platform says of its strings
+-- what the platform defines of its strings
 abbrev pub strings : (os : Os) → Ghosts (marker os)
 strings Unix = unix.ghosts
 strings Windows = windows.ghosts

@@ -30,7 +30,7 @@ pub trait ProgramFault: Display + Copy {
     ghost printed: { (fault : Self) → Self.output fault ≡ Some (text_of fault) };
 }
 
-/// How a program ended: what its run answered, and whether the message was taken.
+/// How a program ended: the outcome of its run, and whether its message was written in full.
 #[derive(Drop)]
 pub struct Ended<F> {
     outcome: Result<(), F>,
@@ -67,8 +67,8 @@ impl<F: ProgramFault> Ended<F> {
         Ended { outcome, told }
     }
 
-    /// The end of a run with this outcome, told by [`Ended::telling`], or not told at all where nobody
-    /// reads any more what the run writes (`is_closed`).
+    /// Makes the end of a run with this outcome, as [`Ended::telling`] does. If the reader of the
+    /// run's output is gone (`is_closed`), no message is written.
     ///
     /// ```
     /// use program_frame::ended::Ended;
@@ -104,7 +104,7 @@ impl<F: ProgramFault> Ended<F> {
         Ended::telling(program, outcome, errors)
     }
 
-    /// What the run answered.
+    /// The outcome of the run.
     ///
     /// ```
     /// use program_frame::ended::Ended;

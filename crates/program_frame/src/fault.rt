@@ -1,4 +1,4 @@
-//! What keeps a run from going on, whatever its input says.
+//! What keeps a run from going on, whatever its input is.
 ghost use Rattle.std.specs.Prelude.{◌≡◌, decimal};
 ghost use Rattle.std.specs.Fmt.{WritesStyledOnOk};
 ghost use Rattle.program_frame.specs.declared.fault.Failure.TheVariants.{Memory};
@@ -8,7 +8,7 @@ use std::alloc::{AllocError, AllocFailed};
 use std::fmt;
 use std::fmt::{InlineText, Write as _};
 
-/// What keeps a run from going on, whatever its input says. Its text has no width: `{:>99}` writes
+/// What keeps a run from going on, whatever its input is. Its text has no width: `{:>99}` writes
 /// what `{}` does.
 #[derive(Clone, Copy, PartialEq, Eq)]
 pub enum Failure {
@@ -47,7 +47,8 @@ impl ProgramFault for Failure {
 
     ghost printed = { λ _. refl };
 
-    /// The status that the program ends with: 3 for want of memory, and 4 for a failed read or write.
+    /// The status that the program ends with: 3 if it is out of memory, and 4 for a failed read or
+    /// write.
     ///
     /// ```
     /// use program_frame::ended::ProgramFault;
@@ -79,7 +80,8 @@ impl<T: Drop> From<AllocFailed<T>> for Failure {
     }
 }
 
-/// Writes the decimal digits of a number, whatever width is asked for: a fault's text has no width.
+/// Writes the decimal digits of a number. It ignores the formatter's width, since a fault's text
+/// has none.
 ///
 /// ```
 /// use program_frame::fault::write_number;

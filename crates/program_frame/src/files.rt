@@ -43,8 +43,9 @@ pub trait Files {
         ensures no_file { result ≡ Err FileFault.NoFile → (known self.now).lacks name.now };
 }
 
-/// The files of the runtime. Of these no proof knows anything: a name may have a file or none, at one time
-/// and at another, and the file may have any bytes. So what it answers is claimed nowhere, as the world is.
+/// The files of the runtime. No proof knows anything about them: a name may have a file at one time
+/// and none at another, and the file may have any bytes. So no contract states what a read returns,
+/// as with the rest of the outside world.
 #[derive(Clone, Copy)]
 pub struct Disk<'r, R> {
     rt: &'r R,
@@ -81,7 +82,7 @@ impl<'r, R: rt::Files> Files for Disk<'r, R> {
     }
 }
 
-/// What an error of this kind says of a file that was to be opened.
+/// The fault for an error of this kind in opening a file.
 fn fault_of(kind: ErrorKind) -> FileFault {
     match kind {
         ErrorKind::NotFound => FileFault::NoFile,

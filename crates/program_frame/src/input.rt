@@ -8,7 +8,7 @@ use crate::marked::Marked;
 use std::alloc::Allocator;
 use std::io::Read;
 
-/// All that the reader has left, read in blocks, each of which is copied.
+/// Reads all bytes that the reader has left. They are read in blocks, and each block is copied.
 ///
 /// # Errors
 ///

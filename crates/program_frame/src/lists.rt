@@ -1,9 +1,9 @@
 //! Lists: items that are each ended by a byte, read and written block by block.
 //!
-//! What is done with each item is a [`task::ListTask`]; [`run::run`] reads the list and writes what its
-//! items become. Where it ends early, a [`fault::ListFault`] says why, and with the number of which item.
-//! A program for lists is a [`program::ListProgram`], which [`program::execute`] runs; it answers with
-//! what [`answers`] has.
+//! A [`task::ListTask`] defines what is done with each item. [`run::run`] reads the list and writes
+//! the output for its items. If it ends early, a [`fault::ListFault`] states why and, for a fault
+//! of an item, the item's number. A program for lists is a [`program::ListProgram`], which
+//! [`program::execute`] runs. [`answers`] has the calls that make its outcome.
 
 pub mod answers;
 pub mod fault;

@@ -7,12 +7,12 @@ ghost use Rattle.std.specs.Io.KnownBytes.{Keeps, ReadConsumes, WriteAppends};
 use std::io;
 use std::io::{ErrorKind, Read, Write};
 
-/// A reader or a writer with a mark that tells whether one of its calls failed.
+/// A reader or a writer with a mark that records whether one of its calls failed.
 ///
-/// The mark is unset at first. A call that answers an error sets it, and so does a write
-/// that takes nothing of bytes that aren't empty; no other call does. So after a `read`
-/// that answered an error [`Marked::failed`] is true. It also keeps whether the last write or flush
-/// that failed found that nobody reads what it writes any more ([`Marked::closed`]).
+/// The mark is unset at first. A call that returns an error sets it. So does a write that takes
+/// none of the bytes that it is given, if there are any. No other call sets it. So after a `read`
+/// that returned an error, [`Marked::failed`] is true. It also records whether the last failed
+/// write or flush found that the reader of its output is gone ([`Marked::closed`]).
 #[derive(Drop)]
 pub struct Marked<T> {
     inner: T,

@@ -12,8 +12,8 @@ use std::io::Write;
 /// How many bytes a message may have; the longest of the programs' has 133.
 const ROOM: usize = 160;
 
-/// Writes the message of a fault, and answers whether all of it was taken; else a beginning of it
-/// was. It takes no memory.
+/// Writes the message of a fault, and returns whether all of it was taken. Otherwise a beginning of
+/// it was. It doesn't allocate.
 pub(crate) fn tell<F: ProgramFault, E: Write>(program: &str, fault: &F, errors: &mut E) -> bool
     ensures told { result ≡ true → Appends (E.contents errors.old) (E.contents errors.new)
         (message program.now (F.text_of fault.now)) }
@@ -26,8 +26,8 @@ pub(crate) fn tell<F: ProgramFault, E: Write>(program: &str, fault: &F, errors: 
     }
 }
 
-/// Writes a text, and answers whether all of it was taken; else a beginning of it was. It takes no
-/// memory.
+/// Writes a text, and returns whether all of it was taken. Otherwise a beginning of it was. It
+/// doesn't allocate.
 ///
 /// ```
 /// use program_frame::telling::write_text;

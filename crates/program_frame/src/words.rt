@@ -9,21 +9,21 @@ use std::env::Args;
 use std::io;
 use std::io::ErrorKind;
 
-/// Why a program's words couldn't be had.
+/// Why a program's arguments aren't available.
 #[derive(Clone, Copy, PartialEq, Eq)]
 pub enum NoWords {
     /// Memory was refused.
     Memory,
-    /// The arguments couldn't be had for another reason, as where one isn't UTF-8.
+    /// The arguments aren't available for another reason, such as invalid UTF-8 in one of them.
     Unreadable,
 }
 
-/// The words after the program's name, which is the first argument.
+/// Returns the arguments after the program's name, which is the first argument.
 ///
 /// # Errors
 ///
 /// [`NoWords::Memory`] where memory was refused, and [`NoWords::Unreadable`] where the arguments
-/// couldn't be had for another reason.
+/// aren't available for another reason.
 ///
 /// ```
 /// use program_frame::words::words;

@@ -8,7 +8,7 @@ use crate::fault::Failure;
 use crate::marked::Marked;
 use std::io::Write;
 
-/// Writes all of the output, and flushes. The mark must be unset ([`Marked::failed`] tells).
+/// Writes all of the output, and flushes. The mark must be unset (test: [`Marked::failed`]).
 ///
 /// # Errors
 ///

@@ -9,11 +9,11 @@ use Rattle.test_allocator.specs.declared.plan.Plan.TheVariants.{Nth}
 unfoldable pub each_request : ℕ → List Plan
 each_request turns = map Nth (range_with_len 1 turns)
 
--- one call for each of the plans, in their order and at some allocator, took the closure from `first` to `last`, and each answered `Ok`
+-- one call for each of the plans, in their order and at some allocator, took the closure from `first` to `last`, and each returned `Ok`
 unfoldable pub RanUnder : {Test Heap : Type 0} → (Test → Heap → Plan → Result (Unit {0}) AllocError → Test → Type 0) → Test → List Plan → Test → Type 0
 RanUnder {Heap} step first plans last = FoldsTo (λ before plan after. (heap : Heap) × step before heap plan (Ok tt) after) first plans last
 
--- the runs ended in an error: that of a run after others that answered `Ok`, or the one for want of further plans
+-- the runs ended in an error: that of a run after others that returned `Ok`, or the one after which no plan is left
 unfoldable pub EndedIn : {Test Heap : Type 0} → (Test → Heap → Plan → Result (Unit {0}) AllocError → Test → Type 0) → Test → AllocError → Type 0
 EndedIn {Test} {Heap} step first error =
     ((turns : ℕ) × (before last : Test) × (heap : Heap) × RanUnder step first (each_request turns) before × step before heap (Nth (turns + 1)) (Err error) last)

@@ -6,10 +6,11 @@ use crate::Plan;
 use crate::requests::Requests;
 use std::alloc::{AllocError, Allocator};
 
-/// Is asked before another allocator, refuses the requests of a [`Plan`] with `AllocError`,
-/// and passes each other one on. It also counts what was asked.
+/// Wraps another allocator. It refuses the requests of a [`Plan`] with `AllocError`, and passes on
+/// every other request. It also counts the requests.
 ///
-/// A collection takes it as `&heap`, and the test keeps `heap` to ask what was refused:
+/// A collection takes it as `&heap`, and the test keeps `heap` to query whether a request was
+/// refused:
 ///
 /// ```text
 /// let heap = Refusing::new(rt.alloc(), Plan::Never);
@@ -20,11 +21,10 @@ use std::alloc::{AllocError, Allocator};
 /// assert_eq!(rt; bytes.as_slice(), b"abc".as_slice());
 /// ```
 ///
-/// One request is a call of `allocate`, `grow` or `shrink`: the last two keep their bodies
-/// from the trait, which call `allocate` once, for a new block of the whole new size. So a
-/// block never grows in place, and where the new block is refused the old one stays as it
-/// is. Giving a block back is no request. std answers `AllocError` at a size of 2^63 bytes
-/// or more without a request.
+/// One request is a call of `allocate`, `grow` or `shrink`. The last two keep their bodies from the
+/// trait, which call `allocate` once, for a new block of the whole new size. So a block never grows
+/// in place, and where the new block is refused the old one stays as it is. Giving a block back is
+/// no request. std returns `AllocError` at a size of 2^63 bytes or more without a request.
 #[derive(Drop)]
 pub struct Refusing<A: Allocator> {
     alloc: A,
@@ -32,7 +32,7 @@ pub struct Refusing<A: Allocator> {
 }
 
 impl<A: Allocator> Refusing<A> {
-    /// Is asked before `alloc`, with no request made yet.
+    /// Wraps `alloc`, with no request made yet.
     pub fn new(alloc: A, plan: Plan) -> Refusing<A>
         ensures { allocator_of result ≡ alloc }
     {

@@ -33,7 +33,7 @@ impl Requests {
         self.refused.get()
     }
 
-    /// Counts one more request, and answers whether the plan refuses it.
+    /// Counts one more request, and returns whether the plan refuses it.
     pub(crate) fn refuses_next(&self) -> bool {
         let number = self.asked.get().saturating_add(1);
         let refuses = self.plan.get().refuses(number);

@@ -5,12 +5,12 @@ ghost use Rattle.test_allocator.specs.Turns.{each_request, RanUnder, EndedIn};
 use crate::{Plan, Refusing};
 use std::alloc::{AllocError, Allocator};
 
-/// Calls `test` with the plan `Nth(1)`, then `Nth(2)`, and so on, each time with an allocator
-/// of its own that refuses nothing yet, until a run in which nothing was refused. Answers how
-/// many runs had a refusal: as many as there are requests in the call that is tested.
+/// Calls `test` with the plan `Nth(1)`, then `Nth(2)`, and so on, until a run in which nothing was
+/// refused. Each run has an allocator of its own that refuses nothing yet. The result is the number
+/// of runs with a refusal, which is the number of requests in the tested call.
 ///
-/// `test` makes what it needs, calls [`Refusing::restart`] with the plan, makes the tested
-/// call, and asks [`Refusing::refused`] which answer is right:
+/// `test` makes what it needs, calls [`Refusing::restart`] with the plan, and makes the tested
+/// call. Then it calls [`Refusing::refused`] to choose the expected result:
 ///
 /// ```text
 /// let requests = for_each_refusal(rt.alloc(), |heap, plan| {
@@ -33,8 +33,8 @@ use std::alloc::{AllocError, Allocator};
 ///
 /// # Errors
 ///
-/// The first `Err` of `test` ends the runs and is the answer. Else the answer is `Err` only
-/// after 2^64 - 1 runs, each with a refusal.
+/// The first `Err` of `test` ends the runs and is returned. Otherwise `Err` is returned only after
+/// 2^64 - 1 runs, each with a refusal.
 pub fn for_each_refusal<A, F>(alloc: A, mut test: F) -> Result<u64, AllocError>
 where
     A: Allocator + Copy,

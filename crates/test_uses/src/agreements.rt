@@ -1,4 +1,4 @@
-//! Searches that answer the same question, and cuts of what they find.
+//! Searches whose results agree, and cuts at what they find.
 ghost use Rattle.std.specs.Prelude.{◌≡◌, ◌<◌, IfOk, IsTrue, length};
 ghost use Rattle.std.specs.List.{repeat};
 ghost use Rattle.platform_str.specs.Strings.{bytes, string_vec_of};
@@ -41,8 +41,7 @@ pub fn trimmed_at_the_end<'a, S: OsStrBytesExt<'a> + Copy>(string: S, pattern: &
     !string.trim_end_matches(pattern).ends_with(pattern)
 }
 
-/// What is left of a string without each pattern at its start, and what is left of that by the same
-/// call: the same.
+/// Trims each pattern from a string's start once, and then once more. Both results are equal.
 pub fn trimmed_twice_at_the_start<'a, S: OsStrBytesExt<'a> + Copy>(
     string: S,
     pattern: &str,
@@ -55,7 +54,7 @@ pub fn trimmed_twice_at_the_start<'a, S: OsStrBytesExt<'a> + Copy>(
     (once, again)
 }
 
-/// The same without each pattern at its end.
+/// Trims each pattern from a string's end once, and then once more. Both results are equal.
 pub fn trimmed_twice_at_the_end<'a, S: OsStrBytesExt<'a> + Copy>(string: S, pattern: &str) -> (S, S)
     requires { 0 < length pattern.now }
     ensures { S.bytes_of result.1 ≡ S.bytes_of result.0 }
@@ -65,7 +64,8 @@ pub fn trimmed_twice_at_the_end<'a, S: OsStrBytesExt<'a> + Copy>(string: S, patt
     (once, again)
 }
 
-/// The same without each pattern at its start and at its end.
+/// Trims each pattern from a string's start and end once, and then once more. Both results are
+/// equal.
 pub fn trimmed_twice<'a, S: OsStrBytesExt<'a> + Copy>(string: S, pattern: &str) -> (S, S)
     requires { 0 < length pattern.now }
     ensures { S.bytes_of result.1 ≡ S.bytes_of result.0 }

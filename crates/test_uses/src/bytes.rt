@@ -25,7 +25,7 @@ pub fn is_wtf8(raw: &[u8]) -> bool
     }
 }
 
-/// The check of bytes of which a fault is known, which answers it.
+/// Checks bytes with a known fault. The result is that fault.
 pub fn check_says(
     raw: &[u8],
     code_points: &[u32],
@@ -63,7 +63,7 @@ pub fn fault_once(
     laws::one_first_fault();
 }
 
-/// Two readers of the same bytes, which answer the same.
+/// Makes two readers of the same bytes. They are equal.
 pub fn read_twice(raw: &[u8]) -> (CodePoints<'_>, CodePoints<'_>)
     ensures { result.0 ≡ result.1 }
 {
@@ -80,7 +80,7 @@ pub fn parted_by_fault(raw: &[u8]) -> Option<(usize, Option<u8>)>
     utf8_fault(raw)
 }
 
-/// The fault of bytes of which one is known, which is that one.
+/// Returns the fault of bytes with a known fault, which is that one.
 pub fn utf8_fault_says(
     raw: &[u8],
     valid_up_to: usize,
@@ -104,7 +104,7 @@ pub fn text_of(raw: &[u8]) -> Option<&str>
     }
 }
 
-/// The fault of WTF-8 of which a fault of UTF-8 is known, which is that one.
+/// Returns the fault of WTF-8 with a known fault of UTF-8, which is that one.
 pub fn surrogate_fault_says(
     raw: &[u8],
     valid_up_to: usize,

@@ -29,7 +29,7 @@ pub(crate) fn utf8_chunks<'a, E: Platform + 'a>(string: OsStr<'a, E>) -> Utf8Chu
     string.utf8_chunks()
 }
 
-/// The chunks of a string of which some are known, which are those.
+/// Returns the chunks of a string with known chunks, which are those.
 pub fn chunks_say<'a, E: Platform + 'a>(
     string: OsStr<'a, E>,
     known: Utf8Chunks<'a, E>,
@@ -41,7 +41,7 @@ pub fn chunks_say<'a, E: Platform + 'a>(
     utf8_chunks(string)
 }
 
-/// Any bytes, of which there are chunks.
+/// Any bytes have chunks.
 pub fn has_chunks(raw: &[u8])
     ensures { (chunks : List Chunk) × AreChunks raw.now chunks }
 {
@@ -127,7 +127,7 @@ pub fn lone_surrogates<'a>(part: NonUnicodeOsStr<'a, Windows>) -> OsUnits<'a, Wi
     part.os_units()
 }
 
-/// The units of a part on Unix: its bytes, none of which is ASCII.
+/// Returns the units of a part on Unix. They are its bytes, and none is ASCII.
 pub fn no_ascii<'a>(part: NonUnicodeOsStr<'a, Unix>) -> OsUnits<'a, Unix>
     ensures same { result ≡ part_bytes part.entry }
     ensures above { All (λ u. 0x80 ≤ u) result }

@@ -42,7 +42,8 @@ pub fn part_in_units<'a, E: Platform + 'a>(
     string.index(start..end)
 }
 
-/// The same by `get_unchecked`.
+/// Returns the part in `start..end` by `get_unchecked`. The units before it, in it and after it are
+/// those of the string.
 pub fn unchecked_part_in_units<'a, E: Platform + 'a>(
     string: OsStr<'a, E>,
     start: usize,
@@ -55,7 +56,8 @@ pub fn unchecked_part_in_units<'a, E: Platform + 'a>(
     string.get_unchecked(start..end)
 }
 
-/// The same of a raw string.
+/// Returns the part of a raw string in `start..end`. The units before it, in it and after it are
+/// those of the string.
 pub fn raw_part_in_units<'a, E: Platform + 'a>(
     string: RawOsStr<'a, E>,
     start: usize,
@@ -68,7 +70,8 @@ pub fn raw_part_in_units<'a, E: Platform + 'a>(
     string.index(start..end)
 }
 
-/// The same of a raw string by `get_unchecked`.
+/// Returns the part of a raw string in `start..end` by `get_unchecked`. The units before it, in it
+/// and after it are those of the string.
 pub fn raw_unchecked_part_in_units<'a, E: Platform + 'a>(
     string: RawOsStr<'a, E>,
     start: usize,

@@ -11,7 +11,8 @@ use os_quote::{
 use platform_str::{OsStr, OsString, Platform};
 use std::alloc::{AllocError, Allocator};
 
-/// The string again, by way of its escape. Nothing but want of memory is in the way.
+/// Escapes a string and unescapes the result, which is the string again. Only out of memory is an
+/// error.
 pub fn there_and_back<E: Platform, A: Allocator + Copy>(
     alloc: A,
     string: OsStr<'_, E>,
@@ -25,7 +26,7 @@ pub fn there_and_back<E: Platform, A: Allocator + Copy>(
     unescape(alloc, text.as_str())
 }
 
-/// A string, of which there is an escape.
+/// Any string has an escape.
 pub fn has_escape<'a, E: Platform + 'a>(string: OsStr<'a, E>) -> OsStr<'a, E>
     ensures { (text : List ℕ) × IsEscape E.units (bytes result) text }
 {
@@ -33,7 +34,7 @@ pub fn has_escape<'a, E: Platform + 'a>(string: OsStr<'a, E>) -> OsStr<'a, E>
     string
 }
 
-/// The escape of a string of which one is known, which is that one.
+/// Returns the escape of a string with a known escape, which is that one.
 pub fn escape_says<E: Platform, A: Allocator>(
     alloc: A,
     string: OsStr<'_, E>,
@@ -47,7 +48,8 @@ pub fn escape_says<E: Platform, A: Allocator>(
     escape(alloc, string)
 }
 
-/// What comes of a text with a known index at which no token begins: that index, or want of memory.
+/// Unescapes a text with a known index at which no token begins. The error is that index, or out of
+/// memory.
 pub fn bad_index_says<E: Platform, A: Allocator>(
     alloc: A,
     text: &str,
@@ -61,7 +63,7 @@ pub fn bad_index_says<E: Platform, A: Allocator>(
     unescape(alloc, text)
 }
 
-/// The escape of a string of which one is known, in a buffer: that one, truncated.
+/// Writes the escape of a string with a known escape into a buffer: that one, truncated.
 pub fn escape_in<E: Platform>(string: OsStr<'_, E>, known: &[u8], buffer: &mut [u8]) -> usize
     requires known { IsEscape E.units (bytes string) known.now }
     requires short { 6 * length (bytes string) < 2 ^ 64 }

@@ -43,7 +43,7 @@ pub fn text_there_and_back<E: Platform, A: Allocator>(
     OsString::from(text).into_string()
 }
 
-/// An owned string read again with replacements, of which there are none: the same vector.
+/// Reads an owned string again with replacements. It needs none, so the vector is the same.
 pub fn moved_back_lossy<E: Platform, A: Allocator + Clone>(
     string: OsString<E, A>,
 ) -> Result<OsString<E, A>, AllocError>
@@ -53,8 +53,8 @@ pub fn moved_back_lossy<E: Platform, A: Allocator + Clone>(
     OsString::from_raw_vec_lossy(string.into_encoded_bytes())
 }
 
-/// The vector of an owned string for files, of which it is known that it may be handed to them: the
-/// same.
+/// Returns the vector for files of an owned string that may be handed to them. It is the string's
+/// own.
 pub fn kept_for_files<E: Platform, A: Allocator>(string: OsString<E, A>) -> Vec<u8, A>
     requires { E.io_safe (string_vec_of string).items }
     ensures { result ≡ string_vec_of string }

@@ -8,7 +8,7 @@ use os_str_bytes::{
 use std::alloc::Allocator;
 use std::hash::Hash;
 
-/// Whether two owned strings are equal: then a hasher is fed the same of both.
+/// Whether two owned strings are equal. If they are, a hasher is fed the same of both.
 pub fn owned_hash_alike<E: Platform, A: Allocator>(a: &OsString<E, A>, b: &OsString<E, A>) -> bool
     ensures { IsTrue result → ⟦<OsString<E, A> as Hash>⟧.hash_input a.now
         ≡ ⟦<OsString<E, A> as Hash>⟧.hash_input b.now }
@@ -18,7 +18,7 @@ pub fn owned_hash_alike<E: Platform, A: Allocator>(a: &OsString<E, A>, b: &OsStr
     *a == *b
 }
 
-/// The same of raw strings.
+/// Whether two raw strings are equal. If they are, a hasher is fed the same of both.
 pub fn raw_hash_alike<'a, E: Platform + 'a>(a: RawOsStr<'a, E>, b: RawOsStr<'a, E>) -> bool
     ensures { IsTrue result → ⟦<RawOsStr<'a, E> as Hash>⟧.hash_input a.entry
         ≡ ⟦<RawOsStr<'a, E> as Hash>⟧.hash_input b.entry }
@@ -28,7 +28,7 @@ pub fn raw_hash_alike<'a, E: Platform + 'a>(a: RawOsStr<'a, E>, b: RawOsStr<'a, 
     a == b
 }
 
-/// The same of owned raw strings.
+/// Whether two owned raw strings are equal. If they are, a hasher is fed the same of both.
 pub fn owned_raw_hash_alike<E: Platform, A: Allocator>(
     a: &RawOsString<E, A>,
     b: &RawOsString<E, A>,
@@ -41,7 +41,7 @@ pub fn owned_raw_hash_alike<E: Platform, A: Allocator>(
     *a == *b
 }
 
-/// The same of parts.
+/// Whether two parts are equal. If they are, a hasher is fed the same of both.
 pub fn part_hash_alike<'a, E: Platform + 'a>(
     a: NonUnicodeOsStr<'a, E>,
     b: NonUnicodeOsStr<'a, E>,
@@ -55,7 +55,7 @@ pub fn part_hash_alike<'a, E: Platform + 'a>(
     a == b
 }
 
-/// The same of units.
+/// Whether two units are equal. If they are, a hasher is fed the same of both.
 pub fn unit_hash_alike(a: OsUnit, b: OsUnit) -> bool
     ensures { IsTrue result
         → ⟦<OsUnit as Hash>⟧.hash_input a ≡ ⟦<OsUnit as Hash>⟧.hash_input b }
@@ -65,7 +65,7 @@ pub fn unit_hash_alike(a: OsUnit, b: OsUnit) -> bool
     a == b
 }
 
-/// The same of symbols.
+/// Whether two symbols are equal. If they are, a hasher is fed the same of both.
 pub fn symbol_hash_alike(a: Symbol, b: Symbol) -> bool
     ensures { IsTrue result
         → ⟦<Symbol as Hash>⟧.hash_input a ≡ ⟦<Symbol as Hash>⟧.hash_input b }

@@ -1,4 +1,4 @@
-//! The headline's call: each answer that could be mistaken for another.
+//! The headline's call: each result that could be mistaken for another.
 ghost use Rattle.std.specs.Prelude.{◌≡◌, IfOk};
 ghost use Rattle.wtf8_core.specs.Chunks.{AreChunks};
 ghost use Rattle.os_str_ext.specs.Pieces.{IsRSplit, SplitsOnce};
@@ -11,7 +11,7 @@ use os_str_bytes::headline::{self, Answers};
 use os_str_bytes::{Pattern, Platform, RawOsStr};
 use std::alloc::Allocator;
 
-/// What each call answers.
+/// Returns the result of each call.
 pub fn ask<'a, E: Platform + 'a, P: Pattern + Copy, A: Allocator>(
     alloc: &'a A,
     raw: &'a [u8],

@@ -7,7 +7,7 @@ use os_str_ext::OsStrBytesExt;
 use platform_str::{OsStr, OsString, Platform, laws};
 use std::alloc::{AllocError, Allocator, Global};
 
-/// Two strings, of which there is a join.
+/// Any two strings have a join.
 pub fn has_join<'a, E: Platform + 'a>(a: OsStr<'a, E>, b: OsStr<'a, E>) -> OsStr<'a, E>
     ensures same { bytes result ≡ bytes a.entry }
     ensures some { (joined : List ℕ)

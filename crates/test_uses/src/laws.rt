@@ -1,4 +1,4 @@
-//! What stays: a fault once it was answered, its one index, and that equal strings hash alike.
+//! What stays: a fault once it was returned, its one index, and that equal strings hash alike.
 ghost use Rattle.std.specs.Prelude.{◌≡◌, ◌↔◌, ◌<◌, ◌^◌, [], Err, IsTrue, IfErr, Some};
 ghost use Rattle.std.specs.String.{string_vec};
 ghost use Rattle.wtf8_core.specs.Fault.{IsFaultAt};
@@ -12,7 +12,7 @@ use std::alloc::Allocator;
 use std::hash::Hash;
 use wtf8_core::{Checker, laws as wtf8_laws, wtf8_fault};
 
-/// What two feeds of a new checker answer: where the first answers a fault, so does the second.
+/// Feeds a new checker twice. If the first feed returns a fault, so does the second.
 pub fn fault_again(
     piece: &[u8],
     more: &[u8],
@@ -27,7 +27,7 @@ pub fn fault_again(
     (first, second)
 }
 
-/// The index of the fault of bytes of which one is known, which is that one.
+/// Returns the index of the fault of bytes with a known fault, which is that one.
 pub fn fault_index_says(raw: &[u8], at: usize, len: usize) -> Option<(usize, usize)>
     requires { IsFaultAt raw.now at len }
     ensures { result ≡ Some (at, len) }

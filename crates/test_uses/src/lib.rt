@@ -1,8 +1,7 @@
 //! For trying: what a user of the strings concludes from the public contracts alone.
 //!
-//! Each function is a caller whose contract is such a conclusion. Nothing here cites a lemma
-//! or a private word of the crates below, so that a contract or a law that says too little
-//! breaks a caller.
+//! Each function is a caller whose contract is such a conclusion. Nothing here cites a lemma or a
+//! private word of the crates below, so a contract or a law that states too little breaks a caller.
 #![tactic(auto)]
 
 pub mod agreements;

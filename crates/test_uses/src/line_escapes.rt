@@ -15,8 +15,8 @@ use os_quote::{
 use platform_str::{OsStr, OsString, Platform};
 use std::alloc::{AllocError, Allocator};
 
-/// The string again, by way of its escape on one line. Nothing but want of memory is in the
-/// way.
+/// Escapes a string on one line and unescapes the result, which is the string again. Only out of
+/// memory is an error.
 pub fn line_there_and_back<E: Platform, A: Allocator + Copy>(
     alloc: A,
     string: OsStr<'_, E>,
@@ -29,7 +29,7 @@ pub fn line_there_and_back<E: Platform, A: Allocator + Copy>(
     unescape_line(alloc, text.as_str())
 }
 
-/// A string, of which there is an escape on one line.
+/// Any string has an escape on one line.
 pub fn has_line_escape<'a, E: Platform + 'a>(string: OsStr<'a, E>) -> OsStr<'a, E>
     ensures { (text : List ℕ) × IsLineEscape E.units (bytes result) text }
 {
@@ -37,7 +37,7 @@ pub fn has_line_escape<'a, E: Platform + 'a>(string: OsStr<'a, E>) -> OsStr<'a, 
     string
 }
 
-/// The escape on one line of a string of which one is known, which is that one. Each of its
+/// Returns the escape on one line of a string with a known one, which is that one. Each of its
 /// characters stays on the line.
 pub fn line_escape_says<E: Platform, A: Allocator>(
     alloc: A,
@@ -68,7 +68,8 @@ pub fn line_without_unseen<E: Platform, A: Allocator>(
     escape_line(alloc, string)
 }
 
-/// What comes of a text with a known index at which no token begins: that index, or want of memory.
+/// Unescapes a text with a known index at which no token begins. The error is that index, or out of
+/// memory.
 pub fn bad_line_index_says<E: Platform, A: Allocator>(
     alloc: A,
     text: &str,
@@ -82,7 +83,7 @@ pub fn bad_line_index_says<E: Platform, A: Allocator>(
     unescape_line(alloc, text)
 }
 
-/// The escape on one line of a string of which one is known, in a buffer: that one, truncated.
+/// Writes the escape on one line of a string with a known one into a buffer: that one, truncated.
 pub fn line_escape_in<E: Platform>(string: OsStr<'_, E>, known: &[u8], buffer: &mut [u8]) -> usize
     requires known { IsLineEscape E.units (bytes string) known.now }
     requires short { 6 * length (bytes string) < 2 ^ 64 }

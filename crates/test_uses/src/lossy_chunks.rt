@@ -27,7 +27,7 @@ pub fn texts_between<'a, E: Platform + 'a>(
     Ok((utf8_chunks(string), string.to_string_lossy(alloc)?))
 }
 
-/// The same on Unix.
+/// Returns the chunks of a Unix string and its lossy text, as `texts_between` does.
 pub fn texts_between_on_unix<'a>(
     alloc: Global,
     string: OsStr<'a, Unix>,
@@ -42,7 +42,7 @@ pub fn texts_between_on_unix<'a>(
     texts_between(alloc, string)
 }
 
-/// The same on Windows.
+/// Returns the chunks of a Windows string and its lossy text, as `texts_between` does.
 pub fn texts_between_on_windows<'a>(
     alloc: Global,
     string: OsStr<'a, Windows>,
@@ -55,7 +55,7 @@ pub fn texts_between_on_windows<'a>(
     texts_between(alloc, string)
 }
 
-/// The same on wasm.
+/// Returns the chunks of a wasm string and its lossy text, as `texts_between` does.
 pub fn texts_between_on_wasm<'a>(
     alloc: Global,
     string: OsStr<'a, Wasm>,

@@ -34,7 +34,7 @@ pub fn unit_index<'a, E: Platform + 'a>(string: OsStr<'a, E>, text: &str, at: us
     string
 }
 
-/// A text whose units occur at a unit index of which the byte index is known, cut out there.
+/// Cuts out a text whose units occur at a unit index. The byte index of the unit index is known.
 pub fn cut_out_by_units<'a, E: Platform + 'a>(
     string: OsStr<'a, E>,
     text: &str,
@@ -50,7 +50,8 @@ pub fn cut_out_by_units<'a, E: Platform + 'a>(
     cut_out(string, text, at)
 }
 
-/// The first index of a text of which the index by units is known, which is its byte index.
+/// Returns the first index of a text. Its index by units is known, and the result is the byte index
+/// of that.
 pub fn found_by_units<'a, E: Platform + 'a>(
     string: OsStr<'a, E>,
     text: &str,

@@ -14,7 +14,7 @@ pub fn order_agrees<'a, E: Platform + 'a>(a: OsStr<'a, E>, b: OsStr<'a, E>) -> (
     (a == b, a.cmp(&b))
 }
 
-/// The same of owned strings.
+/// Whether two owned strings are equal, and how they are ordered.
 pub fn owned_order_agrees<E: Platform, A: Allocator>(
     a: &OsString<E, A>,
     b: &OsString<E, A>,
@@ -25,7 +25,7 @@ pub fn owned_order_agrees<E: Platform, A: Allocator>(
     (*a == *b, a.cmp(b))
 }
 
-/// The same of raw strings.
+/// Whether two raw strings are equal, and how they are ordered.
 pub fn raw_order_agrees<'a, E: Platform + 'a>(
     a: RawOsStr<'a, E>,
     b: RawOsStr<'a, E>,
@@ -36,7 +36,7 @@ pub fn raw_order_agrees<'a, E: Platform + 'a>(
     (a == b, a.cmp(&b))
 }
 
-/// The same of owned raw strings.
+/// Whether two owned raw strings are equal, and how they are ordered.
 pub fn owned_raw_order_agrees<E: Platform, A: Allocator>(
     a: &RawOsString<E, A>,
     b: &RawOsString<E, A>,

@@ -44,7 +44,8 @@ pub fn three_parts<'a, E: Platform + 'a>(
     (prefix, middle, suffix)
 }
 
-/// The same parts, cut at the second index first.
+/// Returns the parts before, between and after two indices, as `three_parts` does, but cuts at the
+/// second index first.
 pub fn three_parts_from_the_end<'a, E: Platform + 'a>(
     string: OsStr<'a, E>,
     start: usize,
@@ -76,8 +77,8 @@ pub fn part_is_accepted<'a, E: Platform + 'a>(
     E::check(prefix.as_encoded_bytes())
 }
 
-/// Whether what follows in a string is accepted as raw bytes, from the index of a byte on that is no
-/// continuation byte: it always is.
+/// Whether the rest of a string, from the index of a byte that isn't a continuation byte, is
+/// accepted as raw bytes. It always is.
 pub fn rest_is_accepted<E: Platform>(raw: &[u8], at: usize) -> Result<(), EncodingError>
     requires string { E.well_formed raw.now }
     requires within { at < length raw.now }

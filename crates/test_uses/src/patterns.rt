@@ -37,7 +37,7 @@ pub fn raw_after_first<'a, E: Platform + 'a>(string: RawOsStr<'a, E>, text: &str
     Some(at + text.len())
 }
 
-/// The same of the last match.
+/// Where the last match of a text in a raw string ends. The string may be cut there.
 pub fn raw_after_last<'a, E: Platform + 'a>(string: RawOsStr<'a, E>, text: &str) -> Option<usize>
     ensures { IfSome result (λ end. IsBoundary (raw_bytes string.entry) end) }
 {

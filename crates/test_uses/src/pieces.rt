@@ -37,7 +37,7 @@ pub fn uncut<'a, E: Platform + 'a>(string: OsStr<'a, E>, text: &'a str) -> Split
     split(string, text)
 }
 
-/// The same from the end.
+/// The pieces from the end of a string in which a pattern doesn't occur: the string alone.
 pub fn uncut_from_the_end<'a, E: Platform + 'a>(
     string: OsStr<'a, E>,
     text: &'a str,
@@ -58,7 +58,8 @@ pub fn uncut_rest<'a, E: Platform + 'a>(string: OsStr<'a, E>, text: &'a str) -> 
     uncut(string, text).rest()
 }
 
-/// The same from the end.
+/// The rest of a string from the end, if a pattern doesn't occur in it and its one piece wasn't
+/// given yet: the string.
 pub fn uncut_rest_from_the_end<'a, E: Platform + 'a>(
     string: OsStr<'a, E>,
     text: &'a str,
@@ -104,7 +105,7 @@ pub fn pieces_joined_from_the_end<'a, E: Platform + 'a>(
     rsplit(string, text)
 }
 
-/// The pieces of a string, in none of which the pattern occurs.
+/// Splits a string by a pattern. The pattern occurs in none of the pieces.
 pub fn pieces_without_match<'a, E: Platform + 'a>(
     string: OsStr<'a, E>,
     text: &'a str,
@@ -115,7 +116,7 @@ pub fn pieces_without_match<'a, E: Platform + 'a>(
     split(string, text)
 }
 
-/// The same from the end.
+/// Splits a string by a pattern from the end. The pattern occurs in none of the pieces.
 pub fn pieces_without_match_from_the_end<'a, E: Platform + 'a>(
     string: OsStr<'a, E>,
     text: &'a str,
@@ -151,7 +152,7 @@ pub fn pieces_and_matches<'a, E: Platform + 'a>(
     split(string, text)
 }
 
-/// The next two pieces, of which the second is the second of those that are left.
+/// Returns the next two pieces. The second is the second of those that are left.
 pub fn next_two<'a, E: Platform + 'a>(
     pieces: &mut Split<'a, E, &'a str>,
 ) -> (Option<OsStr<'a, E>>, Option<OsStr<'a, E>>)

@@ -12,7 +12,7 @@ use platform_str::{OsStr, Path, Platform};
 use std::fmt;
 use std::fmt::Display;
 
-/// Prints a string's lossy text, with the fill, the side and the width that the formatter asks for.
+/// Prints a string's lossy text with the fill, the alignment and the width of the formatter.
 pub fn print<'a, E: Platform + 'a, W: fmt::Write>(
     string: OsStr<'a, E>,
     f: &mut fmt::Formatter<W>,

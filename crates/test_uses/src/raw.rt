@@ -17,7 +17,7 @@ pub fn taken_back<'a, E: Platform + 'a>(
     taken_back_by_any(string)
 }
 
-/// The same of a borrowed string of any type.
+/// The raw bytes of a borrowed string of any type, read again.
 pub fn taken_back_by_any<'a, S: OsStrBytes<'a>>(string: S) -> Result<S::Cow, EncodingError>
     ensures accepted { IsOk result }
     ensures same { IfOk result (λ again. S.Cow.bytes_of again ≡ S.bytes_of string) }
@@ -38,7 +38,7 @@ pub fn moved_back<S: OsStringBytes>(string: S) -> Result<S, EncodingError>
     S::from_raw_vec(string.into_raw_vec())
 }
 
-/// A second check of any bytes, which answers what the first did.
+/// Checks any bytes a second time. The result is that of the first check.
 pub fn check_again<E: Platform>(
     raw: &[u8],
 ) -> (Result<(), EncodingError>, Result<(), EncodingError>)

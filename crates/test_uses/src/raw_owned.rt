@@ -16,7 +16,7 @@ pub fn through_owned_raw<E: Platform, A: Allocator>(string: OsString<E, A>) -> O
     RawOsString::new(string).into_os_string()
 }
 
-/// The same by the conversions.
+/// Converts an owned string to an owned raw string and back by `From`. The vector is the same.
 pub fn converted<E: Platform, A: Allocator>(string: OsString<E, A>) -> OsString<E, A>
     ensures { string_vec_of result ≡ string_vec_of string }
 {
@@ -37,7 +37,7 @@ pub fn raw_moved_back<E: Platform, A: Allocator>(string: RawOsString<E, A>) -> R
     RawOsString::assert_from_raw_vec(string.into_raw_vec())
 }
 
-/// The same by the other calls of these conditions.
+/// Reads the vectors of an owned raw string again by the unchecked calls. The string is the same.
 pub fn encoded_moved_back<E: Platform, A: Allocator>(string: RawOsString<E, A>) -> RawOsString<E, A>
     ensures { raw_vec_of result ≡ raw_vec_of string }
 {

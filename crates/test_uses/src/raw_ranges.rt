@@ -23,7 +23,7 @@ pub fn raw_part<'a, E: Platform + 'a, I: SliceIndex + Drop>(
     None
 }
 
-/// The same by `get_unchecked`.
+/// Returns the part of a raw string in a range, by `get_unchecked`.
 pub fn raw_part_unchecked<'a, E: Platform + 'a>(
     string: RawOsStr<'a, E>,
     start: usize,

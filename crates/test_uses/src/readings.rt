@@ -72,14 +72,14 @@ pub fn reads_as_itself<'a, E: Platform + 'a>(string: OsStr<'a, E>) -> OsStr<'a, 
     string
 }
 
-/// Any bytes, of which there is a lossy reading of the platform.
+/// Any bytes have a lossy reading on the platform.
 pub fn some_reading<E: Platform>(raw: &[u8])
     ensures { (reading : List ℕ) × E.reads_as raw.now reading }
 {
     laws::readings::<E>();
 }
 
-/// Any bytes, of which there is a lossy reading as WTF-8.
+/// Any bytes have a lossy reading as WTF-8.
 pub fn has_reading(raw: &[u8])
     ensures { (reading : List ℕ) × (IsLossyReading raw.now reading × IsWtf8 reading) }
 {

@@ -37,7 +37,7 @@ impl<'a, E: Platform> Writeable for Quoted<'a, E> {
     }
 }
 
-/// Writes a string between quotes, filled to the width that the formatter asks for.
+/// Writes a string between quotes, filled to the width of the formatter.
 pub fn print_quoted<'a, E: Platform + 'a, W: fmt::Write>(
     string: OsStr<'a, E>,
     f: &mut fmt::Formatter<W>,
@@ -50,7 +50,7 @@ pub fn print_quoted<'a, E: Platform + 'a, W: fmt::Write>(
     write_filled(&Quoted { string }, f)
 }
 
-/// Writes a string between quotes at the end of a log, whatever width is asked for.
+/// Writes a string between quotes at the end of a log, whatever the width of the formatter is.
 pub fn log_quoted(log: &mut String, string: OsStr<'_, Unix>) -> Result<(), AllocError>
     ensures { OnOk result (string_bytes log.new ≡ string_bytes log.old
         ++ (codes "'" ++ (⟦<Unix as Platform>⟧.lossy (bytes string.entry) ++ codes "'"))) }

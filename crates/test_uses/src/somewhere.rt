@@ -1,9 +1,9 @@
-//! Searches that answer whether a pattern occurs: they agree.
+//! Searches that return whether a pattern occurs: they agree.
 ghost use Rattle.std.specs.Prelude.{◌↔◌, IsTrue, IsSome};
 
 use os_str_ext::OsStrBytesExt;
 
-/// Whether a string contains a pattern, and its first index: where it does there is one.
+/// Whether a string contains a pattern, and its first index. Either both hold or neither.
 pub fn contains_as_find<'a, S: OsStrBytesExt<'a> + Copy>(
     string: S,
     pattern: &str,
@@ -13,7 +13,7 @@ pub fn contains_as_find<'a, S: OsStrBytesExt<'a> + Copy>(
     (string.contains(pattern), string.find(pattern))
 }
 
-/// The same of the last index.
+/// Whether a string contains a pattern, and its last index. Either both hold or neither.
 pub fn contains_as_rfind<'a, S: OsStrBytesExt<'a> + Copy>(
     string: S,
     pattern: &str,
@@ -23,7 +23,8 @@ pub fn contains_as_rfind<'a, S: OsStrBytesExt<'a> + Copy>(
     (string.contains(pattern), string.rfind(pattern))
 }
 
-/// The same of the parts around the first match.
+/// Whether a string contains a pattern, and the parts around its first match. Either both hold or
+/// neither.
 pub fn contains_as_split_once<'a, S: OsStrBytesExt<'a> + Copy>(
     string: S,
     pattern: &str,
@@ -33,7 +34,8 @@ pub fn contains_as_split_once<'a, S: OsStrBytesExt<'a> + Copy>(
     (string.contains(pattern), string.split_once(pattern))
 }
 
-/// The same of the parts around the last match.
+/// Whether a string contains a pattern, and the parts around its last match. Either both hold or
+/// neither.
 pub fn contains_as_rsplit_once<'a, S: OsStrBytesExt<'a> + Copy>(
     string: S,
     pattern: &str,

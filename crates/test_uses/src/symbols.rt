@@ -18,7 +18,7 @@ fn symbols<'a, E: Platform + 'a>(string: OsStr<'a, E>) -> Symbols<'a, E>
     string.symbols()
 }
 
-/// The symbols of a string of which some are known, which are those.
+/// Returns the symbols of a string with known symbols, which are those.
 pub fn symbols_say<'a, E: Platform + 'a>(
     string: OsStr<'a, E>,
     known: Symbols<'a, E>,
@@ -30,7 +30,7 @@ pub fn symbols_say<'a, E: Platform + 'a>(
     symbols(string)
 }
 
-/// Any bytes, of which there are symbols.
+/// Any bytes have symbols.
 pub fn has_symbols<E: Platform>(raw: &[u8])
     ensures { (symbols : List Symbol) × AreSymbols E.units raw.now symbols }
 {

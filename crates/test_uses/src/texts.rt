@@ -88,7 +88,7 @@ pub fn after_first<'a, E: Platform + 'a>(string: OsStr<'a, E>) -> Option<OsStr<'
     Some(OsStr::from_encoded_bytes_unchecked(rest))
 }
 
-/// How many bytes U+FFFD replaces at the start of a string's lossy text.
+/// The number of bytes that U+FFFD replaces at the start of a string's lossy text.
 pub fn replaced<'a, E: Platform + 'a>(string: OsStr<'a, E>) -> usize
     requires some { 0 < length (bytes string) }
     requires uncovered { StartsWithNoCharacter (bytes string) }
@@ -99,7 +99,8 @@ pub fn replaced<'a, E: Platform + 'a>(string: OsStr<'a, E>) -> usize
     E::lossy_len(string.as_encoded_bytes())
 }
 
-/// The same on a platform of which a string is known that isn't IO-safe.
+/// The number of bytes that U+FFFD replaces, on a platform with a known string that isn't IO-safe.
+/// It is the length of U+FFFD itself.
 pub fn replaced_by_as_many<'a, E: Platform + 'a>(
     string: OsStr<'a, E>,
     not_safe: OsStr<'a, E>,
@@ -136,7 +137,7 @@ pub fn lossy_on_unix<'a>(alloc: Global, string: OsStr<'a, Unix>) -> Result<StrCo
     string.to_string_lossy(alloc)
 }
 
-/// The lossy text of a Unix string of which one is known, which is that one.
+/// Returns the lossy text of a Unix string with a known one, which is that one.
 pub fn lossy_says<'a>(
     alloc: Global,
     string: OsStr<'a, Unix>,

@@ -84,7 +84,7 @@ pub fn through_string<'a>(units: &[u16], string: &'a OsString<Windows>) -> WideU
     string.as_os_str().encode_wide()
 }
 
-/// The units of a Windows string of which some are known, which are those.
+/// Returns the units of a Windows string with known units, which are those.
 pub fn units_say<'a>(string: OsStr<'a, Windows>, units: &[u16]) -> WideUnits<'a>
     requires { HasUnits (bytes string) units.now }
     ensures { result ≡ units.now }
@@ -112,7 +112,7 @@ pub fn listed<'a, E: Platform + 'a>(string: OsStr<'a, E>) -> OsStr<'a, E>
     string
 }
 
-/// Units of the platform's list, of which there is a string.
+/// Any unit list of the platform is that of a string.
 pub fn encoded<E: Platform>(units: &[u16])
     requires { E.is_unit_list units.now }
     ensures { (b : List ℕ) × (E.well_formed b × (E.units b ≡ units.now)) }

@@ -16,7 +16,7 @@ pub fn viewed_again<'a, E: Platform + 'a>(
     OsStr::checked(string.as_encoded_bytes())
 }
 
-/// The same of a raw string.
+/// The bytes of a raw string, viewed again.
 pub fn raw_viewed_again<'a, E: Platform + 'a>(
     string: RawOsStr<'a, E>,
 ) -> Result<RawOsStr<'a, E>, EncodingError>
@@ -27,7 +27,7 @@ pub fn raw_viewed_again<'a, E: Platform + 'a>(
     RawOsStr::checked(string.as_encoded_bytes())
 }
 
-/// What comes of bytes of which a fault is known: that one.
+/// Views bytes with a known fault. The error is that fault.
 pub fn view_refused<'a, E: Platform + 'a>(
     raw: &'a [u8],
     known: EncodingError,
@@ -39,7 +39,7 @@ pub fn view_refused<'a, E: Platform + 'a>(
     OsStr::checked(raw)
 }
 
-/// The same of a raw string.
+/// Views bytes with a known fault as a raw string. The error is that fault.
 pub fn raw_view_refused<'a, E: Platform + 'a>(
     raw: &'a [u8],
     known: EncodingError,

@@ -53,7 +53,7 @@ pub fn bytes_in(units: &[u16], buffer: &mut [u8]) -> Option<usize>
     if len <= buffer.len() { Some(len) } else { None }
 }
 
-/// The number of a part's unit, converted: as `to_u64` says it.
+/// The number of a part's unit, converted as `to_u64` converts it.
 pub fn unit_as_number(unit: OsUnit) -> u64
     ensures { result ≡ unit_number unit }
 {

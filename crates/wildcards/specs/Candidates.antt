@@ -19,7 +19,7 @@ abbrev pub OneHas : {X : Type 0} → List (List X) → X → Type 0
 OneHas [] i = ⊥
 OneHas (xs ∷ lists) i = Has xs i ⊎ OneHas lists i
 
--- the keys, with one before them if that is asked for
+-- the keys, after one more key if the flag is set
 abbrev pub with_key : Bool → List ℕ → List (List ℕ) → List (List ℕ)
 with_key asked key keys = if asked then key ∷ keys else keys
 

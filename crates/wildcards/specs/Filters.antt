@@ -16,7 +16,7 @@ use Rattle.wildcards.specs.Sets.{Has, IsHit}
 use Rattle.wildcards.specs.Tables.{bucket}
 
 module _ {A : Type 0} where
-  -- keys of this kind and length are asked for
+  -- keys of this kind and length are looked up
   abbrev pub Asks : Filter A → Kind → ℕ → Type 0
   Asks f kind.Path n = f.paths ≡ true
   Asks f kind.Name n = f.names ≡ true
@@ -24,7 +24,7 @@ module _ {A : Type 0} where
   Asks f kind.Extension n = f.extensions ≡ true
   Asks f kind.Suffix n = Has f.lengths.items n
 
-  -- the last component is asked for, or suffixes of it
+  -- the last component is looked up, or suffixes of it
   abbrev pub AsksName : Filter A → Type 0
   AsksName f = (f.names ≡ true) ⊎ ((n : ℕ) × Has f.lengths.items n)
 

@@ -12,7 +12,7 @@ use Rattle.wildcards.specs.Match.{FitsComponent, TakesComponent, MatchesParts}
 use Rattle.wildcards.specs.Steps.{GoesOn}
 
 module _ (formed : List ℕ → Type 0) (letters : List ℕ → List ℕ) {A : Type 0} where
-  -- what the result of matching up to the first `**` says
+  -- what the result of matching up to the first `**` means
   abbrev pub PathStepSays : Options → List (Piece (Part A)) → Option (Bor (List ℕ)) → Step A → Type 0
   PathStepSays o ps path step.All = MatchesParts o.literal_leading_dot ps (left_components letters o.separators path)
   PathStepSays o ps path step.Differs = ¬ (MatchesParts o.literal_leading_dot ps (left_components letters o.separators path))

@@ -16,7 +16,7 @@ pub record IsFoundAt (letters : List ℕ → List ℕ) (bytes : List ℕ) (eleme
   pub letters_before : letters prefix ≡ before
   pub letters_after : letters suffix ≡ after
 
--- the laws of a reader: ASCII is its own letters; no two byte lists have the same letters; around a byte of ASCII the letters are those of both sides, and from it on bytes are read; where a letter is ASCII so is a byte
+-- the laws of a reader. ASCII is its own letters. No two byte lists have the same letters. Around a byte of ASCII the letters are those of both sides, and from that byte on the bytes are read. Where a letter is ASCII, so is a byte.
 pub record LetterLaws (formed : List ℕ → Type 0) (letters : List ℕ → List ℕ) : Type 0 where
   pub ascii : (s : List ℕ) → AllByRecursion (λ b. b < 0x80) s → formed s × (letters s ≡ s)
   pub once : (s t : List ℕ) → formed s → formed t → letters s ≡ letters t → s ≡ t

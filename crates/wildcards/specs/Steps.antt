@@ -37,7 +37,7 @@ module _ (formed : List ℕ → Type 0) (letters : List ℕ → List ℕ) where
   IsLetterStep bytes (Some first) = IsFirstLetter formed letters bytes first.0 first.1.now
 
   module _ {A : Type 0} where
-    -- what the result of matching up to the first `*` says
+    -- what the result of matching up to the first `*` means
     abbrev pub PartStepSays : List (Piece (Item A)) → List ℕ → Step A → Type 0
     PartStepSays ps text step.All = Wild TakesLetter Fits ps (letters text)
     PartStepSays ps text step.Differs = ¬ (Wild TakesLetter Fits ps (letters text))

@@ -7,7 +7,7 @@ use Rattle.std.specs.declared.vec.Vec.{Vec}
 abbrev pub digest_of : List ℕ → ℕ
 digest_of text = finish (write initial text)
 
--- the index of its bucket, among so many
+-- the index of the key's bucket, of `count` buckets
 abbrev pub slot_of : ℕ → List ℕ → ℕ
 slot_of count key = if nat_eq count 0 then 0 else bit_and (digest_of key) (count - 1)
 

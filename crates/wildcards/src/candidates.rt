@@ -25,7 +25,7 @@ pub(crate) enum Stage<'s, 'p> {
     Suffix(&'s [usize]),
 }
 
-/// What is asked of a set.
+/// A path that is looked up in a set, and the parts of it that the set's filter needs.
 #[derive(Drop)]
 pub(crate) struct Query<'s, 'p, A: Allocator> {
     filter: &'s Filter<A>,
@@ -37,7 +37,7 @@ pub(crate) struct Query<'s, 'p, A: Allocator> {
     pub extension: Option<&'p [u8]>,
 }
 
-/// The last component, if that is asked for.
+/// Returns the last component if the flag is set, and the path otherwise.
 #[inline(always)]
 fn name_if(asked: bool, separators: Separators, path: &[u8]) -> &[u8]
     ensures { asked ≡ true → EndsIn (components separators path.entry.now) result.now }
@@ -49,7 +49,7 @@ fn name_if(asked: bool, separators: Separators, path: &[u8]) -> &[u8]
     path
 }
 
-/// The extension, if that is asked for.
+/// Returns the extension if the flag is set.
 #[inline(always)]
 fn extension_if(asked: bool, separators: Separators, path: &[u8]) -> Option<&[u8]>
     ensures { MatchOption result (asked ≡ true → LacksExtension (components separators path.now))

@@ -94,7 +94,7 @@ impl<A: Allocator> Clone for Class<A> {
 
     ghost is_clone = { AreAlike };
 
-    /// The same class, with the same memory.
+    /// Clones the class, which shares its memory with the clone.
     ///
     /// # Errors
     ///

@@ -1,4 +1,4 @@
-//! Numbers that tell texts apart.
+//! Numbers that differ for most texts.
 ghost use Rattle.std.specs.Prelude.{◌≡◌};
 ghost use Rattle.wildcards.specs.Tables.{digest_of};
 

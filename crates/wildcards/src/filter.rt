@@ -43,7 +43,7 @@ fn if_extension<A: Allocator>(key: Key<A>) -> Option<Vec<u8, A>> {
 }
 
 impl<A: Allocator> Filter<A> {
-    /// A filter of so many buckets.
+    /// Makes a filter with `count` buckets.
     pub fn new(alloc: A, count: usize) -> Result<Self, AllocError>
     where
         A: Copy,
@@ -89,7 +89,7 @@ impl<A: Allocator> Filter<A> {
         &[]
     }
 
-    /// Whether the last component is asked for: as a key, or for suffixes.
+    /// Whether the last component is needed, as a key or for suffixes.
     #[inline(always)]
     pub fn asks_name(&self) -> bool
         ensures { AsksName self.now → result ≡ true }

@@ -150,9 +150,9 @@ fn lacks_dot(text: &[u8]) -> bool
     memchr(b'.', text).is_none()
 }
 
-/// The key of each last component that ends with a text: its extension, if the text is a dot and that, and
-/// else a suffix of four letters at most, so that there are suffixes of three lengths, each of which is
-/// asked for.
+/// Returns the key of each last component that ends with a text. It is the extension if the text is
+/// a dot followed by one. Otherwise it is a suffix of at most four letters. So suffixes have only
+/// three lengths, and each length is looked up.
 fn key_of_end<A: Allocator>(alloc: A, text: &[u8]) -> Result<Option<Key<A>>, AllocError>
     ensures { IfOk result (λ key. IfSome key (λ key. IsOfEnd text.now key.kind key.text.items)) }
 {

@@ -1,11 +1,11 @@
 //! Patterns of wildcards over paths, by components.
 //!
-//! A pattern is compiled: it is a list of parts and of `**`, and a part is a list of items and of
-//! `*`. A path is a list of letters, which its separators split into components: `**` takes any
-//! number of components, and each part matches one. What the letters of a path's bytes are, its
-//! reader says ([`Letters`]): bytes themselves ([`Bytes`]), or characters.
+//! A pattern is compiled. It is a list of parts and of `**`, and a part is a list of items and of
+//! `*`. A path is a list of letters, which its separators split into components. `**` matches any
+//! number of components, and each part matches one. The reader of a path defines the letters of its
+//! bytes ([`Letters`]): they are the bytes themselves ([`Bytes`]) or characters.
 //!
-//! How the text of a pattern is read is told by the crates above.
+//! The crates that use this one define how the text of a pattern is read.
 #![tactic(auto)]
 
 mod candidates;

@@ -175,8 +175,8 @@ pub fn matches<L: Letters, A: Allocator>(
     matches_from_ends::<L, A>(options, pattern, path)
 }
 
-/// The same, from both ends on. It isn't inlined: most paths end otherwise, and where nothing is kept
-/// for the rest a pattern of one choice refuses them in 14 ns for 17.
+/// Matches a path from both ends. It isn't inlined, since most paths end otherwise. Where nothing
+/// is kept for the rest, a pattern of one choice rejects them in 14 ns instead of 17.
 #[inline(never)]
 fn matches_from_ends<L: Letters, A: Allocator>(
     options: Options,

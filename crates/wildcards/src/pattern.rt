@@ -43,7 +43,7 @@ pub fn matches_choice<L: Letters, A: Allocator>(
     matches_any::<L, A>(options, choices, path)
 }
 
-/// The same, choice by choice. Most patterns have one, and no loop.
+/// Matches a path with each choice in turn. Most patterns have one choice and need no loop.
 #[inline(never)]
 fn matches_any<L: Letters, A: Allocator>(
     options: Options,

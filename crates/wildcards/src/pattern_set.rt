@@ -16,9 +16,10 @@ use crate::pattern::Choice;
 use crate::set::Pattern;
 use std::alloc::{AllocError, Allocator, Global};
 
-/// A set of patterns. A path is matched only with those choices of patterns whose literal parts it has:
-/// each is listed once, by its whole text, by a component, or by the extension or a suffix of its last
-/// component. So a path takes at most the time that it takes with each choice by itself.
+/// A set of patterns. A path is matched only with the choices whose literal parts it has. Each
+/// choice is listed once: by its whole text, by a component, or by the extension or a suffix of its
+/// last component. So a path takes at most the time that matching it with each choice in turn
+/// takes.
 #[derive(Drop)]
 pub struct PatternSet<A: Allocator = Global> {
     options: Options,
@@ -39,8 +40,8 @@ fn choice_count<A: Allocator>(patterns: &[Pattern<A>]) -> usize {
     count
 }
 
-/// How many buckets there are for so many choices: a power of two, most of them empty, since a wrong
-/// candidate costs a match.
+/// Returns the number of buckets for this number of choices. It is a power of two, and most buckets
+/// are empty, since a wrong candidate costs a match.
 fn bucket_count(choices: usize) -> usize {
     let mut count = 64;
     while count < choices && count < 0x1000_0000 {

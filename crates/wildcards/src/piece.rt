@@ -44,7 +44,7 @@ impl<A: Allocator> Clone for Item<A> {
 
     ghost is_clone = { IsItemClone };
 
-    /// The same item. A class shares its memory.
+    /// Clones the item. A class shares its memory with its clone.
     ///
     /// # Errors
     ///

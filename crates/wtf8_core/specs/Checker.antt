@@ -68,7 +68,7 @@ abbrev pub SomeRow : (Row → Type 0) → List Row → Type 0
 SomeRow P [] = ⊥
 SomeRow P (r ∷ rs) = P r ⊎ SomeRow P rs
 
--- the bits that count among those joined so far, after so many continuations
+-- the bits that count among those joined so far, after this number of continuations
 abbrev pub kept_bits : ℕ → ℕ → ℕ
 kept_bits zero bits = bits % 0x10
 kept_bits (suc zero) bits = bits % 0x400
@@ -85,7 +85,7 @@ pub record Gives (bytes : List ℕ) (after : List ℕ → List (Result ℕ Encod
   pub code_points : List ℕ
   pub items : (more : List ℕ) → items_after false (bytes ++ more) ≡ map Ok code_points ++ after more
 
--- the bytes end within a sequence of this row, of which the reader has this value so far
+-- the bytes end within a sequence of this row, and the reader has this value of it so far
 pub record IsOpen (bits : ℕ) (bytes : List ℕ) (r : Row) : Type 0 where
   pub value : ℕ
   pub given : Gives bytes (λ more. items_from (split_within r.high (needed r) (suc r.later) value more))
@@ -99,13 +99,13 @@ IsInState Between bits bytes = Gives bytes (items_after false)
 IsInState AfterHigh bits bytes = Gives bytes (items_after true)
 IsInState s bits bytes = SomeRow (IsOpen bits bytes) (rows s)
 
--- the fault of a continuation that is refused in this state
+-- the fault of a continuation that is rejected in this state
 abbrev pub value_fault : State → ℕ → ℕ → EncodingError
 value_fault BadThird bits byte = CodePoint (bits % 0x1_0000)
 value_fault BadFourth bits byte = CodePoint (bits % 0x40_0000)
 value_fault s bits byte = Byte byte
 
--- the fault of a byte that is refused in this state
+-- the fault of a byte that is rejected in this state
 abbrev pub fault_at : State → ℕ → ℕ → EncodingError
 fault_at state bits byte = if is_continuation byte then value_fault state bits byte else Byte byte
 

@@ -19,7 +19,7 @@ pub record IsChunkBetween (s : List ℕ) (i : ℕ) (before : List Chunk) (c : Ch
   pub part_first : c.0 ≡ [] → before ≡ []
   pub text_last : c.1 ≡ [] → after ≡ []
 
--- the chunks of s: joined they are s, and each is a part in which no byte is in a whole character and a text; only the first may have no part, only the last no text
+-- the chunks of s: joined they are s, and each is a part in which no byte is in a whole character, followed by a text. Only in the first may the part be empty, and only in the last the text.
 pub record AreChunks (s : List ℕ) (cs : List Chunk) : Type 0 where
   pub joins : joined cs ≡ s
   pub each : (before after : List Chunk) (c : Chunk) → cs ≡ before ++ c ∷ after → IsChunkBetween s (length (joined before)) before c after

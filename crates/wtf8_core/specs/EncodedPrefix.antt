@@ -3,7 +3,7 @@ use Rattle.std.specs.Prelude.{Bool, ◌≡◌, ℕ, ◌-◌, ◌≤◌, List, �
 use Rattle.std.specs.{List.AllByRecursion, Char.IsScalar}
 use Rattle.wtf8_core.specs.{Surrogate.is_high, Neighbours.EachMayFollow, declared.vectors.Encoding.Encoding, Wtf8.Encodes, Wtf8.last_or, declared.vectors.Encoding.TheVariants.Utf8}
 
--- the bytes before the rest encode code points, of which the last is a high surrogate or not, as `after_high` says
+-- the bytes before the rest encode code points; `after_high` is whether the last of these is a high surrogate
 pub record IsReadUpTo (bytes : List ℕ) (after_high : Bool) (rest : List ℕ) : Type 0 where
   pub code_points : List ℕ
   pub prefix : List ℕ

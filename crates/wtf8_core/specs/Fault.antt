@@ -48,14 +48,14 @@ pub record IsBadSequence (last : ℕ) (refused : List ℕ) (value : ℕ) : Type 
   pub value_is : sequence_value lead after ≡ value
   pub bad : ((c : ℕ) → IsCodePoint c → encode c ≢ refused) ⊎ ((encode value ≡ refused) × IsLow value × IsHigh last)
 
--- these bytes, before this rest and after the code point `last`, are refused with this fault
+-- these bytes, before this rest and after the code point `last`, are rejected with this fault
 abbrev pub IsRefused : ℕ → List ℕ → List ℕ → EncodingError → Type 0
 IsRefused last refused rest (Byte x) = IsStray refused x ⊎ IsInterrupted refused rest x
 IsRefused last refused rest End = IsIncomplete refused × (rest ≡ [])
 IsRefused last refused rest (CodePoint value) = IsBadSequence last refused value
 IsRefused last refused rest (Utf8 valid_up_to error_len) = ⊥
 
--- the bytes begin with a part that is refused with this fault
+-- the bytes begin with a part that is rejected with this fault
 pub record BeginsFault (last : ℕ) (bytes : List ℕ) (fault : EncodingError) : Type 0 where
   pub refused : List ℕ
   pub rest : List ℕ
@@ -70,7 +70,7 @@ pub record IsFirstFault (bytes cs : List ℕ) (fault : EncodingError) : Type 0 w
   pub encoded : Encodes before cs
   pub begins : BeginsFault (last_or 0 cs) from fault
 
--- the first fault begins at index `valid_up_to`, and `refused_len` bytes are refused with it
+-- the first fault begins at index `valid_up_to`, and `refused_len` bytes are rejected with it
 pub record IsFaultAt (bytes : List ℕ) (valid_up_to refused_len : ℕ) : Type 0 where
   pub code_points : List ℕ
   pub fault : EncodingError

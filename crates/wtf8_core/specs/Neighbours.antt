@@ -13,7 +13,7 @@ pub record IsClosed (x y z : ℕ) : Type 0 where
 abbrev pub IsUnfinished : ℕ → ℕ → ℕ → Type 0
 IsUnfinished x y z = (0xF0 ≤ x) ⊎ ((0xE0 ≤ y) ⊎ (0xC0 ≤ z))
 
--- the byte b may follow the byte z, as far as these two tell
+-- the byte b may follow the byte z, as far as these two bytes determine it
 pub record MayFollow (z b : ℕ) : Type 0 where
   pub lead : 0xC0 ≤ z → IsInRange 0xC2 0xF4 z
   pub three_long : z ≡ 0xE0 → 0xA0 ≤ b

@@ -1,4 +1,4 @@
--- Laws of a platform's strings when they are cut and joined, for any rule of which bytes are well formed and any units of bytes (this project's own).
+-- Laws of a platform's strings when they are cut and joined, for any rule for well-formed bytes and any units of bytes (this project's own).
 use Rattle.std.specs.Prelude.{◌≡◌, ℕ, ◌<◌, List, ◌++◌, length}
 use Rattle.std.specs.Str.{IsUtf8}
 

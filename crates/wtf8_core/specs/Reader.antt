@@ -47,7 +47,7 @@ abbrev pub first_split : Bool → List ℕ → Result ℕ EncodingError × List 
 first_split after_high [] = (Err End, [])
 first_split after_high (b ∷ bytes) = (first_item after_high b bytes, drop (after_item b bytes) bytes)
 
--- the same within a sequence that needs n continuations, of which m are missing, with the value so far
+-- the item and the bytes after it within a sequence that needs n continuations and lacks m of them, with the value so far
 unfoldable pub split_within : Bool → ℕ → ℕ → ℕ → List ℕ → Result ℕ EncodingError × List ℕ
 split_within after_high n m value bytes = (and_then_checked after_high n (with_continuations value m bytes), drop (continuations m bytes) bytes)
 

@@ -1,4 +1,4 @@
--- The byte indices of unit indices, for any rule of which bytes are well formed and any units of bytes (this project's own).
+-- The byte indices of unit indices, for any rule for well-formed bytes and any units of bytes (this project's own).
 use Rattle.std.specs.Prelude.{◌≡◌, ℕ, List, ◌++◌, length, Option, MatchOption}
 use Rattle.wtf8_core.specs.Occurrence.{OccursNowhere}
 

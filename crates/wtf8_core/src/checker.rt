@@ -16,9 +16,9 @@ use std::marker::Model;
 /// Checks whether bytes that arrive in pieces are WTF-8, and finds their first fault if not.
 ///
 /// It looks up the bytes in a table one by one; where no sequence is open, it reads many bytes at
-/// once with vectors. It holds a few numbers and doesn't allocate. Its answers are those for the
-/// pieces joined: [`feed`](Checker::feed) returns their first fault as soon as no later byte can
-/// change it; [`finish`](Checker::finish) also reports that they end within a sequence, and returns
+/// once with vectors. It holds a few numbers and doesn't allocate. Its results are those for the
+/// pieces joined. [`feed`](Checker::feed) returns their first fault as soon as no later byte can
+/// change it. [`finish`](Checker::finish) also reports that they end within a sequence, and returns
 /// `Ok` exactly for WTF-8.
 ///
 /// Its fault is the first `Err` of [`CodePoints`](crate::CodePoints) over the joined bytes.
@@ -35,10 +35,10 @@ impl Model for Checker {
     ghost view = { λ it. progress it.state it.bits it.fault };
 }
 
-/// A [`Checker`] as numbers, for a caller that keeps it where a `Checker` can't be kept, as in a
-/// struct of C (this project's own type).
+/// A [`Checker`] as numbers, for a caller that can't keep a `Checker`, as in a C struct (this
+/// project's own type).
 ///
-/// [`Checker::save`] makes it, and [`Checker::restore`] a checker of it.
+/// [`Checker::save`] makes one, and [`Checker::restore`] makes a checker of it.
 #[derive(Clone, Copy, Debug, PartialEq, Eq)]
 pub struct SavedChecker {
     /// What is open after the last byte, a number below 16.
@@ -180,7 +180,7 @@ impl Checker {
     }
 }
 
-/// The fault of a byte that the table refuses in this state.
+/// Returns the fault of a byte that the table rejects in this state.
 #[cold]
 fn fault_at(state: State, bits: u32, byte: u8) -> EncodingError
     ensures { result ≡ fault_at state bits byte }
@@ -203,7 +203,7 @@ fn is_between(state: State) -> bool
     matches!(state, State::Between | State::AfterHigh)
 }
 
-/// The state and the bits after one more byte, or its fault.
+/// Returns the state and the bits after one more byte, or its fault.
 #[inline(always)]
 fn read_byte(state: State, bits: u32, byte: u8) -> Result<(State, u32), EncodingError>
     ensures { (fed : List ℕ) → IsInState state bits fed
@@ -219,7 +219,7 @@ fn read_byte(state: State, bits: u32, byte: u8) -> Result<(State, u32), Encoding
     Ok((next, joined))
 }
 
-/// The same after more bytes, read one by one.
+/// Returns the state and the bits after more bytes, read one by one, or their first fault.
 #[inline(always)]
 fn read_bytes(state: State, bits: u32, bytes: &[u8]) -> Result<(State, u32), EncodingError>
     ensures { (fed : List ℕ) → IsInState state bits fed
@@ -238,8 +238,9 @@ fn read_bytes(state: State, bits: u32, bytes: &[u8]) -> Result<(State, u32), Enc
     Ok((state, bits))
 }
 
-/// The same where no sequence is open and no high surrogate comes directly before: a prefix that is
-/// WTF-8 is read with vectors. A text, too, is asked for a surrogate at its end.
+/// Returns the state and the bits after more bytes, where no sequence is open and no high surrogate
+/// comes directly before. A prefix that is WTF-8 is read with vectors. Its end is tested for a high
+/// surrogate, even if it is a text.
 #[inline(always)]
 fn read_between(bits: u32, bytes: &[u8]) -> Result<(State, u32), EncodingError>
     ensures { (fed : List ℕ) → IsInState Between bits fed
@@ -255,8 +256,8 @@ fn read_between(bits: u32, bytes: &[u8]) -> Result<(State, u32), EncodingError>
     }
 }
 
-/// The length of a prefix that is WTF-8: all of a short text, or what blocks find. A short piece with
-/// a surrogate is read twice, by steps and then by blocks.
+/// Returns the length of a prefix that is WTF-8: all of a short text, or what blocks find. A short
+/// piece with a surrogate is read twice, by steps and then by blocks.
 #[tactic(auto, using(crate::proofs::lemmas::vectors::Windows::whole_prefixes))]
 #[inline(always)]
 fn prefix_of_piece(bytes: &[u8]) -> usize
@@ -270,7 +271,7 @@ fn prefix_of_piece(bytes: &[u8]) -> usize
     }
 }
 
-/// The same from any state.
+/// Returns the state and the bits after one more piece, from any state, or the first fault.
 fn read_piece(state: State, bits: u32, piece: &[u8]) -> Result<(State, u32), EncodingError>
     ensures { (fed : List ℕ) → IsInState state bits fed
         → MatchResult result (λ r. IsInState r.0 r.1 (fed ++ piece.now))

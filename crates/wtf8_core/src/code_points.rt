@@ -13,15 +13,15 @@ use std::marker::Model;
 
 /// An iterator over the code points that bytes encode, and over the faults of the bytes.
 ///
-/// Bytes encode code points as in WTF-8: they are the forms of the code points, one after the other
-/// (RFC 3629, section 3, and for surrogates the same rule), and the form of a high surrogate is
-/// never directly followed by that of a low one. If the bytes aren't WTF-8, the first `Err` is
-/// their first fault, and the items before it are the code points before that fault. The faults are
-/// `Byte`, `CodePoint` and `End` of [`EncodingError`].
+/// Bytes encode code points as in WTF-8: they are the forms of the code points, one after the
+/// other. RFC 3629, section 3, defines the forms, and the same rule applies to surrogates. The form
+/// of a high surrogate is never directly followed by that of a low one. If the bytes aren't WTF-8,
+/// the first `Err` is their first fault, and the items before it are the code points before that
+/// fault. The faults are `Byte`, `CodePoint` and `End` of [`EncodingError`].
 ///
-/// After a fault the items are those of the bytes after the refused part, as if nothing came before
-/// them ([`wtf8_fault`](crate::wtf8_fault) says how many bytes are refused). After the last byte
-/// `next` always returns `None`. It doesn't allocate.
+/// After a fault the items are those of the bytes after the rejected part, as if nothing came
+/// before them. [`wtf8_fault`](crate::wtf8_fault) returns the number of rejected bytes. After the
+/// last byte `next` always returns `None`. It doesn't allocate.
 ///
 /// For UTF-8 the code points are those of std's `str::chars`. In os_str_bytes 7.2.1 it is the
 /// private `CodePoints`, over any iterator of bytes.
@@ -101,9 +101,9 @@ pub(crate) fn next_item(
     }
 }
 
-/// The bytes after the part that is refused if `first` and the bytes after it begin no code point.
-/// That part is `first` and, if it is a lead, the continuations that follow it, at most as many as
-/// it needs.
+/// Returns the bytes after the part that is rejected if `first` and the bytes after it begin with
+/// no code point. That part is `first` and, if it is a lead, the continuations that follow it, at
+/// most as many as it needs.
 #[tactic(auto, unfolding(crate::specs::Reader::after_item))]
 #[inline(always)]
 fn after_refused(first: u8, after: &[u8]) -> &[u8]

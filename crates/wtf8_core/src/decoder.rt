@@ -60,12 +60,12 @@ impl<'a> DecodeWide<'a> {
     }
 }
 
-/// The bytes of a form that are still to come, or, if there are none, those of the code point that
-/// begins at an index of units, packed into a number, the first of them in the lowest bits, and the
-/// index after that code point.
+/// Returns the next bytes, packed into a number with the first of them in the lowest bits, and the
+/// index of the next unit to read. They are the pending bytes of a form if there are any. Otherwise
+/// they are the bytes of the code point that begins at index `at` of the units.
 ///
-/// Whether a unit is below the surrogates is asked first: most are, in text of every script, and
-/// such a unit is no half of a pair.
+/// Units below the surrogates are tested for first: most units are, in text of every script, and
+/// such a unit is never half of a pair.
 #[tactic(auto, using(crate::proofs::lemmas::units::OneToOne::decoding))]
 #[inline(always)]
 fn next_bytes(pending: u32, units: &[u16], at: usize) -> Option<(u32, usize)>

@@ -2,7 +2,8 @@
 ghost use Rattle.std.specs.Prelude.{◌≡◌, ◌<◌, ◌≤◌};
 ghost use Rattle.wtf8_core.specs.FaultText.{upper_hex_digit, code_point_digits};
 
-/// The hexadecimal digit of a value, from `0` to `9` or from `A` to `F`. The value must be below 16.
+/// Returns the hexadecimal digit of a value, from `0` to `9` or from `A` to `F`. The value must be
+/// below 16.
 ///
 /// It is equivalent to std's `char::from_digit(value, 16)` in upper case.
 ///
@@ -24,8 +25,8 @@ pub fn upper_hex_digit(value: u8) -> char
     }
 }
 
-/// How many hexadecimal digits a code point is written with after `U+`: all that it has, and at
-/// least four (Unicode, appendix A). Any number is taken for a code point.
+/// Returns the number of hexadecimal digits with which a code point is written after `U+`: all that
+/// it has, and at least four (Unicode, appendix A). Any number is taken for a code point.
 ///
 /// ```
 /// use wtf8_core::code_point_digits;

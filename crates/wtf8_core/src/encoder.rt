@@ -12,7 +12,7 @@ use std::marker::Model;
 /// the bytes.
 ///
 /// It is returned by [`encode_wide`]. After a fault the items are those of the bytes after the
-/// refused part; after the last byte `next` always returns `None`. In os_str_bytes 7.2.1 it is the
+/// rejected part. After the last byte `next` always returns `None`. In os_str_bytes 7.2.1 it is the
 /// private `EncodeWide`, over any iterator of bytes.
 #[derive(Drop)]
 pub struct EncodeWide<'a> {
@@ -35,8 +35,8 @@ impl<'a> Model for EncodeWide<'a> {
 /// [`CodePoints`], unit by unit, with the same faults. It doesn't allocate. The bytes that
 /// [`DecodeWide`](crate::DecodeWide) makes of units have exactly these units.
 ///
-/// These are the units that `std::os::windows::ffi::OsStrExt::encode_wide` gives for the string
-/// with these bytes; for UTF-8 they are those of `str::encode_utf16`.
+/// These are the units that `std::os::windows::ffi::OsStrExt::encode_wide` returns for the string
+/// with these bytes. For UTF-8 they are those of `str::encode_utf16`.
 ///
 /// ```
 /// use os_str_bytes::{EncodingError, encode_wide};

@@ -10,9 +10,9 @@ use std::fmt;
 
 /// The first fault of bytes that aren't a string of a platform.
 ///
-/// Bytes that aren't WTF-8 have one of the first three faults (RFC 3629, section 3, and WTF-8),
-/// bytes that aren't UTF-8 have the last (RFC 3629, section 4). If a sequence lacks a continuation,
-/// that is its fault, whatever its value would be. The text of a fault says what it is and, for
+/// Bytes that aren't WTF-8 have one of the first three faults (RFC 3629, section 3, and WTF-8).
+/// Bytes that aren't UTF-8 have the last (RFC 3629, section 4). If a sequence lacks a continuation,
+/// that is its fault, whatever its value would be. The text of a fault states what it is and, for
 /// UTF-8, where; `{:>99}` prints the same as `{}`. os_str_bytes 7.2.1 has the type under the same
 /// name, with std's `Utf8Error` in place of the fields of `Utf8`.
 ///

@@ -10,7 +10,8 @@ use crate::code_points::first_item;
 /// The least byte with which a form of two bytes or more begins.
 const LEAST_LEAD: u8 = 0xC2;
 
-/// The character with which the bytes begin, and its length in bytes; `None` if they begin with none.
+/// Returns the character with which the bytes begin, and its length in bytes; `None` if they begin
+/// with none.
 #[inline(always)]
 pub fn first_char(bytes: &[u8]) -> Option<(char, usize)>
     ensures { MatchOption result (StartsWithNoCharacter bytes.now)
@@ -22,7 +23,8 @@ pub fn first_char(bytes: &[u8]) -> Option<(char, usize)>
     char_of_four(*first, *second, *third, *fourth)
 }
 
-/// The same, also of fewer than four bytes.
+/// Returns the character with which the bytes begin and its length, as [`first_char`], but also for
+/// fewer than four bytes.
 #[inline(always)]
 fn first_char_of_few(bytes: &[u8]) -> Option<(char, usize)>
     ensures { MatchOption result (StartsWithNoCharacter bytes.now)
@@ -51,8 +53,9 @@ fn read_first_char(first: u8, after: &[u8]) -> Option<char>
 
 /// The character with which these bytes begin, and its length.
 ///
-/// Jumps take most of the time: a length is one comparison, since bytes below the least lead wrap
-/// around, continuations are tested together, and the code point tells whether it has that length.
+/// Branches take most of the time. Each length takes one comparison, since bytes below the least
+/// lead wrap around. Continuations are tested together, and the value of the code point shows
+/// whether it has that length.
 #[inline(always)]
 fn char_of_four(first: u8, second: u8, third: u8, fourth: u8) -> Option<(char, usize)>
     ensures { (rest : List ℕ) → let bytes = first ∷ second ∷ third ∷ fourth ∷ rest in
@@ -123,7 +126,7 @@ pub(crate) fn first_char_len(bytes: &[u8]) -> Option<usize>
 /// The length of the character at the start (`Ok`), or else of the maximal ill-formed part there
 /// (`Err`), by the first four bytes; `None` if there are fewer.
 ///
-/// A length needs no code point, and by ranges of bytes it is found faster.
+/// A length doesn't need the code point, and is found faster by ranges of bytes.
 #[tactic(auto, using(crate::proofs::lemmas::characters::Lengths::lengths))]
 #[inline(always)]
 pub(crate) fn len_or_fault(bytes: &[u8]) -> Option<Result<usize, u8>>

@@ -58,8 +58,8 @@ fn last_continuation(code_point: u32) -> u32
 
 /// The bytes of a form packed into a number, the first of them in the lowest bits.
 ///
-/// Whether there are fewer than three is asked before whether there is one: where lengths are
-/// mixed, that is the question whose answer a processor foresees more often.
+/// Whether there are fewer than three bytes is tested before whether there is one. Where lengths
+/// are mixed, a processor predicts that branch correctly more often.
 #[tactic(auto, unfolding(crate::specs::CodePoint::encode))]
 #[inline(always)]
 pub(crate) fn packed_form(code_point: u32) -> u32

@@ -31,7 +31,7 @@ pub fn one_first_fault()
         → IsFirstFault bytes cs f → IsFirstFault bytes ds g → (cs ≡ ds) × (f ≡ g) }
 {}
 
-/// The index of the first fault of bytes and the number of bytes refused there are unique.
+/// The index of the first fault of bytes and the number of bytes rejected there are unique.
 /// [`wtf8_fault`](crate::wtf8_fault) returns them.
 pub fn one_fault_index()
     ensures { (bytes : List ℕ) → (n : ℕ) → (m : ℕ) → (k : ℕ) → (l : ℕ) → IsFaultAt bytes n k
@@ -84,8 +84,8 @@ pub fn order()
         → slice_cmp nat_cmp bytes others ≡ slice_cmp nat_cmp cs ds }
 {}
 
-/// On WTF-8 bytes the functions `units_of` and `wtf8_lossy` give what the relations `HasUnits` and
-/// `IsWtf8LossyText` say.
+/// On WTF-8 bytes the functions `units_of` and `wtf8_lossy` return the lists that the relations
+/// `HasUnits` and `IsWtf8LossyText` define.
 pub fn functions()
     ensures units { (bytes : List ℕ) → (us : List ℕ)
         → HasUnits bytes us ↔ (IsWtf8 bytes × (us ≡ units_of bytes)) }

@@ -1,10 +1,10 @@
 //! WTF-8, the encoding of Windows strings: bytes, code points and 16-bit code units.
 //!
 //! The crate depends on no platform and never allocates. It decodes bytes to code points
-//! ([`CodePoints`]) and to units ([`encode_wide`]), encodes units as bytes ([`DecodeWide`]), and
-//! finds the first fault of bytes that are ill-formed ([`EncodingError`]), also where they arrive
-//! in pieces ([`Checker`]). The module [`laws`] has the facts about the definitions that callers
-//! can use in proofs.
+//! ([`CodePoints`]) and to units ([`encode_wide`]), and encodes units as bytes ([`DecodeWide`]). It
+//! finds the first fault of ill-formed bytes ([`EncodingError`]), even if they arrive in pieces
+//! ([`Checker`]). The module [`laws`] has the facts about the definitions that callers can use in
+//! proofs.
 //!
 //! Terms, besides those of the standards: a *unit* is a 16-bit code unit. A *form* is the bytes of
 //! one code point; bytes *encode* code points if they are their forms, one after the other. A

@@ -11,7 +11,7 @@ pub(crate) fn is_high(code_point: u32) -> bool
     matches!(code_point, 0xD800..=0xDBFF)
 }
 
-/// Whether it is a low one.
+/// Whether a code point or a unit is a low surrogate.
 #[inline(always)]
 pub(crate) fn is_low(code_point: u32) -> bool
     ensures { result ≡ is_low code_point }

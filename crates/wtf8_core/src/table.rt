@@ -21,7 +21,7 @@ pub(crate) enum State {
     AfterE0,
     /// ED, which becomes a surrogate if a continuation from A0 on comes next.
     AfterEd,
-    /// ED directly after a high surrogate, where low ones are refused.
+    /// ED directly after a high surrogate, where low ones are rejected.
     HighThenEd,
     /// A sequence that any one continuation completes to the form of a high surrogate.
     LastOfHigh,
@@ -33,18 +33,18 @@ pub(crate) enum State {
     AfterF4,
     /// F5 to FF, which begin no form.
     AfterF5,
-    /// A sequence that is refused after two more continuations.
+    /// A sequence that is rejected after two more continuations.
     BadLastTwo,
-    /// A sequence of four bytes that is refused after its last continuation.
+    /// A sequence of four bytes that is rejected after its last continuation.
     BadFourth,
-    /// The byte was refused.
+    /// The byte was rejected.
     Refused,
-    /// A sequence of three bytes that is refused after its last continuation.
+    /// A sequence of three bytes that is rejected after its last continuation.
     BadThird,
 }
 
-/// Bytes that no state tells apart: from the byte that the class is named after up to the next
-/// class.
+/// A class of bytes that every state treats alike: from the byte that the class is named after up
+/// to the next class.
 #[derive(Clone, Copy)]
 pub(crate) enum Class {
     Ascii,
@@ -127,7 +127,7 @@ static CLASSES: [Class; 256] = [
 ];
 
 /// A row of the table for a state in which a sequence is open: the states after a continuation from
-/// 80, 90, A0 and B0 on. Any other byte is refused.
+/// 80, 90, A0 and B0 on. Any other byte is rejected.
 macro_rules! open {
     ($low80:ident, $low90:ident, $low_a0:ident, $low_b0:ident) => {
         [

@@ -5,9 +5,9 @@ ghost use Rattle.wtf8_core.specs.Truncated.{IsTruncated};
 /// Appends bytes to a text of `count` bytes in a buffer, as far as there is room, and returns the
 /// length of the whole text (this project's own call).
 ///
-/// The buffer has the text truncated to the buffer's length, and after it what was there before. So
-/// a text is written part by part, from count 0 on, and the last count says whether it has room:
-/// it is the length that a buffer needs. The counts stay below 2^64.
+/// The buffer has the text truncated to the buffer's length, and is unchanged after it. So a text
+/// is written part by part, from count 0 on. The last count is the length that a buffer needs, and
+/// shows whether this one has room. The counts stay below 2^64.
 ///
 /// ```
 /// use os_str_bytes::push_truncated;
@@ -35,7 +35,7 @@ pub fn push_truncated(buffer: &mut [u8], count: usize, bytes: &[u8]) -> usize
     len
 }
 
-/// The same where there is no room for all the bytes.
+/// Appends as many bytes as the buffer has room for, where there is no room for all of them.
 fn fill_up(buffer: &mut [u8], count: usize, bytes: &[u8])
     requires { length buffer.now < count + length bytes.now }
     ensures { (text : List ℕ) → (old : List ℕ) → IsTruncated text old buffer.old count

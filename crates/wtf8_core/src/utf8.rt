@@ -13,11 +13,12 @@ use crate::vectors::surrogates::text_from;
 use crate::vectors::{BEFORE, BLOCK, Encoding, SHORT, STEP};
 use memchr::memchr;
 
-/// How many characters are read one by one in long bytes before steps: if faults are a few letters
-/// apart, a loop over them mostly needs nothing more.
+/// The number of characters that are read one by one in long bytes before steps. If faults are a
+/// few letters apart, a loop over them mostly needs nothing more.
 const NEAR: usize = 5;
 
-/// How many are read one by one in short bytes, and after what vectors have read.
+/// The number of characters that are read one by one in short bytes, and after what vectors have
+/// read.
 const FEW: usize = 3;
 
 /// The first fault of bytes that aren't UTF-8, `None` for UTF-8 (RFC 3629, section 4).
@@ -27,9 +28,9 @@ const FEW: usize = 3;
 ///
 /// The first is the length in bytes of the longest prefix that is UTF-8, which is the index of the
 /// fault. The second is the length of the maximal ill-formed part that begins there (a maximal
-/// subpart; Unicode, section 3.9), one to three bytes, or `None` if the bytes end within a
-/// character that more bytes could complete. That part is the longest prefix of the remaining bytes
-/// with which some character begins, or one byte if there is none.
+/// subpart; Unicode, section 3.9), one to three bytes. It is `None` if the bytes end within a
+/// character that more bytes could complete. The ill-formed part is the longest prefix of the
+/// remaining bytes with which some character begins, or one byte if there is none.
 ///
 /// It reads most of a long text with vectors.
 ///
@@ -60,9 +61,9 @@ pub fn utf8_fault(bytes: &[u8]) -> Option<(usize, Option<u8>)>
 
 /// Whether bytes are UTF-8 (RFC 3629, section 4).
 ///
-/// Equivalent to `str::from_utf8(bytes).is_ok()`, and to [`utf8_fault`] being `None`. It is for bytes
-/// that mostly are UTF-8: it reads them with vectors from the start on, so that few of them take less
-/// time than by that call, which expects a fault to be near.
+/// Equivalent to `str::from_utf8(bytes).is_ok()`, and to [`utf8_fault`] being `None`. It is for
+/// bytes that mostly are UTF-8, and reads them with vectors from the start on. So it takes less
+/// time for few bytes than `utf8_fault`, which expects a fault to be near.
 ///
 /// ```
 /// use os_str_bytes::is_utf8;
@@ -79,11 +80,11 @@ pub fn is_utf8(bytes: &[u8]) -> bool
     is_short_utf8(bytes) || fault_by_std(bytes).is_none()
 }
 
-/// The first fault of WTF-8 that isn't UTF-8, `None` for UTF-8: the same as [`utf8_fault`] of the
+/// Returns the first fault of WTF-8 that isn't UTF-8, or `None` for UTF-8, as [`utf8_fault`] of the
 /// bytes (this project's own call).
 ///
 /// The bytes are WTF-8 (test: [`wtf8_fault`](crate::wtf8_fault)). So the fault is their first
-/// surrogate, and it is found by the byte ED, with which each surrogate begins.
+/// surrogate. It is found by the byte ED, with which each surrogate begins.
 ///
 /// ```
 /// use os_str_bytes::surrogate_fault;
@@ -113,10 +114,11 @@ pub fn surrogate_fault(bytes: &[u8]) -> Option<(usize, Option<u8>)>
 
 /// The first fault of at most 128 bytes.
 ///
-/// Names of ASCII are told by both ends, else the first other byte is looked for from the start.
+/// Both ends are tested first, which finds names that are ASCII. Otherwise the first other byte is
+/// searched for from the start.
 ///
-/// It isn't inlined: in a loop over the faults of a long string, it is needed only near the end,
-/// where each call asks what is left anew.
+/// It isn't inlined: a loop over the faults of a long string needs it only near the end, where each
+/// call reads the remaining bytes anew.
 #[inline(never)]
 fn fault_in_short(bytes: &[u8]) -> Option<(usize, Option<u8>)>
     requires { length bytes.now ≤ 128 }
@@ -133,8 +135,9 @@ fn fault_in_short(bytes: &[u8]) -> Option<(usize, Option<u8>)>
     fault_by_characters(bytes, prefix)
 }
 
-/// The length of a prefix of few bytes that is UTF-8: all of them, if steps find nothing wrong, and
-/// only the ASCII, if the two bytes after it begin no character, since the fault is there. Else none.
+/// Returns the length of a prefix of few bytes that is UTF-8. It is all of them if steps find
+/// nothing wrong. It is only the ASCII if the two bytes after it begin no character, since the
+/// fault is there. Otherwise it is 0.
 #[inline(always)]
 fn prefix_of_short(bytes: &[u8]) -> usize
     requires { length bytes.now ≤ 128 }
@@ -155,7 +158,8 @@ fn prefix_of_short(bytes: &[u8]) -> usize
     if is_short_text(bytes) { bytes.len() } else { 0 }
 }
 
-/// Whether the bytes are found to be UTF-8 at once, or by steps. That isn't found of more than 128.
+/// Whether the bytes are found to be UTF-8 at once, or by steps. It returns `false` for more than
+/// 128 bytes.
 #[inline(always)]
 pub(crate) fn is_short_utf8(bytes: &[u8]) -> bool
     ensures { IsTrue result → IsUtf8 bytes.now }
@@ -165,7 +169,7 @@ pub(crate) fn is_short_utf8(bytes: &[u8]) -> bool
 
 /// Whether steps find at most 128 bytes to be UTF-8.
 ///
-/// It isn't inlined, so that the questions for ASCII before it are.
+/// It isn't inlined, so that the tests for ASCII before it are.
 #[inline(never)]
 fn is_text_by_steps(bytes: &[u8]) -> bool
     requires { length bytes.now ≤ 128 }
@@ -174,7 +178,7 @@ fn is_text_by_steps(bytes: &[u8]) -> bool
     BEFORE <= bytes.len() && is_short_text(bytes)
 }
 
-/// The same as [`is_utf8`], by blocks.
+/// Returns whether bytes are UTF-8, as [`is_utf8`], but by blocks.
 fn is_long_utf8(bytes: &[u8]) -> bool
     ensures { IsTrue result ↔ IsUtf8 bytes.now }
 {
@@ -182,7 +186,7 @@ fn is_long_utf8(bytes: &[u8]) -> bool
     prefix == bytes.len() || fault_in_rest(bytes, prefix).is_none()
 }
 
-/// Whether the bytes are at most 128 and ASCII. It isn't found of fewer than 4.
+/// Whether the bytes are at most 128 and ASCII. It returns `false` for fewer than 4 bytes.
 #[inline(always)]
 fn is_short_ascii(bytes: &[u8]) -> bool
     ensures { IsTrue result → IsUtf8 bytes.now }
@@ -193,7 +197,8 @@ fn is_short_ascii(bytes: &[u8]) -> bool
     bytes.len() <= BLOCK || is_ascii_at::<BLOCK>(bytes, 0)
 }
 
-/// How many of 16 to 128 bytes are ASCII before the first that isn't; it isn't found of fewer or more.
+/// Returns the number of 16 to 128 bytes that are ASCII, before the first that isn't. It returns 0
+/// for fewer bytes or more.
 #[inline(always)]
 fn short_ascii_len(bytes: &[u8]) -> usize
     ensures within { result ≤ length bytes.now }
@@ -214,8 +219,8 @@ fn short_ascii_len(bytes: &[u8]) -> usize
     last + ascii_len_at::<STEP>(bytes, last)
 }
 
-/// How many of the first 16 bytes, or of the first 64, are ASCII before the first that isn't. In a
-/// loop over faults that are close together, that is mostly one of the first 16.
+/// Returns the number of the first 16 bytes, or of the first 64, that are ASCII, before the first
+/// that isn't. In a loop over faults that are close together, that is mostly one of the first 16.
 #[inline(always)]
 fn ascii_len(bytes: &[u8]) -> usize
     requires { 64 ≤ length bytes.now }
@@ -230,7 +235,7 @@ fn ascii_len(bytes: &[u8]) -> usize
     }
 }
 
-/// The index at which up to `most` characters after a text end, or the fault among them.
+/// Returns the index at which up to `most` characters after a text end, or the fault among them.
 #[inline(always)]
 fn after_characters(bytes: &[u8], from: usize, most: usize) -> Result<usize, (usize, Option<u8>)>
     requires within { from ≤ length bytes.now }
@@ -253,7 +258,8 @@ fn after_characters(bytes: &[u8], from: usize, most: usize) -> Result<usize, (us
     Ok(bytes.len() - rest.len())
 }
 
-/// The first fault of bytes whose first `at` bytes are UTF-8, which is near in most of them.
+/// Returns the first fault of bytes whose first `at` bytes are UTF-8. The fault is near in most of
+/// them.
 #[inline(always)]
 fn fault_by_steps(bytes: &[u8], at: usize) -> Option<(usize, Option<u8>)>
     requires within { at ≤ length bytes.now }
@@ -295,7 +301,8 @@ fn fault_by_characters(bytes: &[u8], at: usize) -> Option<(usize, Option<u8>)>
     }
 }
 
-/// The same, by std's reader, which reads on to the fault or the end.
+/// Returns the first fault of bytes whose first `at` bytes are UTF-8, by std's reader, which reads
+/// on to the fault or the end.
 #[inline(always)]
 fn fault_in_rest(bytes: &[u8], at: usize) -> Option<(usize, Option<u8>)>
     requires within { at ≤ length bytes.now }

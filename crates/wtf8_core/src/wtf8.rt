@@ -1,4 +1,4 @@
-//! The first fault of bytes that aren't WTF-8, and how many bytes are refused with it.
+//! The first fault of bytes that aren't WTF-8, and the number of bytes rejected with it.
 #![tactic(auto, using(crate::proofs::lemmas::reader::FaultIndices::read_more))]
 
 ghost use Rattle.std.specs.Prelude.{MatchOption};
@@ -8,14 +8,14 @@ use crate::code_points::next_item;
 use crate::vectors::Encoding;
 use crate::vectors::scan::{ends_with_high_surrogate, scan};
 
-/// The index of the first fault of bytes that aren't WTF-8, and how many bytes are refused there;
-/// `None` for WTF-8 (this project's own call).
+/// Returns the index of the first fault of bytes that aren't WTF-8, and the number of bytes
+/// rejected there; `None` for WTF-8 (this project's own call).
 ///
 /// The first number is the length in bytes of the well-formed prefix, which ends where the first
-/// fault of [`CodePoints`](crate::CodePoints) begins. The second is the length of the refused part,
-/// one to four bytes: a byte that begins nothing; a lead with the continuations that it has, if
-/// some are missing; or a lead with all its continuations, if their value is refused. The items of
-/// `CodePoints` continue after that part. So this is for WTF-8 what
+/// fault of [`CodePoints`](crate::CodePoints) begins. The second is the length of the rejected
+/// part, one to four bytes: a byte that begins nothing; a lead with the continuations that it has,
+/// if some are missing; or a lead with all its continuations, if their value is rejected. The items
+/// of `CodePoints` continue after that part. So this is for WTF-8 what
 /// [`utf8_fault`](crate::utf8_fault) is for UTF-8.
 ///
 /// It reads most of a long input with vectors, and doesn't allocate.
@@ -48,12 +48,12 @@ pub fn wtf8_fault(bytes: &[u8]) -> Option<(usize, usize)>
     fault_in_rest(bytes, ends_with_high_surrogate(bytes, prefix), rest)
 }
 
-/// How many code points are read before vectors are tried, so that a loop over faults that are
-/// close together doesn't try them in vain.
+/// The number of code points that are read before vectors are tried, so that a loop over faults
+/// that are close together doesn't try them in vain.
 const NEAR: u32 = 32;
 
-/// The same where the bytes before `rest` have been read; `after_high` says whether they end with a
-/// high surrogate.
+/// Returns the fault that [`wtf8_fault`] returns, where the bytes before `rest` have been read.
+/// `after_high` is whether they end with a high surrogate.
 fn fault_in_rest(bytes: &[u8], after_high: bool, rest: &[u8]) -> Option<(usize, usize)>
     requires { IsReadUpTo bytes.now after_high rest.now }
     ensures { MatchOption result (IsWtf8 bytes.now) (λ fault. IsFaultAt bytes.now fault.0 fault.1) }

@@ -7,7 +7,7 @@ use Rattle.wtf8_core.specs.{Byte.IsByte, OccurrenceLaws.OccurrenceLaws, Utf8.IsI
 use Rattle.wtf8_core.proofs.lemmas.{characters.AtIndices.none_begins, chunks.PartUnits.uncovered_bytes, texts.AreWtf8.text_bytes, texts.AreWtf8.lossy_prefix, texts.AreWtf8.lossy_text, texts.AreWtf8.lossy_is_utf8, texts.AreWtf8.part_first}
 use Rattle.platform_str.specs.{Laws.PlatformLaws, Laws.PartLaws, Laws.ReadingLaws, PlatformWords.itself, PlatformWords.wide_bytes}
 
--- no bytes are refused
+-- no bytes are rejected
 abbrev pub IsNoFault : List ℕ → EncodingError → Type 0
 IsNoFault b fault = ⊥
 

@@ -1,4 +1,5 @@
-//! What a program for lists answers with: the run over a list, and a text such as its help.
+//! The outcomes of a program for lists: that of a run over a list, and that of writing a text such
+//! as its help.
 ghost use Rattle.std.specs.Prelude.{◌≡◌, ◌≢◌, ◌↔◌, true, false, Err};
 ghost use Rattle.program_frame.specs.ListRun.{Runs};
 ghost use Rattle.program_frame.specs.Marked.{marked_inner, has_failed};
@@ -17,12 +18,12 @@ use crate::writing::write_out;
 use std::alloc::Allocator;
 use std::io::{Read, Write};
 
-/// The answer of the run over a list, as a program gives it. Both marks must be unset
-/// ([`Marked::failed`] tells).
+/// Runs over the list, and returns its outcome as a program's. Both marks must be unset (test:
+/// [`Marked::failed`]).
 ///
 /// # Errors
 ///
-/// [`Fault::List`] with what [`run`] answers.
+/// [`Fault::List`] with the error of [`run`].
 ///
 /// ```
 /// use names_commands::fault::Fault;
@@ -60,7 +61,7 @@ pub fn run_list<T: ListTask, U, A: Allocator, R: Read, W: Write>(
     }
 }
 
-/// Writes a text, such as a program's help. The mark must be unset ([`Marked::failed`] tells).
+/// Writes a text, such as a program's help. The mark must be unset (test: [`Marked::failed`]).
 ///
 /// # Errors
 ///

@@ -45,7 +45,7 @@ pub trait ItemRefusal: Copy {
 pub enum ItemFault<F> {
     /// It is refused.
     Refused(F),
-    /// It isn't too long, but what it stands for is.
+    /// It isn't too long, but the name that it encodes is.
     TooLong,
     /// Memory was refused.
     Memory,
@@ -56,7 +56,7 @@ pub enum ItemFault<F> {
 pub enum ListFault<F> {
     /// The item with this number is refused.
     Refused(u64, F),
-    /// The item with this number, or what it stands for, has more than this many bytes.
+    /// The item with this number, or the name that it encodes, has more than this many bytes.
     TooLong(u64, usize),
     /// The item with this number is the last, and lacks the byte that has to end it.
     Unended(u64),
@@ -106,8 +106,8 @@ impl<F: ItemRefusal> ProgramFault for ListFault<F> {
 
     ghost printed = { λ _. refl };
 
-    /// The status that the program ends with: 1 for an input that it refuses, 3 for want of memory, and
-    /// 4 for a failed read or write.
+    /// The status that the program ends with: 1 for invalid input, 3 if it is out of memory, and 4
+    /// for a failed read or write.
     ///
     /// ```
     /// use names_commands::fault::Refusal;

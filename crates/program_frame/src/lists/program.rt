@@ -36,7 +36,9 @@ pub trait ListProgram {
     // the program's name
     ghost name: { List ℕ };
 
-    // what is done where the program takes memory of this allocator and has these words, its reader these bytes at first and at last, and its writer these contents, and what it answers
+    // what the program does with memory of this allocator and with these arguments. The lists are
+    // the bytes that its reader has at first and at last, and the contents of its writer at first
+    // and at last. The result is the outcome.
     ghost runs_to: { Self → (A : Type 0) → List (List ℕ) → Option (List ℕ) → Option (List ℕ)
         → Option (List ℕ) → Option (List ℕ) → Result ⊤ (Fault Self.Refusal Self.Words) → Type 0 };
 
@@ -51,8 +53,8 @@ pub trait ListProgram {
     fn name() -> &'static str
         ensures { result.now ≡ name };
 
-    /// The answer of the run of the command that has these words. Both marks must be unset
-    /// ([`Marked::failed`] tells).
+    /// Runs the command that has these arguments, and returns the outcome. Both marks must be unset
+    /// (test: [`Marked::failed`]).
     ///
     /// # Errors
     ///
@@ -89,11 +91,13 @@ pub trait ListProgram {
 
 /// The program with these arguments over these ends.
 ///
-/// The arguments begin with the program's name. Those after it are the words of a command, which is run
-/// as [`ListProgram::run_words`] says. Where the words are refused, where the arguments couldn't be had,
-/// or where the run fails, the fault's message goes to `errors`, or where not all of it is taken a
-/// beginning of it, and nothing else does. Nothing goes there where nobody reads the output any more
-/// ([`Marked::closed`]). Both marks must be unset ([`Marked::failed`] tells).
+/// The arguments begin with the program's name. Those after it name a command, which
+/// [`ListProgram::run_words`] runs. Both marks must be unset (test: [`Marked::failed`]).
+///
+/// The message of a fault goes to `errors`, and nothing else does. The fault is that the arguments
+/// are rejected, that they aren't available, or that the run fails. If not all of the message is
+/// taken, a beginning of it is. If the reader of the output is gone ([`Marked::closed`]), no
+/// message is written.
 ///
 /// ```
 /// use names_commands::program::Names;

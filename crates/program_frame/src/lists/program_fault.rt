@@ -18,7 +18,7 @@ pub trait WordsRefusal: Copy {
     // the status that the program ends with
     ghost status_of: { Self → ℕ };
 
-    /// That the words ask for no command.
+    /// The refusal of arguments that name no command.
     ///
     /// ```
     /// use paths_commands::fault::Usage;
@@ -89,8 +89,8 @@ impl<F: ItemRefusal, U: WordsRefusal> ProgramFault for Fault<F, U> {
 
     ghost printed = { λ _. refl };
 
-    /// The status that the program ends with: 1 for an input that it refuses, 3 for want of memory, 4
-    /// for a failed read or write, and for its words what their refusal says.
+    /// The status that the program ends with: 1 for invalid input, 3 if it is out of memory, and 4
+    /// for a failed read or write. For rejected arguments it is the status of their refusal.
     ///
     /// ```
     /// use paths_commands::fault::{Fault, Usage};

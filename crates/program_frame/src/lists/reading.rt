@@ -10,8 +10,8 @@ use crate::lists::items::split_at_end;
 use crate::lists::task::ListTask;
 use std::alloc::Allocator;
 
-/// Reads a block: what is to be written for the items that end in it is appended to the output,
-/// and the item that begins last is kept. It answers how many items have ended.
+/// Reads a block. It appends the output for the items that end in the block, and keeps the item
+/// that begins last. It returns the number of items that have ended.
 pub fn read_block<T: ListTask, A: Allocator + Copy>(
     alloc: A,
     task: &T,
@@ -45,7 +45,7 @@ pub fn read_block<T: ListTask, A: Allocator + Copy>(
     }
 }
 
-/// Appends what is to be written for the item that has begun, of which these are the last bytes.
+/// Appends the output for the item that has begun. These are its last bytes.
 fn end_item<T: ListTask, A: Allocator + Copy>(
     alloc: A,
     task: &T,

@@ -21,22 +21,23 @@ use std::io::{Read, Write};
 /// How many bytes are read at a time.
 const BLOCK: usize = 16384;
 
-/// Reads all items that the reader has, and writes what each becomes, block by block. Both marks must
-/// be unset ([`Marked::failed`] tells).
+/// Reads all items that the reader has, and writes the output for each, block by block. Both marks
+/// must be unset (test: [`Marked::failed`]).
 ///
-/// The last item may lack the byte that ends it where [`ListTask::takes_unended`] says so. After each
-/// block all of its output is written and flushed. What is kept is the item that has begun, and the
-/// output of a block.
+/// The last item may lack the byte that ends it if [`ListTask::takes_unended`] allows that. After
+/// each block all of its output is written and flushed. Only the item that has begun and the output
+/// of a block are kept.
 ///
 /// # Errors
 ///
-/// [`ListFault::Refused`] and [`ListFault::TooLong`] for the first item that is refused, and
-/// [`ListFault::Unended`] for a last item that must have its end and lacks it, with exactly the output
-/// for the items before it written. [`ListFault::Run`] with `Read` exactly where a
-/// read failed, with `Write` exactly where a write or a flush did, and with `Memory` where memory
-/// was refused; [`ListFault::TooMuch`] for an input of 2^64 - 1 bytes or more. Then the output for some
-/// of the first items is written, each of which has its end, or before `Write` a beginning of that or
-/// of all the output.
+/// [`ListFault::Refused`] and [`ListFault::TooLong`] report the first item that is rejected.
+/// [`ListFault::Unended`] reports a last item that must have its end and lacks it. With each of
+/// these, exactly the output for the items before the reported one has been written.
+///
+/// [`ListFault::Run`] has `Read` exactly where a read failed, `Write` exactly where a write or a
+/// flush did, and `Memory` where memory was refused. [`ListFault::TooMuch`] reports an input of
+/// 2^64 - 1 bytes or more. Then the output for some of the first items has been written, and each
+/// of them has its end. With `Write` it may be a beginning of that output, or of all the output.
 ///
 /// ```
 /// use names_commands::task::{OnPlatform, Settings, Task};
@@ -103,8 +104,8 @@ pub fn run<T: ListTask, A: Allocator, R: Read, W: Write>(
     }
 }
 
-/// Reads a block, and writes what is to be written for the items that end in it. It answers how
-/// many items have ended.
+/// Reads a block, and writes the output for the items that end in it. It returns the number of
+/// items that have ended.
 fn write_block<T: ListTask, A: Allocator + Copy, W: Write>(
     alloc: A,
     task: &T,

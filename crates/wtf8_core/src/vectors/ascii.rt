@@ -1,4 +1,4 @@
-//! Whether bytes are ASCII, and how many of the first are.
+//! Whether bytes are ASCII, and the number of ASCII bytes at the start.
 ghost use Rattle.std.specs.Prelude.{◌≡◌, ℕ, ◌+◌, ◌-◌, ◌≤◌, ◌<◌, length, IsTrue, slice_index};
 
 use crate::vectors::{BLOCK, HALF, QUARTER, STEP};
@@ -14,7 +14,8 @@ pub fn is_ascii_at<const N: usize>(bytes: &[u8], at: usize) -> bool
     ascii_len_at::<N>(bytes, at) >= N
 }
 
-/// How many of the N bytes from index `at` on are ASCII before the first that isn't.
+/// Returns the number of the N bytes from index `at` on that are ASCII, before the first that
+/// isn't.
 #[inline(always)]
 pub fn ascii_len_at<const N: usize>(bytes: &[u8], at: usize) -> usize
     requires room { at + N ≤ length bytes.now }
@@ -29,8 +30,8 @@ pub fn ascii_len_at<const N: usize>(bytes: &[u8], at: usize) -> usize
     count.min(N)
 }
 
-/// Whether the last 64 bytes are ASCII, or all the bytes if they are fewer. It isn't found of fewer
-/// than 4 bytes.
+/// Whether the last 64 bytes are ASCII, or all the bytes if they are fewer. It returns `false` for
+/// fewer than 4 bytes.
 #[inline(always)]
 pub fn is_ascii_to_end(bytes: &[u8]) -> bool
     ensures { IsTrue result → (i : ℕ) → length bytes.now - 64 ≤ i → i < length bytes.now
@@ -54,7 +55,7 @@ pub fn is_ascii_to_end(bytes: &[u8]) -> bool
         || is_ascii_at::<STEP>(bytes, STEP) && is_ascii_at::<STEP>(bytes, len - 2 * STEP)
 }
 
-/// Whether the first N bytes and the last N are ASCII. It isn't found of fewer than N bytes.
+/// Whether the first N bytes and the last N are ASCII. It returns `false` for fewer than N bytes.
 #[inline(always)]
 fn are_ends_ascii<const N: usize>(bytes: &[u8]) -> bool
     requires { N ≤ 64 }

@@ -1,5 +1,5 @@
-//! How many bytes of a window are allowed after those before them. A window is a block or a step
-//! with the [`BEFORE`](crate::vectors::BEFORE) bytes before it.
+//! Finds the number of bytes of a window that are allowed after those before them. A window is a
+//! block or a step with the [`BEFORE`](crate::vectors::BEFORE) bytes before it.
 ghost use Rattle.std.specs.Prelude.{◌≡◌, ◌≢◌, ℕ, ◌+◌, ◌-◌, ◌≤◌, ◌<◌, length, slice_index, bit_and, bit_or, bit_xor};
 ghost use Rattle.wtf8_core.specs.PairBits.{continuation_due, error_bits, pair_bits, surrogate_pair_difference};
 ghost use Rattle.wtf8_core.specs.{EncodedPrefix.with_zeros_before, Neighbours.EachMayFollow, declared.vectors.Encoding.TheVariants.Utf8, declared.vectors.Encoding.TheVariants.Wtf8};
@@ -53,8 +53,8 @@ fn continuation_due<const N: usize>(three: Simd<u8, N>, two: Simd<u8, N>) -> Sim
     masked(or(above(three, 0x70), above(two, 0x60)), 0x80)
 }
 
-/// What is wrong with each of the 64 bytes after the first four. Bit 40 (hexadecimal) is no fault
-/// by itself: it says that a surrogate begins.
+/// Returns what is wrong with each of the 64 bytes after the first four. Bit 40 (hexadecimal) alone
+/// is no fault: it marks the start of a surrogate.
 #[inline(always)]
 fn error_bits(window: &[u8]) -> u8x64
     requires { 68 ≤ length window.now }
@@ -66,7 +66,7 @@ fn error_bits(window: &[u8]) -> u8x64
     xor(pairs, continuation_due(load(window, 1), load(window, 2)))
 }
 
-/// The same for 16 bytes, each after the three before it.
+/// Returns what is wrong with each of 16 bytes after the three before it.
 #[inline(always)]
 fn error_bits_of_16(three: u8x16, two: u8x16, one: u8x16, byte: u8x16) -> u8x16
     ensures { (i : ℕ) → i < 16 → slice_index result i
@@ -100,8 +100,8 @@ fn surrogate_pair_difference(window: &[u8]) -> u8x64
     or(leads, seconds)
 }
 
-/// How many of the 64 bytes after the first four are allowed after those before them, up to the
-/// first that isn't; in UTF-8, up to the first that begins a surrogate, too.
+/// Returns the number of the 64 bytes after the first four that are allowed after those before
+/// them, up to the first that isn't. In UTF-8 it also stops at the first that begins a surrogate.
 #[inline(always)]
 pub(crate) fn allowed_in_block(window: &[u8], encoding: Encoding) -> usize
     requires { 68 ≤ length window.now }
@@ -118,8 +118,9 @@ pub(crate) fn allowed_in_block(window: &[u8], encoding: Encoding) -> usize
     }
 }
 
-/// The same by what is wrong with each byte, where surrogates are allowed, but no pair of them. It
-/// is kept out of the loop over blocks in which nothing is wrong, which is faster without it.
+/// Returns the number of the 64 bytes that are allowed in WTF-8, up to the first that isn't, given
+/// what is wrong with each. Surrogates are allowed, but pairs of them aren't. It is kept out of the
+/// loop over blocks in which nothing is wrong, which is faster without it.
 #[inline(never)]
 fn kept_with_surrogates(wrong: u8x64, window: &[u8]) -> usize
     requires window { 68 ≤ length window.now }
@@ -132,8 +133,8 @@ fn kept_with_surrogates(wrong: u8x64, window: &[u8]) -> usize
     leading_zero(masked(wrong, 0xBF)).min(leading_nonzero(surrogate_pair_difference(window)))
 }
 
-/// How many of the 16 bytes after the first four are allowed in UTF-8 after those before them, up
-/// to the first that isn't.
+/// Returns the number of the 16 bytes after the first four that are allowed in UTF-8 after those
+/// before them, up to the first that isn't.
 #[inline(always)]
 pub(crate) fn allowed_in_step(window: &[u8]) -> usize
     requires { 20 ≤ length window.now }
@@ -145,7 +146,8 @@ pub(crate) fn allowed_in_step(window: &[u8]) -> usize
     leading_zero(wrong).min(STEP)
 }
 
-/// The same of the first 16 bytes, with zeros before them.
+/// Returns the number of the first 16 bytes that are allowed in UTF-8, with zeros before them, up
+/// to the first that isn't.
 #[inline(always)]
 pub(crate) fn allowed_in_first_step(bytes: &[u8]) -> usize
     requires { 16 ≤ length bytes.now }

@@ -105,7 +105,7 @@ pub fn entries(table: [u8; 64], indices: u8x64) -> u8x64
     u8x64::from_array(table).swizzle_dyn_within::<16>(indices)
 }
 
-/// The same for 16 lanes, by one copy.
+/// Returns the entries of a table at 16 indices, from its first copy alone.
 #[inline(always)]
 pub fn entries_of_16(table: [u8; 64], indices: u8x16) -> u8x16
     requires indices { (i : ℕ) → i < 16 → slice_index indices i < 16 }
@@ -123,7 +123,7 @@ pub fn are_zero(lanes: u8x64) -> bool
     both.simd_ne(u8x32::splat(0)).to_bitmask() == 0
 }
 
-/// How many lanes are 0 before the first that isn't.
+/// Returns the number of lanes that are 0 before the first that isn't.
 #[inline(always)]
 pub fn leading_zero<const N: usize>(lanes: Simd<u8, N>) -> usize
     requires { N ≤ 64 }
@@ -133,7 +133,7 @@ pub fn leading_zero<const N: usize>(lanes: Simd<u8, N>) -> usize
     lanes.simd_ne(Simd::splat(0)).to_bitmask().trailing_zeros() as usize
 }
 
-/// How many lanes aren't 0 before the first that is.
+/// Returns the number of lanes that aren't 0 before the first that is.
 #[inline(always)]
 pub fn leading_nonzero(lanes: u8x64) -> usize
     ensures within { result ≤ 64 }

@@ -14,8 +14,8 @@ use crate::vectors::error_bits::{allowed_in_block, allowed_in_first_step, allowe
 use crate::vectors::window::put_in_zeros;
 use crate::vectors::{BEFORE, BLOCK, Encoding, STEP};
 
-/// The length of a prefix that is of this encoding: all the bytes, or some that end where the next
-/// code point begins.
+/// Returns the length of a prefix that is of this encoding: all the bytes, or some that end where
+/// the next code point begins.
 #[inline(always)]
 pub(crate) fn scan(bytes: &[u8], encoding: Encoding) -> usize
     ensures within { result ≤ length bytes.now }
@@ -24,7 +24,8 @@ pub(crate) fn scan(bytes: &[u8], encoding: Encoding) -> usize
     scan_from(bytes, 0, encoding)
 }
 
-/// The same for bytes that keep to the pattern up to index `at`.
+/// Returns the length of a prefix that is of this encoding, as [`scan`], but of bytes that keep to
+/// the pattern up to index `at`.
 #[inline(always)]
 pub(crate) fn scan_from(bytes: &[u8], at: usize, encoding: Encoding) -> usize
     requires within { at ≤ length bytes.now }
@@ -48,7 +49,8 @@ pub(crate) fn scan_from(bytes: &[u8], at: usize, encoding: Encoding) -> usize
     scan_blocks(bytes, at + BLOCK, encoding)
 }
 
-/// How many of the 64 bytes from index `at` on keep to the pattern, up to the first that doesn't.
+/// Returns the number of the 64 bytes from index `at` on that keep to the pattern, up to the first
+/// that doesn't.
 #[tactic(auto, using(crate::proofs::lemmas::vectors::Windows::first_ascii))]
 #[inline(always)]
 fn first_len(bytes: &[u8], at: usize, encoding: Encoding) -> usize
@@ -63,8 +65,8 @@ fn first_len(bytes: &[u8], at: usize, encoding: Encoding) -> usize
     window_len(bytes, at, encoding)
 }
 
-/// The same as [`scan_from`] where four bytes or more come before `at`, so that each block is
-/// tested in place.
+/// Returns the length of a prefix that is of this encoding, as [`scan_from`], where four bytes or
+/// more come before `at`. Each block is then tested in place.
 #[inline(always)]
 fn scan_blocks(bytes: &[u8], at: usize, encoding: Encoding) -> usize
     requires from { 4 ≤ at }
@@ -85,9 +87,9 @@ fn scan_blocks(bytes: &[u8], at: usize, encoding: Encoding) -> usize
     scan_tail(bytes, end, encoding)
 }
 
-/// Up to which index bytes keep to the pattern of UTF-8, which they do up to `at`: `Ok` with that
-/// index after at most eight steps of 16 bytes, or, if a byte of a step doesn't, `Err` with the
-/// length of a prefix that is UTF-8. From an index before 4 on there is no step.
+/// Reads at most eight steps of 16 bytes from `at` on, where bytes keep to the pattern of UTF-8 up
+/// to `at`. Returns `Ok` with the index up to which they keep to it. If a byte of a step doesn't,
+/// returns `Err` with the length of a prefix that is UTF-8. No step is read from an index below 4.
 #[inline(always)]
 pub(crate) fn scan_steps(bytes: &[u8], at: usize) -> Result<usize, usize>
     requires within { at ≤ length bytes.now }
@@ -111,9 +113,10 @@ pub(crate) fn scan_steps(bytes: &[u8], at: usize) -> Result<usize, usize>
     Ok(end)
 }
 
-/// Whether at most 128 bytes are found to be UTF-8, from 20 on by three, five or eight steps. Lengths
-/// of names and paths differ, and a processor doesn't foresee the end of a loop over as many steps as
-/// a string has: beyond ASCII it takes 1.2 of the time, and twice of the longest.
+/// Whether at most 128 bytes are found to be UTF-8. 20 bytes or more are read by three, five or
+/// eight steps. Lengths of names and paths differ, so a processor mispredicts the end of a loop
+/// over as many steps as a string has. Beyond ASCII such a loop takes 1.2 of the time, and twice
+/// the time for the longest.
 #[tactic(auto, using(crate::proofs::lemmas::vectors::Windows::ends))]
 #[inline(always)]
 pub(crate) fn is_short_text(bytes: &[u8]) -> bool
@@ -136,7 +139,7 @@ pub(crate) fn is_short_text(bytes: &[u8]) -> bool
     }
 }
 
-/// Whether all bytes keep to the pattern of UTF-8, which so many steps read.
+/// Whether all bytes keep to the pattern of UTF-8, read in this number of steps.
 #[inline(always)]
 fn are_allowed(bytes: &[u8], steps: usize) -> bool
     requires from { 20 ≤ length bytes.now }
@@ -151,8 +154,8 @@ fn are_allowed(bytes: &[u8], steps: usize) -> bool
     allowed
 }
 
-/// Whether the 16 bytes from index `to` on keep to it, or the last 16, if fewer are left. So no copy
-/// with zeros after them is made.
+/// Whether the 16 bytes from index `to` on keep to the pattern, or the last 16 if fewer are left.
+/// This avoids a copy with zeros after them.
 #[inline(always)]
 fn is_step_allowed(bytes: &[u8], to: usize) -> bool
     requires from { 4 ≤ to }
@@ -164,8 +167,8 @@ fn is_step_allowed(bytes: &[u8], to: usize) -> bool
     allowed_in_step(&bytes[at - BEFORE..]) >= STEP
 }
 
-/// How many of fewer than 32 bytes, and of the zeros after them, keep to the pattern of UTF-8. If a
-/// zero does, no character is left open.
+/// Returns the number of fewer than 32 bytes, and of the zeros after them, that keep to the pattern
+/// of UTF-8. If a zero does, the last character is complete.
 #[inline(never)]
 fn len_of_few(bytes: &[u8]) -> usize
     requires from { 4 ≤ length bytes.now }
@@ -238,8 +241,8 @@ fn ascii_end(bytes: &[u8], at: usize) -> usize
     end
 }
 
-/// Whether the byte before index `at` is ASCII, and one amid the next 64 is, too. In text whose every
-/// few letters are ASCII, a processor foresees that better than whether the one byte is.
+/// Whether the byte before index `at` is ASCII, and so is one amid the next 64. In text with ASCII
+/// every few letters, a processor predicts that better than a test of the one byte.
 #[inline(always)]
 fn is_amid_ascii(bytes: &[u8], at: usize) -> bool
     requires some { 0 < at }
@@ -249,7 +252,7 @@ fn is_amid_ascii(bytes: &[u8], at: usize) -> bool
     (bytes[at - 1] < 0x80) & (bytes[at + BLOCK / 2] < 0x80)
 }
 
-/// How many of the next 64 bytes keep to the pattern, up to the first that doesn't.
+/// Returns the number of the next 64 bytes that keep to the pattern, up to the first that doesn't.
 #[inline(always)]
 fn block_len(bytes: &[u8], at: usize, encoding: Encoding) -> usize
     requires from { 4 ≤ at }
@@ -261,7 +264,8 @@ fn block_len(bytes: &[u8], at: usize, encoding: Encoding) -> usize
     allowed_in_block(&bytes[at - BEFORE..], encoding)
 }
 
-/// The same as [`scan_from`] where fewer than 64 bytes are left after `at`.
+/// Returns the length of a prefix that is of this encoding, as [`scan_from`], where fewer than 64
+/// bytes are left after `at`.
 #[tactic(auto, using(crate::proofs::lemmas::vectors::Windows::ends))]
 fn scan_tail(bytes: &[u8], at: usize, encoding: Encoding) -> usize
     requires from { at ≤ length bytes.now }
@@ -299,8 +303,8 @@ fn start_before(bytes: &[u8], end: usize) -> usize
     0
 }
 
-/// How many of the 64 bytes from index `at` on keep to the pattern, with zeros before and after the
-/// bytes.
+/// Returns the number of the 64 bytes from index `at` on that keep to the pattern, with zeros
+/// before and after the bytes.
 #[inline(always)]
 fn window_len(bytes: &[u8], at: usize, encoding: Encoding) -> usize
     requires { at ≤ length bytes.now }

@@ -5,8 +5,8 @@ ghost use Rattle.std.specs.Prelude.{◌≡◌, ◌+◌, ◌*◌, ◌≤◌, ◌<
 
 /// Copies the bytes into zeros, from index `from` on.
 ///
-/// Few bytes are copied by their quarters: vectors that read the copy at once wait for fewer stores
-/// than a call of `memcpy` makes.
+/// Few bytes are copied by quarters, because vectors that read the copy at once then wait for fewer
+/// stores than after a call of `memcpy`.
 #[inline(always)]
 pub fn put_in_zeros(bytes: &[u8], window: &mut [u8], from: usize)
     requires zeros { (i : ℕ) → slice_index window.old i ≡ 0 }
@@ -27,8 +27,8 @@ pub fn put_in_zeros(bytes: &[u8], window: &mut [u8], from: usize)
     }
 }
 
-/// The same of N bytes or more, and up to four times as many: by four copies of N bytes, which may
-/// overlap, and so without a branch on the length.
+/// Copies N to 4 * N bytes into zeros, as [`put_in_zeros`], but by four copies of N bytes. The
+/// copies may overlap, so there is no branch on the length.
 #[inline(always)]
 fn put_quarters<const N: usize>(bytes: &[u8], window: &mut [u8], from: usize)
     requires zeros { (i : ℕ) → slice_index window.old i ≡ 0 }
@@ -47,7 +47,7 @@ fn put_quarters<const N: usize>(bytes: &[u8], window: &mut [u8], from: usize)
     put_part(bytes, window, from, last, N);
 }
 
-/// Copies so many of the bytes from index `at` on to where they are after index `from`.
+/// Copies `count` bytes from index `at` on to the same offset after index `from`.
 #[inline(always)]
 fn put_part(bytes: &[u8], window: &mut [u8], from: usize, at: usize, count: usize)
     requires part { at + count ≤ length bytes.now }
