@@ -2,7 +2,7 @@
  *
  * A string of Unix is any bytes, one of Windows is WTF-8 (its 16-bit code units, lone surrogates
  * too, as generalized UTF-8), one of wasm is UTF-8. Lengths and indices count bytes, unless another
- * unit is named. A 0 byte is a byte like any other: no string is ended by one.
+ * unit is named. A 0 byte is a byte like any other and doesn't end a string.
  *
  * A first example: print a file name on one line of a terminal, whatever bytes it has.
  *
@@ -75,8 +75,8 @@
  * With any other status the buffer's content isn't specified, and no count is written.
  *
  * The library is for Linux, on x86-64 and on aarch64. On x86-64 it uses the vector instructions that
- * the processor has (those of x86-64-v2 and x86-64-v3), which it asks once, before main or while it
- * is loaded.
+ * the processor has (those of x86-64-v2 and x86-64-v3). It detects them once, before main or while
+ * it is loaded.
  */
 #ifndef OSBYTES_H
 #define OSBYTES_H
@@ -173,7 +173,7 @@ OSB_NODISCARD osb_status osb_check(osb_platform platform, const char *at, size_t
                                    osb_fault *fault);
 
 /* A check of bytes that come in pieces, for Windows. The fields are the library's. It holds no
- * memory, and a copy of it goes on by itself. */
+ * memory, and a copy of it is independent. */
 typedef struct osb_checker {
     uint32_t state;
     uint32_t bits;
@@ -200,7 +200,7 @@ OSB_NODISCARD osb_status osb_checker_finish(const osb_checker *checker, osb_faul
 OSB_NODISCARD osb_status osb_fault_text(const osb_fault *fault, char *out, size_t room,
                                         size_t *count);
 
-/* How many units a Windows string of so many bytes has at most. */
+/* The maximum number of units of a Windows string with `len` bytes. */
 size_t osb_wide_bound(size_t len);
 
 /* Writes the 16-bit units of a Windows string: OSB_OK, OSB_FAULTY, OSB_NO_ROOM. `room` and
@@ -208,14 +208,14 @@ size_t osb_wide_bound(size_t len);
 OSB_NODISCARD osb_status osb_to_wide(const char *at, size_t len, uint16_t *out, size_t room,
                                      size_t *count, osb_fault *fault);
 
-/* How many bytes the Windows string of so many units has at most; SIZE_MAX past that. */
+/* The maximum number of bytes of a Windows string with `len` units; SIZE_MAX past that. */
 size_t osb_bytes_bound(size_t len);
 
 /* Writes the Windows string that has these units, which may be any: OSB_OK, OSB_NO_ROOM. */
 OSB_NODISCARD osb_status osb_from_wide(const uint16_t *units, size_t len, char *out, size_t room,
                                        size_t *count);
 
-/* How many bytes the lossy text of a string of so many bytes has at most; SIZE_MAX past that. */
+/* The maximum number of bytes of the lossy text of a string with `len` bytes; SIZE_MAX past that. */
 size_t osb_lossy_bound(size_t len);
 
 /* Writes the lossy text of a string, in which U+FFFD replaces what isn't text: OSB_OK, OSB_FAULTY,
@@ -223,8 +223,8 @@ size_t osb_lossy_bound(size_t len);
 OSB_NODISCARD osb_status osb_lossy(osb_platform platform, const char *at, size_t len, char *out,
                                    size_t room, size_t *count, osb_fault *fault);
 
-/* How many bytes the escape of a string of so many bytes has at most, in either form; SIZE_MAX past
- * that. */
+/* The maximum number of bytes of the escape of a string with `len` bytes, in either form; SIZE_MAX
+ * past that. */
 size_t osb_escape_bound(size_t len);
 
 /* Writes the escape of a string, a text (UTF-8) that no other string of the platform has: in it each
@@ -233,14 +233,14 @@ size_t osb_escape_bound(size_t len);
  * OSB_BAD_PLATFORM. */
 OSB_NODISCARD osb_status osb_escape(osb_platform platform, const char *at, size_t len, char *out,
                                     size_t room, size_t *count, osb_fault *fault);
-/* Writes the escape of a string for a log line or a terminal, as osb_escape does, but in it each
- * character that is hidden or changes how the others are shown is \uHHHH or \u{HHHHH}, too: those of
- * the categories Cc, Cf, Zl, Zp and Zs except the space, those that Unicode calls default ignorable,
- * and U+2800. */
+/* Writes the escape of a string for a log line or a terminal, as osb_escape does. In addition, each
+ * character that is hidden or changes how the others are shown is \uHHHH or \u{HHHHH}. These are the
+ * characters of the categories Cc, Cf, Zl, Zp and Zs except the space, those that Unicode calls
+ * default ignorable, and U+2800. */
 OSB_NODISCARD osb_status osb_escape_line(osb_platform platform, const char *at, size_t len,
                                          char *out, size_t room, size_t *count, osb_fault *fault);
 
-/* How many bytes the string with an escape of so many bytes has at most: as many. */
+/* The maximum number of bytes of the string with an escape of `len` bytes, which is `len`. */
 size_t osb_unescape_bound(size_t len);
 
 /* Writes the string that has this escape: OSB_OK, OSB_NO_ROOM, OSB_BAD_ESCAPE, OSB_NO_STRING,
@@ -286,7 +286,7 @@ OSB_NODISCARD osb_status osb_compare(const char *a, size_t a_len, const char *b,
 /* The pieces of a string between the occurrences of a pattern, which isn't empty: from the start,
  * or from the end. The fields are the library's: start an iterator by osb_split_start or
  * osb_rsplit_start, and step it by osb_split_next or osb_rsplit_next. It holds no memory, and a
- * copy of it goes on by itself. */
+ * copy of it is independent. */
 typedef struct osb_split {
     osb_view string;
     osb_view pattern;
@@ -335,7 +335,7 @@ OSB_NODISCARD osb_status osb_chunks_fill(osb_chunks *chunks, osb_chunk *out, siz
                                          size_t *count);
 
 /* The symbols of a string: its whole characters, and the units of what isn't text. The fields are
- * the library's. It holds no memory, and a copy of it goes on by itself. */
+ * the library's. It holds no memory, and a copy of it is independent. */
 typedef struct osb_symbols {
     osb_view string;
     size_t next;
@@ -383,15 +383,15 @@ typedef struct osb_component {
 } osb_component;
 
 /* Writes the components of a path, in order: OSB_OK, OSB_NO_ROOM, OSB_BAD_PLATFORM. `room` and
- * `*count` count components, of which there are at most as many as bytes, and one more. */
+ * `*count` count components. A path has at most one component more than it has bytes. */
 OSB_NODISCARD osb_status osb_path_components(osb_platform platform, const char *at, size_t len,
                                              osb_component *out, size_t room, size_t *count);
 
 /* Finds a part of a path: OSB_OK, OSB_NONE (it has no such part, and nothing is written), OSB_BAD_PLATFORM.
  * The parent is the path without its last component, and there is none if that is a prefix or a
  * root; the parent of `a` is empty. The prefix is that of Windows, as C: or \\server\share. The file
- * name is the last component if it is a name, and has no trailing separator; its stem and its
- * extension are what comes before and after its last dot, where that isn't its first byte: without
+ * name is the last component if it is a name, and has no trailing separator. Its stem and its
+ * extension are what comes before and after its last dot, where that isn't its first byte. Without
  * such a dot there is no extension, and the stem is the name. */
 OSB_NODISCARD osb_status osb_path_parent(osb_platform platform, const char *at, size_t len,
                                          osb_view *parent);
@@ -426,8 +426,8 @@ OSB_NODISCARD osb_status osb_path_strip_prefix(osb_platform platform, const char
  * How much room is enough each says itself, with room 0. Each takes memory by malloc while it runs. */
 
 /* Writes a path after a base, as std's Path::join does: OSB_OK, OSB_NO_ROOM, OSB_NO_MEMORY,
- * OSB_BAD_PLATFORM. A path with a prefix replaces the base, one with a root all but the base's prefix; any
- * other follows the base, after a separator unless the base is empty, ends with one, or is a drive alone,
+ * OSB_BAD_PLATFORM. A path with a prefix replaces the base, and one with a root all but the base's prefix.
+ * Any other follows the base, after a separator unless the base is empty, ends with one, or is a drive alone,
  * as C:. After a base that begins with \\?\ `.` is left out, and `..` takes the name before it away. */
 OSB_NODISCARD osb_status osb_path_join(osb_platform platform, const char *base, size_t base_len,
                                        const char *at, size_t len, char *out, size_t room,
@@ -485,8 +485,8 @@ OSB_NODISCARD osb_status osb_path_convert(osb_platform from, osb_platform to, co
 OSB_NODISCARD osb_status osb_path_with_file_name(osb_platform platform, const char *at, size_t len,
                                                  const char *name, size_t name_len, char *out,
                                                  size_t room, size_t *count);
-/* Writes a path with this extension of its last name, without a dot: in the place of its own, or after it. An
- * empty one takes the name's away, or adds nothing. A path that doesn't end in a name stays as it is. OSB_OK,
+/* Writes a path with this extension of its last name, without a dot: it replaces the name's own, or follows it.
+ * An empty one removes the name's own, or adds nothing. A path that doesn't end in a name stays as it is. OSB_OK,
  * OSB_NO_ROOM, OSB_NO_MEMORY, OSB_BAD_EXTENSION (it has a separator), OSB_BAD_PLATFORM. */
 OSB_NODISCARD osb_status osb_path_with_extension(osb_platform platform, const char *at, size_t len,
                                                  const char *extension, size_t extension_len,
@@ -503,8 +503,8 @@ OSB_NODISCARD osb_status osb_path_with_added_extension(osb_platform platform, co
 //     [abc] [a-z]  one of these characters; [!a] or [^a] one of the others; ] is one if it is first
 //     [[:alpha:]]  one of a class of ASCII: alnum alpha blank cntrl digit graph lower print punct
 //                  space upper xdigit, in brackets beside others
-//     {a,b}        either of these, which may have wildcards, be empty, and nest
-//     \x           the character x, with OSB_GLOB_ESCAPES; every other character stands for itself
+//     {a,b}        either of these: they may have wildcards, be empty, and nest
+//     \x           the character x, with OSB_GLOB_ESCAPES; every other character matches itself
 // Without OSB_GLOB_SLASH nothing separates. *.c doesn't match ./a.c: paths as `find .` prints them
 // take **/*.c.
 
@@ -583,10 +583,10 @@ typedef struct osb_verdict {
     size_t line; /* which line says it, from 1; 0 if none does */
 } osb_verdict;
 
-/* Writes what a file .gitignore at the top of a tree says of each path of a list, as git does: OSB_OK,
+/* Writes the verdict of a file .gitignore at the top of a tree on each path of a list, as git does: OSB_OK,
  * OSB_NO_ROOM, OSB_NO_MEMORY. No line is a fault. Paths are bytes from the top of the tree, with a 0 after
  * each, which the last may lack. A path is a directory if its byte of `dirs`, which may be fewer, isn't 0.
- * `room` and `*count` count paths. The lines are compiled in each call, so many paths are asked at once. */
+ * `room` and `*count` count paths. The lines are compiled in each call, so pass many paths at once. */
 OSB_NODISCARD osb_status osb_ignore_matches(const char *file, size_t file_len, const char *paths,
                                             size_t paths_len, const uint8_t *dirs, size_t dirs_len,
                                             osb_verdict *out, size_t room, size_t *count);
@@ -616,14 +616,14 @@ OSB_NODISCARD osb_status osb_ignores_match(osb_ignores *ignores, const char *pat
 /* Frees ignore files, or nothing if the pointer is null. */
 void osb_ignores_free(osb_ignores *ignores);
 
-/* How many bytes the word of a name of so many bytes has at most, in each shell; SIZE_MAX past that. */
+/* The maximum number of bytes of the word of a name with `len` bytes, in each shell; SIZE_MAX past that. */
 size_t osb_shell_bound(size_t len);
 
 /* Writes a name of Unix as a word that every POSIX shell reads as this name, and as nothing else:
  * OSB_OK, OSB_NO_ROOM, OSB_HAS_NUL, OSB_TOO_LONG. With OSB_HAS_NUL `*index` is the index of the first
  * NUL; `index` may be null. The word is for an argument: first on a line `if` or `time` is a reserved word,
  * which osb_shell_join quotes. The shell's locale may be C or of UTF-8, GBK, Big5, Shift-JIS, an EUC or a
- * charset of one byte; in GB18030 bash with the GNU C library misreads a quote after a byte from 81 (hex)
+ * charset of one byte. In GB18030 bash with the GNU C library misreads a quote after a byte from 81 (hex)
  * on and a digit that begin no character. */
 OSB_NODISCARD osb_status osb_shell_quote(const char *at, size_t len, char *out, size_t room,
                                          size_t *count, size_t *index);
@@ -674,8 +674,9 @@ typedef struct osb_line_fault {
     size_t index;
 } osb_line_fault;
 
-/* How many bytes the words of a line of so many bytes have at most with a 0 after each, and how many
- * units the program's name and the arguments of a Windows line of so many bytes; SIZE_MAX past that. */
+/* The maximum number of bytes of the words of a line with `len` bytes, with a 0 after each. It is also the
+ * maximum number of units of the program's name and the arguments of a Windows line with `len` bytes. SIZE_MAX
+ * past that. */
 size_t osb_words_bound(size_t len);
 
 /* Writes the words of a line as a POSIX shell reads it, where nothing is expanded, with a 0 byte after
@@ -693,7 +694,7 @@ OSB_NODISCARD osb_status osb_shell_words(uint32_t options, const char *line, siz
  * goes in are strings of Windows: OSB_FAULTY where they are none. With OSB_HAS_NUL and OSB_HAS_QUOTE
  * `*index` is the byte index of the first one. `index` and `fault` may be null. */
 
-/* How many units the text of an argument or of a program's name of so many bytes has at most; SIZE_MAX
+/* The maximum number of units of the text of an argument or of a program's name with `len` bytes; SIZE_MAX
  * past that. */
 size_t osb_windows_bound(size_t len);
 
@@ -706,7 +707,7 @@ OSB_NODISCARD osb_status osb_windows_quote(const char *at, size_t len, uint16_t 
 OSB_NODISCARD osb_status osb_windows_quote_name(const char *at, size_t len, uint16_t *out,
                                                 size_t room, size_t *count, size_t *index,
                                                 osb_fault *fault);
-/* Writes the line of words, of which the first is the program's name and the others are arguments. `*which`
+/* Writes the line of words. The first is the program's name and the others are arguments. `*which`
  * is the number of the word that `index` and `fault` are about, and may be null. With OSB_NO_ROOM
  * nothing is refused, but for that a sum past SIZE_MAX is OSB_TOO_LONG. Without words the line is
  * empty. */

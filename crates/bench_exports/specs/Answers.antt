@@ -1,4 +1,4 @@
--- What the exports answer.
+-- What the exports return.
 use Rattle.std.specs.Prelude.{◌≡◌, ◌⊎◌, ℕ, suc, ◌+◌, ◌%◌, ◌^◌, ◌≤◌, List, [], ◌∷◌, length, take, drop}
 use Rattle.std.specs.List.{repeat}
 use Rattle.wtf8_core.specs.declared.fault.EncodingError.{EncodingError}
@@ -19,11 +19,11 @@ pub record IsFilled (Wanted : List ℕ → Type 0) (old new : List ℕ) (count :
   pub prefix : Wanted (take count new)
   pub after : drop count new ≡ drop count old
 
--- a call answers an index or a length, for which `Is` holds; or `none`, where there is none
+-- a call returns an index or a length, for which `Is` holds; or `none`, where there is none
 abbrev pub AnswersOr : ℕ → Type 0 → (ℕ → Type 0) → ℕ → Type 0
 AnswersOr none Nothing Is answer = (Nothing × (answer ≡ none)) ⊎ Is answer
 
--- the string with the units of `part` so many times over has this many bytes
+-- the string with the units of `part`, repeated `count` times, has this many bytes
 abbrev pub IsRepeatedLength : (List ℕ → Type 0) → (List ℕ → List ℕ) → List ℕ → ℕ → ℕ → Type 0
 IsRepeatedLength well_formed units part count len = (all : List ℕ) × (well_formed all × (units all ≡ repeat count (units part))) × (len ≡ length all)
 
@@ -46,7 +46,7 @@ abbrev pub Fit : List ℕ → List ℕ → Type 0
 Fit [] bytes = Unit {0}
 Fit (n ∷ ns) bytes = (n ≤ length bytes) × Fit ns (drop n bytes)
 
--- so many of the strings are so
+-- the number of the strings for which `Is` holds
 abbrev pub IsCount : (List ℕ → Type 0) → List (List ℕ) → ℕ → Type 0
 IsCount Is [] n = n ≡ 0
 IsCount Is (s ∷ ss) n = (Is s × ((fewer : ℕ) × (n ≡ suc fewer) × IsCount Is ss fewer)) ⊎ ((Is s → ⊥) × IsCount Is ss n)

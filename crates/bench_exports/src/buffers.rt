@@ -17,7 +17,7 @@ use os_quote::{
 };
 use platform_str::{OsStr, Platform, Unix, Wasm, Windows};
 
-/// Writes the lossy text of the bytes on Unix, and answers how many bytes it has.
+/// Writes the lossy text of the bytes on Unix, and returns the number of its bytes.
 #[unsafe(no_mangle)]
 pub extern "C" fn port_write_lossy(raw: &[u8], out: &mut [u8]) -> usize
     requires { 3 * length raw.now < 2 ^ 64 }
@@ -26,7 +26,8 @@ pub extern "C" fn port_write_lossy(raw: &[u8], out: &mut [u8]) -> usize
     unix(raw).write_lossy(out)
 }
 
-/// The same on Windows, or `usize::MAX` where the bytes aren't WTF-8.
+/// Writes the lossy text of the bytes on Windows, and returns the number of its bytes, or
+/// `usize::MAX` where the bytes aren't WTF-8.
 #[unsafe(no_mangle)]
 pub extern "C" fn port_win_write_lossy(raw: &[u8], out: &mut [u8]) -> usize
     requires { 3 * length raw.now < 2 ^ 64 }
@@ -38,7 +39,7 @@ pub extern "C" fn port_win_write_lossy(raw: &[u8], out: &mut [u8]) -> usize
     }
 }
 
-/// Writes the escape of the bytes on Unix, and answers how many bytes it has.
+/// Writes the escape of the bytes on Unix, and returns the number of its bytes.
 #[unsafe(no_mangle)]
 pub extern "C" fn port_write_escape(raw: &[u8], out: &mut [u8]) -> usize
     requires { 6 * length raw.now < 2 ^ 64 }
@@ -48,7 +49,8 @@ pub extern "C" fn port_write_escape(raw: &[u8], out: &mut [u8]) -> usize
     write_escape(unix(raw), out)
 }
 
-/// The same on Windows, or `usize::MAX` where the bytes aren't WTF-8.
+/// Writes the escape of the bytes on Windows, and returns the number of its bytes, or `usize::MAX`
+/// where the bytes aren't WTF-8.
 #[unsafe(no_mangle)]
 pub extern "C" fn port_win_write_escape(raw: &[u8], out: &mut [u8]) -> usize
     requires { 6 * length raw.now < 2 ^ 64 }
@@ -61,7 +63,7 @@ pub extern "C" fn port_win_write_escape(raw: &[u8], out: &mut [u8]) -> usize
     }
 }
 
-/// Writes the escape of the bytes on one line on Unix, and answers how many bytes it has.
+/// Writes the escape of the bytes on one line on Unix, and returns the number of its bytes.
 #[unsafe(no_mangle)]
 pub extern "C" fn port_write_escape_line(raw: &[u8], out: &mut [u8]) -> usize
     requires { 6 * length raw.now < 2 ^ 64 }
@@ -71,7 +73,8 @@ pub extern "C" fn port_write_escape_line(raw: &[u8], out: &mut [u8]) -> usize
     write_escape_line(unix(raw), out)
 }
 
-/// The same on Windows, or `usize::MAX` where the bytes aren't WTF-8.
+/// Writes the escape of the bytes on one line on Windows, and returns the number of its bytes, or
+/// `usize::MAX` where the bytes aren't WTF-8.
 #[unsafe(no_mangle)]
 pub extern "C" fn port_win_write_escape_line(raw: &[u8], out: &mut [u8]) -> usize
     requires { 6 * length raw.now < 2 ^ 64 }
@@ -84,8 +87,8 @@ pub extern "C" fn port_win_write_escape_line(raw: &[u8], out: &mut [u8]) -> usiz
     }
 }
 
-/// Writes the string that has this escape, and answers how many bytes it has, or `usize::MAX` where
-/// the escape is refused.
+/// Writes the string that has this escape, and returns the number of its bytes, or `usize::MAX`
+/// where the escape is rejected.
 fn unescaped_len<E: Platform>(escape: &[u8], out: &mut [u8]) -> usize
     ensures { result ≢ usize.MAX
         → IsUnescaped E.well_formed E.units escape.now out.old out.new result }
@@ -97,8 +100,8 @@ fn unescaped_len<E: Platform>(escape: &[u8], out: &mut [u8]) -> usize
     }
 }
 
-/// Writes the string of Unix that has this escape, and answers how many bytes it has, or
-/// `usize::MAX` where the escape is refused.
+/// Writes the string of Unix that has this escape, and returns the number of its bytes, or
+/// `usize::MAX` where the escape is rejected.
 #[unsafe(no_mangle)]
 pub extern "C" fn port_write_unescaped(escape: &[u8], out: &mut [u8]) -> usize
     ensures { result ≢ usize.MAX
@@ -107,7 +110,7 @@ pub extern "C" fn port_write_unescaped(escape: &[u8], out: &mut [u8]) -> usize
     unescaped_len::<Unix>(escape, out)
 }
 
-/// The same on Windows.
+/// Writes the string of Windows that has this escape, as `port_write_unescaped` does on Unix.
 #[unsafe(no_mangle)]
 pub extern "C" fn port_win_write_unescaped(escape: &[u8], out: &mut [u8]) -> usize
     ensures { result ≢ usize.MAX → IsUnescaped IsWtf8 units_of escape.now out.old out.new result }
@@ -115,7 +118,7 @@ pub extern "C" fn port_win_write_unescaped(escape: &[u8], out: &mut [u8]) -> usi
     unescaped_len::<Windows>(escape, out)
 }
 
-/// The same on wasm.
+/// Writes the string of wasm that has this escape, as `port_write_unescaped` does on Unix.
 #[unsafe(no_mangle)]
 pub extern "C" fn port_wasm_write_unescaped(escape: &[u8], out: &mut [u8]) -> usize
     ensures { result ≢ usize.MAX → IsUnescaped IsUtf8 itself escape.now out.old out.new result }
@@ -135,8 +138,8 @@ fn line_unescaped_len<E: Platform>(escape: &[u8], out: &mut [u8]) -> usize
     }
 }
 
-/// Writes the string of Unix that has this escape on one line, and answers how many bytes it has, or
-/// `usize::MAX` where the escape is refused.
+/// Writes the string of Unix that has this escape on one line, and returns the number of its bytes,
+/// or `usize::MAX` where the escape is rejected.
 #[unsafe(no_mangle)]
 pub extern "C" fn port_write_unescaped_line(escape: &[u8], out: &mut [u8]) -> usize
     ensures { result ≢ usize.MAX
@@ -145,7 +148,7 @@ pub extern "C" fn port_write_unescaped_line(escape: &[u8], out: &mut [u8]) -> us
     line_unescaped_len::<Unix>(escape, out)
 }
 
-/// The same on Windows.
+/// Writes the string of Windows that has this escape on one line, as the call above does on Unix.
 #[unsafe(no_mangle)]
 pub extern "C" fn port_win_write_unescaped_line(escape: &[u8], out: &mut [u8]) -> usize
     ensures { result ≢ usize.MAX
@@ -154,7 +157,8 @@ pub extern "C" fn port_win_write_unescaped_line(escape: &[u8], out: &mut [u8]) -
     line_unescaped_len::<Windows>(escape, out)
 }
 
-/// The same on wasm.
+/// Writes the string of wasm that has this escape on one line, as the calls above do on Unix and
+/// Windows.
 #[unsafe(no_mangle)]
 pub extern "C" fn port_wasm_write_unescaped_line(escape: &[u8], out: &mut [u8]) -> usize
     ensures { result ≢ usize.MAX

@@ -32,7 +32,8 @@ pub extern "C" fn port_escape(alloc: Global, raw: &[u8]) -> usize
     escape_len(alloc, unix(raw))
 }
 
-/// The same on Windows, for bytes that are WTF-8.
+/// How many bytes the escape of the string has on Windows, for bytes that are WTF-8, or
+/// `usize::MAX` where memory was refused.
 #[unsafe(no_mangle)]
 pub extern "C" fn port_win_escape(alloc: Global, raw: &[u8]) -> usize
     requires { IsWtf8 raw.now }
@@ -42,7 +43,8 @@ pub extern "C" fn port_win_escape(alloc: Global, raw: &[u8]) -> usize
     escape_len(alloc, OsStr::<Windows>::from_encoded_bytes_unchecked(raw))
 }
 
-/// The same on wasm, for bytes that are UTF-8.
+/// How many bytes the escape of the string has on wasm, for bytes that are UTF-8, or `usize::MAX`
+/// where memory was refused.
 #[unsafe(no_mangle)]
 pub extern "C" fn port_wasm_escape(alloc: Global, raw: &[u8]) -> usize
     requires { IsUtf8 raw.now }
@@ -79,7 +81,8 @@ pub extern "C" fn port_unescape(alloc: Global, escaped: &[u8]) -> usize
     }
 }
 
-/// The same of the escape on one line.
+/// How many bytes the string of an escape on one line has on Unix, or `usize::MAX` as in
+/// `port_unescape`.
 #[unsafe(no_mangle)]
 pub extern "C" fn port_unescape_line(alloc: Global, escaped: &[u8]) -> usize
     requires { IsUtf8 escaped.now }

@@ -41,10 +41,10 @@ pub extern "C" fn port_set_new(alloc: Global, patterns: &[u8], pattern_lens: &[u
     set_of(alloc, patterns, pattern_lens).is_some()
 }
 
-/// How many pairs there are of a string and a pattern that matches it, where `/` separates, for each
-/// of so many times that all strings are asked, modulo 2^64; `usize::MAX` where a pattern isn't well
-/// formed, or memory was refused. The patterns are compiled once, and are the bytes, cut into pieces
-/// of these lengths, as the strings are.
+/// Tests all strings against all patterns `times` times, where `/` separates, and returns the
+/// number of matches, modulo 2^64. Returns `usize::MAX` where a pattern isn't well formed, or
+/// memory was refused. The patterns are compiled once, and are the bytes, cut into pieces of these
+/// lengths, as the strings are.
 #[unsafe(no_mangle)]
 pub extern "C" fn port_set_matches(
     alloc: Global,

@@ -10,8 +10,8 @@ use os_str_ext::OsStrBytesExt;
 use platform_str::{OsStr, OsString, Platform, Windows};
 use std::alloc::Global;
 
-/// How many bytes the string has onto which a part was pushed so many times, or `usize::MAX`
-/// where memory was refused.
+/// How many bytes the string has onto which a part was pushed `count` times, or `usize::MAX` where
+/// memory was refused.
 fn pushed_len<E: Platform>(alloc: Global, part: OsStr<E>, count: usize) -> usize
     ensures { result ≢ usize.MAX → IsRepeatedLength E.well_formed E.units (bytes part.entry) count
         result }

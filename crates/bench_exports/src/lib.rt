@@ -1,13 +1,17 @@
-//! The calls that are timed, for a program in C or Rust: [`check`] the check of Windows and faults,
-//! [`wide`] bytes to units and back, [`lossy`] lossy texts and readings, [`search`] searches,
-//! [`boundary`] boundaries, [`compare`] the order, [`pieces`] splits, [`chunks`] chunks, [`symbols`]
-//! symbols and first characters, [`joins`] joins and prefixes by units, [`escapes`] escapes,
-//! [`buffers`] what is written into a buffer, [`globs`] path patterns, [`paths`] paths,
-//! [`arguments`] options, [`shell_words`] words of a shell, [`command_lines`] command lines of Windows.
+//! The calls that are timed, for a program in C or Rust:
 //!
-//! Each export is a call of the libraries below it, and nothing else. A slice crosses as a
-//! pointer and a length, and an allocator as nothing: what it takes is the program's own
-//! `malloc`. The caller keeps what each export asks.
+//! [`check`] has the check of Windows and faults. [`wide`] converts bytes to units and back.
+//! [`lossy`] has lossy texts and readings, [`search`] searches, [`boundary`] boundaries, and
+//! [`compare`] the order. [`pieces`] has splits, [`chunks`] chunks, and [`symbols`] symbols and
+//! first characters.
+//!
+//! [`joins`] has joins and prefixes by units, [`escapes`] escapes, and [`buffers`] what is written
+//! into a buffer. [`globs`] has path patterns, [`paths`] paths, and [`arguments`] options.
+//! [`shell_words`] has words of a shell, and [`command_lines`] command lines of Windows.
+//!
+//! Each export is a call of the libraries below it, and nothing else. A slice crosses as a pointer
+//! and a length, and an allocator as nothing: what it takes is the program's own `malloc`. The
+//! caller meets the preconditions of each export.
 #![tactic(auto)]
 
 pub mod arguments;

@@ -30,7 +30,8 @@ pub extern "C" fn port_lossy(alloc: Global, raw: &[u8]) -> usize
     lossy_len(alloc, OsStr::<Unix>::from_encoded_bytes_unchecked(raw))
 }
 
-/// The same on Windows, for bytes that are WTF-8.
+/// How many bytes the lossy text of the bytes has on Windows, for bytes that are WTF-8, or
+/// `usize::MAX` where memory was refused.
 #[unsafe(no_mangle)]
 pub extern "C" fn port_win_lossy(alloc: Global, raw: &[u8]) -> usize
     requires { IsWtf8 raw.now }
@@ -72,7 +73,8 @@ pub extern "C" fn port_win_read_lossy(alloc: Global, raw: &[u8]) -> usize
     reading_len::<Windows>(alloc, raw)
 }
 
-/// The same on wasm.
+/// How many bytes the lossy reading of the bytes has on wasm, or `usize::MAX` where memory was
+/// refused.
 #[unsafe(no_mangle)]
 pub extern "C" fn port_wasm_read_lossy(alloc: Global, raw: &[u8]) -> usize
     ensures { result ≢ usize.MAX → (reading : List ℕ) × IsLossyText raw.now reading

@@ -45,7 +45,7 @@ pub extern "C" fn port_components(raw: &[u8]) -> usize {
     sum
 }
 
-/// The same from the end.
+/// The sum of the components' lengths from the end, modulo 2^64, which is turned by 31 before each.
 #[unsafe(no_mangle)]
 pub extern "C" fn port_components_back(raw: &[u8]) -> usize {
     let mut sum: usize = 0;

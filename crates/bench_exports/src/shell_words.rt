@@ -48,7 +48,8 @@ pub extern "C" fn port_quote(alloc: Global, name: &[u8]) -> usize
     }
 }
 
-/// Writes the word of a name, and answers how many bytes it has, or `usize::MAX` where it is refused.
+/// Writes the word of a name, and returns the number of its bytes, or `usize::MAX` where it is
+/// rejected.
 #[unsafe(no_mangle)]
 pub extern "C" fn port_write_quoted(name: &[u8], out: &mut [u8]) -> usize
     requires { 4 * length name.now + 3 < 2 ^ 64 }

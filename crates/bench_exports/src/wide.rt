@@ -8,8 +8,8 @@ use platform_str::windows::{OsStr, OsString};
 use std::alloc::Global;
 use wtf8_core::{DecodeWide, encode_wide};
 
-/// Writes the units of the bytes into `out`, which is at least as long as the bytes, and
-/// answers how many they are; `usize::MAX` where the bytes aren't WTF-8.
+/// Writes the units of the bytes into `out`, which is at least as long as the bytes, and returns
+/// their number; `usize::MAX` where the bytes aren't WTF-8.
 #[unsafe(no_mangle)]
 pub extern "C" fn port_encode_wide(bytes: &[u8], out: &mut [u16]) -> usize
     requires room { length bytes.now ≤ length out.old }
@@ -29,8 +29,8 @@ pub extern "C" fn port_encode_wide(bytes: &[u8], out: &mut [u16]) -> usize
     written
 }
 
-/// Writes the bytes of the units into `out`, which has room for them, and answers how many
-/// they are. Three bytes for each unit are always room enough.
+/// Writes the bytes of the units into `out`, which has room for them, and returns their number.
+/// Three bytes for each unit are always room enough.
 #[unsafe(no_mangle)]
 pub extern "C" fn port_decode_wide(units: &[u16], out: &mut [u8]) -> usize
     requires room { (bytes : List ℕ) → HasUnits bytes units.now → length bytes ≤ length out.old }
@@ -44,7 +44,7 @@ pub extern "C" fn port_decode_wide(units: &[u16], out: &mut [u8]) -> usize
     written
 }
 
-/// Writes the units of the bytes into `out`, truncated, and answers how many they are; `usize::MAX`
+/// Writes the units of the bytes into `out`, truncated, and returns their number; `usize::MAX`
 /// where the bytes aren't WTF-8.
 #[unsafe(no_mangle)]
 pub extern "C" fn port_write_wide(bytes: &[u8], out: &mut [u16]) -> usize
@@ -57,7 +57,7 @@ pub extern "C" fn port_write_wide(bytes: &[u8], out: &mut [u16]) -> usize
     }
 }
 
-/// Writes the bytes of the units into `out`, truncated, and answers how many they are.
+/// Writes the bytes of the units into `out`, truncated, and returns their number.
 #[unsafe(no_mangle)]
 pub extern "C" fn port_write_from_wide(units: &[u16], out: &mut [u8]) -> usize
     ensures { (bytes : List ℕ) × HasUnits bytes units.now

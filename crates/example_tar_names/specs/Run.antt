@@ -5,7 +5,7 @@ use Rattle.example_tar_names.specs.declared.fault.Fault.{Fault}
 use Rattle.example_tar_names.specs.declared.fault.Fault.TheVariants.{Refused, Archive, Stopped}
 use Rattle.example_tar_names.specs.Line.{IsReport}
 
--- what was written for an archive before this answer
+-- what was written for an archive before this result
 abbrev pub ReportsAs : List ℕ → Option (List ℕ) → Option (List ℕ) → Result ⊤ Fault → Type 0
 ReportsAs archive old new (Ok done) = (output : List ℕ) × (IsReport archive output false None × Appends old new output)
 ReportsAs archive old new (Err Refused) = (output : List ℕ) × (IsReport archive output true None × Appends old new output)

@@ -11,7 +11,7 @@ use platform_str::{OsStr, Path, Unix};
 use std::alloc::{AllocError, Allocator};
 use tar_names::Name;
 
-/// Appends the line of a name, and answers whether the name is refused.
+/// Appends the line of a name, and returns whether the name is refused.
 pub(crate) fn write_line<A: Allocator + Copy>(
     alloc: A,
     name: Name<'_>,
@@ -42,8 +42,8 @@ fn write_escape<A: Allocator + Copy>(
     Ok(())
 }
 
-/// Appends what follows a name on its line, and answers whether it is refused: it is joined to the
-/// folder, and must stay below it.
+/// Appends what follows a name on its line, and returns whether the name is refused: it is joined
+/// to the folder, and must stay below it.
 fn write_verdict<A: Allocator + Copy>(
     alloc: A,
     name: OsStr<'_, Unix>,

@@ -10,7 +10,7 @@ use std::alloc::{AllocError, AllocFailed, Global};
 use std::fmt::{Display as _, Write as _};
 use std::{fmt, io};
 
-/// What `pack [-v] [-t FILE] [-l LEVEL] [-s NAME] FILE..` is asked for.
+/// The options and files of `pack [-v] [-t FILE] [-l LEVEL] [-s NAME] FILE..`.
 #[derive(Drop)]
 pub struct Options<'a, E: Platform + 'a> {
     /// Where the archive goes.
@@ -19,7 +19,7 @@ pub struct Options<'a, E: Platform + 'a> {
     pub level: Option<OsStr<'a, E>>,
     /// What is left out.
     pub skip: Option<OsStr<'a, E>>,
-    /// Whether each file is told.
+    /// Print each file name.
     pub verbose: bool,
     /// What is packed.
     pub files: Vec<OsStr<'a, E>>,
@@ -60,7 +60,7 @@ impl<'a> fmt::Display for Refusal<'a, OsStr<'a, Unix>> {
 }
 
 impl<'a, E: Platform> Options<'a, E> {
-    /// Nothing is asked for.
+    /// No option is set, and no file is given.
     fn none(alloc: Global) -> Self {
         Options {
             to: None,
@@ -71,7 +71,7 @@ impl<'a, E: Platform> Options<'a, E> {
         }
     }
 
-    /// What the words ask for. Where there is an answer, no word is left.
+    /// Parses the words. If it succeeds, no word is left.
     pub fn parse(
         alloc: Global,
         arguments: &mut Arguments<'_, 'a, E>,
@@ -95,7 +95,7 @@ impl<'a, E: Platform> Options<'a, E> {
 }
 
 impl<'a> Options<'a, Unix> {
-    /// Tells what is asked for.
+    /// Describes the options.
     fn tell(&self, text: &mut String) -> Result<(), AllocError> {
         if let Some(archive) = self.to {
             write!(text, "to {}, ", archive.display())?;
@@ -113,7 +113,7 @@ impl<'a> Options<'a, Unix> {
     }
 }
 
-/// What is asked for, or why nothing is, as a text.
+/// The text that describes the options, or states why nothing is packed.
 pub fn told(alloc: Global, words: &[OsStr<'_, Unix>]) -> Result<String, AllocError> {
     let mut text = String::new(alloc);
     match Options::parse(alloc, &mut Arguments::new(words)) {
@@ -123,12 +123,12 @@ pub fn told(alloc: Global, words: &[OsStr<'_, Unix>]) -> Result<String, AllocErr
     Ok(text)
 }
 
-/// Prints what words ask for.
+/// Prints the options that words contain.
 fn pack(rt: &HostRuntime, words: &[OsStr<'_, Unix>]) -> io::Result<()> {
     println!(rt; "{}", told(rt.alloc(), words)?.as_str())
 }
 
-/// Prints what some command lines ask for.
+/// Prints the options of some command lines.
 pub fn show(rt: &HostRuntime) -> io::Result<()> {
     let (short, name) = (OsStr::new("-vt"), OsStr::new("a.zip"));
     let raw = OsStr::from_encoded_bytes_unchecked(b"\xFF.txt");

@@ -60,7 +60,7 @@ fn show_flags(rt: &HostRuntime, variable: OsStr<'_, Unix>) -> io::Result<()> {
     }
 }
 
-/// Prints what the words of a variable ask `pack` for.
+/// Prints the options of `pack` that the words of a variable contain.
 fn show_options(rt: &HostRuntime, variable: OsStr<'_, Unix>) -> io::Result<()> {
     let Ok(strings) = flags(rt.alloc(), variable)? else {
         return Ok(());

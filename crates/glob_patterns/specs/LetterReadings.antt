@@ -1,4 +1,4 @@
--- The letters of a string are read as a reader's laws ask.
+-- The letters of a string are read as a reader's laws require.
 use Rattle.std.proofs.Common.{◌≡◌, ℕ, ◌<◌, List, [], ◌∷◌, ◌++◌, map, length, take, drop, refl, sym, ap, ◌∙◌, subst, arith, length-append}
 use Rattle.std.specs.List.{AllByRecursion, flat_map}
 use Rattle.std.specs.Str.{IsUtf8, chars}
@@ -106,7 +106,7 @@ some_bytes (LoneUnit u) = by_size (nat_lt (unit_number u) 0x100)
 ascii_text : (s : List ℕ) → AllByRecursion (λ b. b < 0x80) s → IsUtf8 s
 ascii_text s h = IsUtf8-from_ascii s (IsAscii-from_all s (All-from_recursion (λ b. b < 0x80) s h))
 
--- a list of symbols is cut at one place only by so many bytes
+-- a number of bytes cuts a list of symbols at one position only
 one_cut : (xs ys us vs : List Symbol) (z : Symbol) → xs ++ z ∷ us ≡ ys ++ z ∷ vs → length (flat_map symbol_bytes xs) ≡ length (flat_map symbol_bytes ys) → (xs ≡ ys) × (us ≡ vs)
 one_cut [] [] us vs z e l = let rest : us ≡ vs = cc in (refl, rest)
 one_cut [] (y ∷ ys) us vs z e l = absurd (omega (arith, l, length-append (symbol_bytes y) (flat_map symbol_bytes ys), some_bytes y))

@@ -11,12 +11,12 @@ use Rattle.glob_patterns.specs.GlobSets.{AreMeanings}
 use Rattle.glob_patterns.specs.Options.{options_of, syntax_of}
 
 module _ (formed : List ℕ → Type 0) (letters : List ℕ → List ℕ) {A : Type 0} where
-  -- whatever text the choices are compiled of: one of the patterns that it stands for matches the letters of a path
+  -- whatever text the choices are compiled of: one of the patterns that it is written out as matches the letters of a path
   abbrev pub IsMatchOfText : GlobOptions → List (Choice A) → List ℕ → Bool → Type 0
   IsMatchOfText o choices path result =
       (text : List ℕ) (meaning : IsMeaning formed letters (syntax_of o) text choices) → IsTrue result ↔ MatchesWrittenOut (options_of o) meaning.are.are.written_out path
 
-  -- one of the patterns that the text of this index stands for matches the letters of a path
+  -- one of the patterns that the text of this index is written out as matches the letters of a path
   abbrev pub IsTextHit : (o : GlobOptions) (texts : List (List ℕ)) (patterns : List (Pattern A)) → AreMeanings formed letters (syntax_of o) A texts patterns → List ℕ → ℕ → Type 0
   IsTextHit o [] [] meanings path i = ⊥
   IsTextHit o [] (p ∷ ps) meanings path i = ⊥

@@ -1,4 +1,4 @@
-//! Why a pattern is refused.
+//! Why a pattern is rejected.
 ghost use Rattle.std.specs.Prelude.{Some, decimal};
 ghost use Rattle.std.specs.Fmt.{WritesStyledOnOk};
 ghost use Rattle.glob_patterns.specs.ErrorText.{kind_text};
@@ -11,7 +11,7 @@ use std::fmt::{InlineText, Write as _};
 
 /// Why [`Glob::new`](crate::Glob::new) makes no pattern.
 ///
-/// Its text says it to a person. It has no width: `{:>99}` writes what `{}` does.
+/// It prints as a message for a person. It has no width: `{:>99}` writes what `{}` does.
 ///
 /// ```
 /// use glob_patterns::GlobError;
@@ -63,7 +63,7 @@ pub(crate) fn write_kind<W: fmt::Write>(kind: FaultKind, f: &mut fmt::Formatter<
     }
 }
 
-/// Writes the decimal digits of a number, whatever width is asked for.
+/// Writes the decimal digits of a number, and ignores the width of the formatter.
 pub(crate) fn write_number<W: fmt::Write>(number: usize, f: &mut fmt::Formatter<W>) -> fmt::Result
     ensures { WritesStyledOnOk W.write_str_gives f.old result (decimal number) f.new }
 {

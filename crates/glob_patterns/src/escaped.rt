@@ -11,17 +11,17 @@ use glob_text::escape;
 use os_str_ext::{OsStr, OsString, Platform};
 use std::alloc::{AllocError, Allocator};
 
-/// The pattern that matches this string and, where case tells, nothing else:
-/// [`Glob::from_os_str`](crate::Glob::from_os_str) refuses it only for want of memory. What these
-/// options read as more than a letter is quoted by a `\` or, where that quotes nothing, is in a class
-/// of its own.
+/// Returns the pattern that matches this string and, where case matters, nothing else.
+/// [`Glob::from_os_str`](crate::Glob::from_os_str) fails for it only if an allocation fails. A
+/// character that these options read as more than a letter is quoted by a `\`. Where `\` quotes
+/// nothing, the character is in a class of its own.
 ///
-/// Where both `/` and `\` are separators, the pattern of a string that has one matches the strings
-/// that differ in nothing but which of both they have.
+/// Where both `/` and `\` are separators, the pattern also matches strings that have the other
+/// separator in its place.
 ///
 /// # Errors
 ///
-/// `AllocError` if memory is refused.
+/// `AllocError` if an allocation fails.
 ///
 /// ```
 /// use glob_patterns::{Glob, GlobError, GlobOptions, Separators, escape_pattern};

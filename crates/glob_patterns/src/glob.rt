@@ -38,8 +38,9 @@ use wildcards::{Choice, matches_choice};
 ///
 /// In a class, a `]` that comes first is a member, and so is a `-` that is first, last, or right
 /// after a range. Named classes are POSIX's, over ASCII. A separator in a class is a member that
-/// matches nothing. Where case doesn't tell ([`GlobOptions::case_insensitive`]), a character is the
-/// class of all with its simple case folding, and a class has those of its members.
+/// matches nothing. Where case doesn't matter ([`GlobOptions::case_insensitive`]), a character is
+/// the class of all characters with its simple case folding. A class then has these characters for
+/// each of its members.
 #[derive(Drop)]
 pub struct Glob<E: Platform, A: Allocator = Global> {
     options: GlobOptions,

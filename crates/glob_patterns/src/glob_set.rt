@@ -16,19 +16,20 @@ use std::alloc::{AllocError, Allocator, Global};
 use std::marker::PhantomData;
 use wildcards::{Pattern, PatternSet};
 
-/// A set of path patterns, as [`Glob`](crate::Glob) reads each, that a path is matched with at once.
+/// A set of path patterns that a path is matched with at once. Each is read as by
+/// [`Glob`](crate::Glob).
 ///
 /// Patterns are looked up by the literal parts that a path must have to match them: the whole path,
-/// the end of its last component, or a component. Only those are tried, each at most once: so a path
-/// takes at most the time that it takes with each pattern by itself. A set takes the memory that its
-/// patterns take, and some more for each of the patterns that these stand for.
+/// the end of its last component, or a component. Only the patterns found are tried, each at most
+/// once. So a path takes at most the time that it takes with each pattern alone. A set takes the
+/// memory of its patterns, and some more for each pattern that they are written out as.
 #[derive(Drop)]
 pub struct GlobSet<E: Platform, A: Allocator = Global> {
     set: PatternSet<A>,
     platform: PhantomData<E>,
 }
 
-/// Compiles each pattern, or tells which is the first that has a fault, and its first fault.
+/// Compiles each pattern, or returns the index of the first that has a fault, and its first fault.
 fn compile_all<E: Platform, A: Allocator + Copy>(
     alloc: A,
     options: GlobOptions,
@@ -53,7 +54,7 @@ fn compile_all<E: Platform, A: Allocator + Copy>(
     Ok(Ok(compiled))
 }
 
-/// The first pattern after so many others.
+/// Returns the pattern at `index`, or `None`.
 fn pattern_after<'a, E: Platform>(patterns: &[OsStr<'a, E>], index: usize) -> Option<OsStr<'a, E>>
     ensures first { MatchOption result (drop index (map bytes patterns.now) ≡ [])
         (λ pattern. drop index (map bytes patterns.now)
@@ -174,7 +175,7 @@ impl<E: Platform, A: Allocator> GlobSet<E, A> {
     ///
     /// # Errors
     ///
-    /// `AllocError` if memory is refused: the vector is empty then.
+    /// `AllocError` if an allocation fails: the vector is empty then.
     ///
     /// ```
     /// use glob_patterns::{GlobOptions, GlobSet, Separators};

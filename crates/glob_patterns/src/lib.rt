@@ -1,8 +1,8 @@
 //! Path patterns over strings of any platform.
 //!
-//! [`Glob`] is a pattern that is compiled once, from a text or from any string of the platform, and
-//! matches paths without memory; [`GlobSet`] is many, with which a path is matched at once.
-//! [`escape_pattern`] is the pattern of one string.
+//! [`Glob`] is a compiled pattern, made of a text or of any string of the platform. It matches
+//! paths without allocating. [`GlobSet`] matches a path with many patterns at once.
+//! [`escape_pattern`] returns the pattern of one string.
 //!
 //! A string is read as letters ([`StringLetters`]): a letter is a whole character, or one unit of
 //! what isn't text. No pattern matches part of a letter.

@@ -24,8 +24,8 @@ pub struct GlobOptions {
 }
 
 impl GlobOptions {
-    /// The options with these separators: wildcards match leading dots, a `\` quotes, where it isn't
-    /// a separator, but not in classes, and case tells.
+    /// Returns the options with these separators. Wildcards match leading dots, and case matters. A
+    /// `\` quotes where it isn't a separator, but not in classes.
     ///
     /// ```
     /// use glob_patterns::{GlobOptions, Separators};

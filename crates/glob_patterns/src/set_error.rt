@@ -1,4 +1,4 @@
-//! Why a set of patterns is refused.
+//! Why a set of patterns is rejected.
 ghost use Rattle.std.specs.Prelude.{Some};
 
 use crate::error::{write_kind, write_number};
@@ -9,7 +9,7 @@ use std::fmt;
 
 /// Why [`GlobSet::new`](crate::GlobSet::new) makes no set.
 ///
-/// Its text says it to a person. It has no width: `{:>99}` writes what `{}` does.
+/// It prints as a message for a person. It has no width: `{:>99}` writes what `{}` does.
 ///
 /// ```
 /// use glob_patterns::{FaultKind, GlobSetError, PatternFault};

@@ -1,9 +1,9 @@
--- The patterns without alternatives that a pattern with alternatives stands for, as bash writes them out ("Brace Expansion").
+-- The list of written-out patterns: the patterns without alternatives that a pattern with alternatives means (docs/DIFFERENCES.md has what bash does differently).
 use Rattle.std.specs.Prelude.{◌≡◌, ◌<◌, ℕ, Bool, true, false, not, List, [], ◌∷◌, ◌++◌, map, length}
 use Rattle.std.specs.List.{flat_map}
 use Rattle.glob_text.specs.Marks.{Mark, literal, any, star, one_of, opens, comma, closes}
 
--- how many patterns one may stand for
+-- the largest number of patterns that one may be written out as
 abbrev pub most_choices : ℕ
 most_choices = 1024
 
@@ -31,7 +31,9 @@ is_itself inside (opens index) = false
 is_itself inside comma = not inside
 is_itself inside (closes index) = false
 
--- the marks stand for the choices: a sequence begins with nothing, and goes on with a mark, or with alternatives in braces; alternatives are sequences with commas between them
+-- The marks are written out as the choices.
+-- A sequence begins with nothing, and goes on with a mark, or with alternatives in braces.
+-- Alternatives are sequences with commas between them.
 pub data StandFor : Level → List Mark → List (List Mark) → Type 0 where
   nothing : {inside : Bool} → StandFor (sequence inside) [] ([] ∷ [])
   one : {inside : Bool} {ms : List Mark} {cs : List (List Mark)} (mark : Mark) → is_itself inside mark ≡ true → StandFor (sequence inside) ms cs → StandFor (sequence inside) (ms ++ mark ∷ []) (each cs mark)
@@ -39,11 +41,11 @@ pub data StandFor : Level → List Mark → List (List Mark) → Type 0 where
   first : {ms : List Mark} {cs : List (List Mark)} → StandFor (sequence true) ms cs → StandFor alternatives ms cs
   next : {ms ns : List Mark} {cs ds : List (List Mark)} → StandFor alternatives ms cs → StandFor (sequence true) ns ds → StandFor alternatives (ms ++ comma ∷ ns) (cs ++ ds)
 
--- a pattern stands for the choices
+-- the pattern is written out as the choices
 abbrev pub AreChoices : List Mark → List (List Mark) → Type 0
 AreChoices marks cs = StandFor (sequence false) marks cs
 
--- it stands for too many
+-- the pattern is written out as too many choices
 pub record AreTooMany (marks : List Mark) : Type 0 where
   pub choices : List (List Mark)
   pub are : AreChoices marks choices

@@ -15,7 +15,7 @@ outermost_after depth outermost (opens index) = cond (nat_eq depth 0) index oute
 outermost_after depth outermost comma = outermost
 outermost_after depth outermost (closes index) = outermost
 
--- what a look at one more mark says
+-- what one more mark does to the open alternatives
 abbrev pub LookSays : ℕ → ℕ → Mark → Scan → Type 0
 LookSays depth outermost mark (scan.Open d o) = (depth_after depth mark ≡ Some d) × (o ≡ outermost_after depth outermost mark)
 LookSays depth outermost mark (scan.Unopened index) = (mark ≡ closes index) × (depth ≡ 0)

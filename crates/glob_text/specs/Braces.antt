@@ -4,7 +4,7 @@ use Rattle.glob_text.specs.declared.fault.PatternFault.{PatternFault}
 use Rattle.glob_text.specs.declared.fault.FaultKind.TheVariants.{UnclosedAlternatives, UnopenedAlternatives}
 use Rattle.glob_text.specs.Marks.{Mark, literal, any, star, one_of, opens, comma, closes}
 
--- how many alternatives are open after the mark, where so many are before it; `None` after a `}` that closes none
+-- the number of open alternatives after the mark, given the number before it; `None` after a `}` that closes none
 abbrev pub depth_after : ℕ → Mark → Option ℕ
 depth_after depth (literal letter) = Some depth
 depth_after depth any = Some depth
@@ -19,7 +19,7 @@ if_some None f = false
 if_some (Some depth) f = f depth
 
 module _ (ends : ℕ → Bool) where
-  -- so many alternatives are open; each `}` of the marks closes one, and those that are open after them pass
+  -- given the number of open alternatives, each `}` of the marks closes one, and the number open after the marks passes the test
   abbrev pub goes_on : ℕ → List Mark → Bool
   goes_on depth [] = ends depth
   goes_on depth (mark ∷ marks) = if_some (depth_after depth mark) (λ d. goes_on d marks)

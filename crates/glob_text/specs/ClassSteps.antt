@@ -1,4 +1,4 @@
--- What the reader of a class answers: only private contracts name this.
+-- What the reader of a class returns: only private contracts name this.
 use Rattle.std.specs.Prelude.{◌<◌, length, List, []}
 use Rattle.glob_text.specs.declared.symbol.Symbol.{Symbol}
 use Rattle.glob_text.specs.declared.class_text.Member.{Member}
@@ -16,7 +16,7 @@ abbrev pub member_ranges : Member → List Range
 member_ranges (member.Letters range) = range ∷ []
 member_ranges (member.Named name) = name_ranges name
 
--- the answer as the definitions have it
+-- the result as the definitions have it
 abbrev pub reading_of : Next → ClassReading
 reading_of (next.Broken fault) = broken fault
 reading_of (next.Closed rest) = closed rest.now

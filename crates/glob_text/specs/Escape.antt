@@ -43,7 +43,8 @@ HasOneSpelling Slash path = Unit {0}
 HasOneSpelling SlashAndBackslash path = AllByRecursion (λ l. separates SlashAndBackslash l ≡ false) path
 
 module _ (formed : List ℕ → Type 0) (letters : List ℕ → List ℕ) (o : Syntax) (text : List ℕ) where
-  -- the text is a pattern without a fault, which, where case tells, matches exactly the paths whose components are those of these letters, and so these letters alone if they have one spelling
+  -- The text is a pattern without a fault.
+  -- Where case matters, it matches exactly the paths whose components are those of these letters, and so these letters alone if they have one spelling.
   pub record IsPatternOf (own : List ℕ) : Type 0 where
     pub no_fault : (fault : PatternFault) → ¬ (IsFault formed letters o text fault)
     pub same : o.case_insensitive ≡ false → (dot : Bool) (written : List (List Mark)) (path : List ℕ) → AreWrittenOut formed letters o text written

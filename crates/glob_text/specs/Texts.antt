@@ -61,7 +61,7 @@ module _ (formed : List ℕ → Type 0) (letters : List ℕ → List ℕ) (o : S
     pub read : AreSymbols formed letters text symbols
     pub is : IsSymbolsFault o symbols fault
 
-  -- the patterns without alternatives that the text stands for
+  -- the patterns without alternatives that the text is written out as
   pub record AreWrittenOut (written : List (List Mark)) : Type 0 where
     pub symbols : List Symbol
     pub read : AreSymbols formed letters text symbols

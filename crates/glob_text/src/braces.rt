@@ -8,17 +8,18 @@ use crate::fault::{FaultKind, PatternFault};
 use crate::mark::Mark;
 use std::alloc::Allocator;
 
-/// What a look at one more mark says.
+/// What one more mark does to the open alternatives.
 #[derive(Clone, Copy)]
 enum Scan {
-    /// So many alternatives are open after it, the outermost by the brace of this index.
+    /// The number of alternatives that are open after it, and the index of the brace that opens the
+    /// outermost.
     Open(usize, usize),
     /// It closes nothing. This is its index.
     Unopened(usize),
 }
 
-/// Looks at one more mark, where so many alternatives are open, the outermost by the brace of this
-/// index.
+/// Looks at one more mark, where `depth` alternatives are open. The brace at `outermost` opens the
+/// outermost.
 fn look<A: Allocator>(mark: &Mark<A>, depth: usize, outermost: usize) -> Scan
     requires { depth + 1 < 2 ^ 64 }
     ensures { LookSays depth outermost (mark_of mark.now) result }

@@ -1,4 +1,4 @@
-//! The patterns without alternatives that a pattern stands for.
+//! Writes out a pattern as patterns without alternatives.
 ghost use Rattle.std.specs.Prelude.{◌≡◌, ◌++◌, ◌∷◌, ◌<◌, [], true, length, map, IfOk, OnOk, MatchOption};
 ghost use Rattle.glob_text.specs.Marks.{mark_of};
 ghost use Rattle.glob_text.specs.Braces.{are_balanced};
@@ -37,7 +37,7 @@ struct Found<A: Allocator = Global> {
     current: Vec<Chosen<A>, A>,
 }
 
-/// The choice that is nothing, with room for so many marks.
+/// Returns the one choice without marks, with capacity for `room` marks.
 fn nothing<A: Allocator + Copy>(alloc: A, room: usize) -> Result<Vec<Chosen<A>, A>, AllocError>
     ensures { IfOk result (λ choices. indices_of choices.items ≡ [] ∷ []) }
 {

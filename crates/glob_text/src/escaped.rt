@@ -48,12 +48,13 @@ fn push_escaped<A: Allocator>(
     Ok(())
 }
 
-/// The text that, as a pattern, matches this text and, where case tells, nothing else: what the syntax reads as more
-/// than a letter is quoted by a `\` or, where that quotes nothing, is in a class of its own.
+/// Returns the text that, as a pattern, matches this text and, where case matters, nothing else. A
+/// character that the syntax reads as more than a letter is quoted by a `\`. Where `\` quotes
+/// nothing, the character is in a class of its own.
 ///
 /// # Errors
 ///
-/// `AllocError` if memory is refused.
+/// `AllocError` if an allocation fails.
 ///
 /// ```
 /// use glob_text::{Syntax, escape};

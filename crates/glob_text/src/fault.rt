@@ -1,4 +1,4 @@
-//! Why the text of a pattern is refused.
+//! Why the text of a pattern is rejected.
 
 /// What is wrong with the text of a pattern.
 #[derive(Clone, Copy, Debug, PartialEq, Eq)]

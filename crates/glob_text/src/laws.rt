@@ -19,9 +19,9 @@ pub fn written_out<A: Allocator>()
         → MatchesChoice o compiled path ↔ MatchesWrittenOut o choices path }
 {}
 
-/// Where a byte of ASCII between two strings makes a string: what a string is escaped to is a string,
-/// and a pattern without a fault, which, where case tells, matches the string that was escaped and
-/// nothing else.
+/// An escaped string is a string and a pattern without a fault. Where case matters, it matches the
+/// string that was escaped and nothing else. The law holds where two strings with a byte of ASCII
+/// between them are a string.
 pub fn escaped_alone<L: Letters>()
     ensures { ((s : List ℕ) → (t : List ℕ) → (b : ℕ) → b < 0x80 → L.formed s → L.formed t
         → L.formed (s ++ b ∷ t)) → (o : Syntax) → (own : List ℕ) → L.formed own

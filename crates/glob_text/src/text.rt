@@ -14,7 +14,7 @@ use crate::syntax::Syntax;
 use std::alloc::{AllocError, Allocator};
 use wildcards::{Choice, Letters};
 
-/// Compiles marks, or tells their fault.
+/// Compiles marks, or returns their fault.
 fn compile_marks<A: Allocator + Copy>(
     alloc: A,
     syntax: Syntax,
@@ -37,7 +37,7 @@ fn compile_marks<A: Allocator + Copy>(
     Ok(Ok(compiled))
 }
 
-/// Compiles symbols, or tells their first fault.
+/// Compiles symbols, or returns their first fault.
 fn compile_symbols<A: Allocator + Copy>(
     alloc: A,
     syntax: Syntax,
@@ -57,12 +57,13 @@ fn compile_symbols<A: Allocator + Copy>(
     }
 }
 
-/// Compiles the text of a pattern, whose bytes are read by `L`, or tells its first fault: of a
-/// backslash or a class, else of a brace, else that it stands for too many patterns.
+/// Compiles the text of a pattern, whose bytes are read by `L`, or returns its fault. That is the
+/// first fault of a backslash or a class, else that of a brace, else that the pattern is written
+/// out as too many patterns.
 ///
 /// # Errors
 ///
-/// `AllocError` if memory is refused.
+/// `AllocError` if an allocation fails.
 ///
 /// ```
 /// use glob_text::{FaultKind, Syntax, compile};

@@ -5,7 +5,7 @@ use Rattle.names_commands.specs.declared.task.LastLine.{LastLine}
 use Rattle.names_commands.specs.declared.task.WordForm.TheVariants.{OneLine}
 use Rattle.names_commands.specs.declared.task.Settings.{Settings}
 
--- all names are listed, and lines are joined, the last of which must have its end or not, where a name may have `max` bytes
+-- all names are listed, and lines are joined; the last line must have its end or not, and a name may have `max` bytes
 abbrev pub listing : ℕ → Settings
 listing max = record { task = ListAll; max = max }
 

@@ -1,4 +1,4 @@
--- The words that ask for each command, and what it does with each item.
+-- The arguments of each command, and what it does with each item.
 use Rattle.std.specs.Prelude.{◌≡◌, ◌⊎◌, ℕ, ◌<◌, ◌^◌, List, [], ◌∷◌, Option, None, Some, codes, map, string_bytes}
 use Rattle.std.specs.Str.Parse.{IsNumeral, digits_value, without_leading_plus}
 use Rattle.glob_patterns.specs.declared.options.GlobOptions.{GlobOptions}
@@ -17,12 +17,12 @@ use Rattle.names_commands.specs.declared.task.LastLine.TheVariants.{MustEnd, May
 use Rattle.names_commands.specs.declared.task.WordForm.{WordForm}
 use Rattle.names_commands.specs.declared.task.WordForm.TheVariants.{Posix, OneLine}
 
--- the word that asks for this form
+-- the argument for this form
 abbrev pub form_word : WordForm → List ℕ
 form_word Posix = codes "--sh"
 form_word OneLine = codes "--sh-line"
 
--- the words that say whether the last line may lack its newline
+-- the arguments that state whether the last line may lack its newline
 abbrev pub last_words : LastLine → List (List ℕ)
 last_words MustEnd = []
 last_words MayLackEnd = codes "--unterminated" ∷ []
@@ -36,7 +36,7 @@ abbrev pub all_words : Option Pick → List (List ℕ)
 all_words None = []
 all_words (Some pick) = pick_words pick
 
--- the words after the program's name that ask for the command
+-- the arguments after the program's name that make up the command
 abbrev pub words_of : Command → List (List ℕ)
 words_of (ListNames os pick) = codes "list" ∷ os_word os ∷ all_words pick
 words_of (ListWords form pick) = codes "list" ∷ form_word form ∷ os_word Unix ∷ all_words pick
@@ -46,7 +46,7 @@ words_of (JoinWords last) = codes "join" ∷ form_word Posix ∷ os_word Unix �
 words_of (Check os) = codes "check" ∷ os_word os ∷ []
 words_of Help = codes "--help" ∷ []
 
--- the text says this number of bytes, as std reads a `usize`: digits, after a `+` or not
+-- the text states this number of bytes, as std reads a `usize`: digits, after a `+` or not
 pub record IsLimit (text : List ℕ) (max : ℕ) : Type 0 where
   pub digits : IsNumeral 10 (without_leading_plus text)
   pub value : max ≡ digits_value 10 (without_leading_plus text)

@@ -28,7 +28,7 @@ use Rattle.names_commands.specs.Words.{IsWordLine}
 abbrev pub IsPicked : {A : Type 0} → (List ℕ → Type 0) → List (File A) → List ℕ → Type 0
 IsPicked Chosen files name = Chosen name × (¬ (IsIgnored files name))
 
--- on a platform that says this of its strings:
+-- on a platform that states this of its strings:
 module _ {E : Type 0} (p : Ghosts E) where
   -- the name in this form: its escape on a line, itself with NUL, or its word on a line
   abbrev pub IsInForm : Form → List ℕ → List ℕ → Type 0
@@ -46,7 +46,7 @@ module _ {E : Type 0} (p : Ghosts E) where
   HasNulIn Name name = ⊥
   HasNulIn (Word form) name = ¬ (Lacks 0 name)
 
-  -- why a name is refused: it is no string, or it has a NUL
+  -- why a name is rejected: it isn't a string, or it has a NUL
   abbrev pub IsNoName : Form → List ℕ → Refusal → Type 0
   IsNoName form name (NoString error) = p.first_fault name error
   IsNoName form name (BadEscape index) = ⊥
@@ -66,7 +66,7 @@ module _ {E : Type 0} (p : Ghosts E) where
     is_of_long = λ name. ⊥;
   }
 
-  -- of each text these are the patterns without alternatives that it stands for
+  -- these are the patterns without alternatives that each text is written out as
   abbrev pub AreWrittenOut : GlobOptions → List (List ℕ) → List (List (List Mark)) → Type 0
   AreWrittenOut o [] written = written ≡ []
   AreWrittenOut o (text ∷ texts) [] = ⊥
@@ -81,7 +81,7 @@ module _ {E : Type 0} (p : Ghosts E) where
   abbrev pub IsPattern : GlobOptions → List ℕ → Type 0
   IsPattern o text = (written : List (List Mark)) × pattern.AreWrittenOut p.well_formed (letters_of p.units) (syntax_of o) text written
 
-  -- the first of the texts with a fault, which comes after so many others, and its first fault
+  -- the first of the texts with a fault, whose index is the number of texts before it, and its first fault
   pub record IsFirstFault (o : GlobOptions) (texts : List (List ℕ)) (index : ℕ) (fault : PatternFault) : Type 0 where
     pub before : List (List ℕ)
     pub text : List ℕ

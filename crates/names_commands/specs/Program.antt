@@ -38,7 +38,7 @@ use Rattle.names_commands.specs.Task.{rules_of}
 abbrev pub Fault : Type 0
 Fault = program_fault.Fault Refusal CommandFault
 
--- what is done: of the bytes that a reader had left and has left, of what a writer held and holds, as far as they are known, and of the answer
+-- what is done: a relation of the bytes that a reader had left and has left, of what a writer held and holds, as far as they are known, and of the result
 abbrev pub Doing : Type 1
 Doing = Option (List ℕ) → Option (List ℕ) → Option (List ℕ) → Option (List ℕ) → Result ⊤ Fault → Type 0
 
@@ -54,11 +54,11 @@ EndsAtOnce fault input left old new answer = (answer ≡ Err fault) × ((left �
 abbrev pub UnlessOutOfMemory : Doing → Doing
 UnlessOutOfMemory Done input left old new answer = EndsAtOnce (OfList (Run Memory)) input left old new answer ⊎ Done input left old new answer
 
--- the answer of a run over all items
+-- the result of a run over all items
 abbrev pub RunsTask : Os → Task → ℕ → Doing
 RunsTask os what max input left old new answer = Runs (rules_of (strings os) (record { task = what; max = max })) OfList input left old new answer
 
--- the fault of the pattern that comes after so many others
+-- the fault of the pattern at this index
 abbrev pub fault_of : Pick → ℕ → PatternFault → CommandFault
 fault_of (Glob pattern) index fault = Pattern fault
 fault_of (Options option value rest) index fault = Numbered (index + 1) fault
@@ -85,7 +85,7 @@ module _ (known : KnownFiles) (A : Type 0) where
   abbrev pub IsFaultOf : List (List ℕ) → Fault → Type 0
   IsFaultOf names fault = (fault ≡ OfList (Run Memory)) ⊎ ((why : CommandFault) × IsFileFault names why × (fault ≡ Words why))
 
-  -- the first ignore file that can't be read is told; or these names are written, but for those that the files ignore, on a platform that says this of its strings, where a name may have `max` bytes
+  -- the run ends with the first ignore file that can't be read. Or it writes these names, but for those that the files ignore, on a platform that states this of its strings, where a name may have `max` bytes
   abbrev pub RunsBut : {E : Type 0} → Ghosts E → Form → ℕ → (List ℕ → Type 0) → List (List ℕ) → Doing
   RunsBut p form max Chosen names input left old new answer =
       ((why : CommandFault) × IsFileFault names why × EndsAtOnce (Words why) input left old new answer)
@@ -93,17 +93,17 @@ module _ (known : KnownFiles) (A : Type 0) where
 
   -- on such a platform:
   module _ {E : Type 0} (p : Ghosts E) (os : Os) (form : Form) (pick : Pick) (max : ℕ) where
-    -- the first of the patterns that has a fault is told; or the names that one of them matches are written, or all where there are none, but for those that the files ignore
+    -- the run ends with the first of the patterns that has a fault. Or it writes the names that one of them matches, or all where there are none, but for those that the files ignore
     abbrev pub RunsPatterns : List (List ℕ) → List (List ℕ) → Doing
     RunsPatterns globs names input left old new answer =
         ((index : ℕ) × (fault : PatternFault) × IsFirstFault p (options_of os) globs index fault × EndsAtOnce (Words (fault_of pick index fault)) input left old new answer)
         ⊎ ((written : List (List (List Mark))) × AreWrittenOut p (options_of os) globs written × RunsBut p form max (IsChosen p (options_of os) written) names input left old new answer)
 
-    -- the answer to the patterns and the ignore files that pick names
+    -- the result for the patterns and the ignore files that pick names
     abbrev pub RunsChosen : Doing
     RunsChosen input left old new answer = (globs : List (List ℕ)) × (names : List (List ℕ)) × AreChosen os pick globs names × RunsPatterns globs names input left old new answer
 
-    -- the answer to what picks names: that it is neither a pattern nor options, or that to its patterns and ignore files, unless memory is refused first
+    -- the result for what picks names: that it is neither a pattern nor options, or that for its patterns and ignore files, unless memory is refused first
     abbrev pub RunsPick : Doing
     RunsPick input left old new answer =
         (((globs names : List (List ℕ)) → ¬ (AreChosen os pick globs names)) × EndsAtOnce (Words Usage) input left old new answer)
@@ -113,7 +113,7 @@ module _ (known : KnownFiles) (A : Type 0) where
   abbrev pub RunsPickOn : Os → Form → Pick → ℕ → Doing
   RunsPickOn os form pick max input left old new answer = RunsPick (strings os) os form pick max input left old new answer
 
-  -- the answer of a run over all items, or over the names that are picked, in this form
+  -- the result of a run over all items, or over the names that are picked, in this form
   abbrev pub RunsNames : Os → Task → Form → Option Pick → ℕ → Doing
   RunsNames os what form None max input left old new answer = RunsTask os what max input left old new answer
   RunsNames os what form (Some pick) max input left old new answer = RunsPickOn os form pick max input left old new answer
@@ -128,7 +128,7 @@ module _ (known : KnownFiles) (A : Type 0) where
   Does (Check os) max input left old new answer = RunsTask os task.Check max input left old new answer
   Does Help max input left old new answer = WritesText help_text (OfList (Run Write)) old new answer
 
-  -- the request that these words make is answered by this; words that make none are refused
+  -- the request that these arguments make has this result; arguments that make none are rejected
   abbrev pub RunsTo : List (List ℕ) → Doing
   RunsTo words input left old new answer =
       (((request : Request) → ¬ (AsksFor words request)) × EndsAtOnce (Words Usage) input left old new answer)

@@ -32,7 +32,7 @@ abbrev pub MayLack : LastLine → Type 0
 MayLack MustEnd = ⊥
 MayLack MayLackEnd = Unit {0}
 
--- the last item may lack the byte that ends it: a name may, and a line where that was asked for
+-- the last item may lack the byte that ends it: a name may, and a line where the settings allow it
 abbrev pub TakesUnended : Task → Type 0
 TakesUnended ListAll = Unit {0}
 TakesUnended (ListWords form) = Unit {0}
@@ -51,7 +51,7 @@ longest (JoinWords last) max = 4 * max + 3
 abbrev pub longest_item : Settings → ℕ
 longest_item s = longest s.task s.max
 
--- on a platform that says this of its strings:
+-- on a platform that states this of its strings:
 module _ {E : Type 0} (p : Ghosts E) where
   -- the text is the escape of the name on a line
   abbrev pub IsLine : List ℕ → List ℕ → Type 0
@@ -71,7 +71,7 @@ module _ {E : Type 0} (p : Ghosts E) where
   IsText (Join last) max line text = (name : List ℕ) × IsNameOf max line name × (Lacks 0 name × (text ≡ name ++ 0 ∷ []))
   IsText (JoinWords last) max line text = AreNamesOf max line text
 
-  -- the first fault of a name that is no string; of a line that isn't UTF-8
+  -- the first fault of a name that isn't a string, or of a line that isn't UTF-8
   abbrev pub HasFault : Task → List ℕ → EncodingError → Type 0
   HasFault ListAll name error = p.first_fault name error
   HasFault (ListWords form) name error = p.first_fault name error
@@ -79,7 +79,7 @@ module _ {E : Type 0} (p : Ghosts E) where
   HasFault (Join last) line error = IsTextFault line error
   HasFault (JoinWords last) line error = ⊥
 
-  -- why a line is the escape of no string
+  -- why a line isn't the escape of any string
   abbrev pub HasBadQuote : Task → List ℕ → QuoteError → Type 0
   HasBadQuote ListAll name error = ⊥
   HasBadQuote (ListWords form) name error = ⊥

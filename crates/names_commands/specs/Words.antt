@@ -37,7 +37,7 @@ Comes max [] item = ⊥
 Comes max (Ok word ∷ items) item = (Ok word ≡ item) ⊎ (IsName max word × Comes max items item)
 Comes max (Err fault ∷ items) item = Err fault ≡ item
 
--- the line as a shell reads it, where what some shell expands is refused and `$'..'` is read: all its words are names, of which the text is each with NUL
+-- the line as a shell reads it, where what some shell expands is rejected and `$'..'` is read: all its words are names, and the text is each name with NUL
 abbrev pub AreNamesOf : ℕ → List ℕ → List ℕ → Type 0
 AreNamesOf max line text = (items : List (Result (List ℕ) WordsFault)) × IsRead (language true true) line items × AreNames max items text
 

@@ -1,4 +1,4 @@
-//! Commands, and the words that ask for them.
+//! Commands, and the arguments that make them up.
 ghost use Rattle.std.specs.Prelude.{◌≡◌, ◌≢◌, ◌∷◌, [], ℕ, IfOk, OnErr, MatchOption, map, string_bytes};
 ghost use Rattle.program_frame.specs.Os.{os_word};
 ghost use Rattle.program_frame.specs.declared.os.Os.TheVariants.{Unix};
@@ -14,13 +14,13 @@ use crate::task::{LastLine, WordForm};
 use glob_patterns::{GlobOptions, Separators};
 use program_frame::os::Os;
 
-/// How many bytes a name may have where the words don't say.
+/// How many bytes a name may have where the arguments state no limit.
 const LONGEST_NAME: usize = 0x10_0000;
 
-/// What the program is asked to do, and how long a name may be.
+/// What the program does, and how long a name may be.
 #[derive(Clone, Copy, PartialEq, Eq)]
 pub struct Request<'a> {
-    /// What it is asked to do.
+    /// What the program does.
     pub command: Command<'a>,
     /// How many bytes a name may have.
     pub max: usize,
@@ -84,7 +84,7 @@ impl<'a> Request<'a> {
     }
 }
 
-/// The limit that a text says.
+/// The limit that a text states.
 fn limit(number: &str) -> Result<usize, Usage>
     ensures limit { IfOk result (λ max. IsLimit number.now max) }
     ensures no_limit { OnErr result ((max : ℕ) → ¬ (IsLimit number.now max)) }
@@ -95,7 +95,7 @@ fn limit(number: &str) -> Result<usize, Usage>
     }
 }
 
-/// What the program is asked to do.
+/// What the program does.
 #[derive(Clone, Copy, PartialEq, Eq)]
 pub enum Command<'a> {
     /// `list`: reads names, each ended by NUL, and writes the escape of each on a line, or of those
@@ -119,7 +119,7 @@ pub enum Command<'a> {
 }
 
 impl<'a> Command<'a> {
-    /// The command that the words after the program's name ask for, and nothing else. It takes no
+    /// Parses the arguments after the program's name, and nothing else, as a command. It takes no
     /// memory.
     ///
     /// # Errors
@@ -154,7 +154,7 @@ impl<'a> Command<'a> {
         }
     }
 
-    /// The command that a name, a second word and others ask for.
+    /// The command that a name, a second argument and others make up.
     #[tactic(auto, using(crate::proofs::lemmas::NoCommand::no_second))]
     fn of_words(name: &str, second: &str, rest: &'a [String]) -> Result<Command<'a>, Usage>
         ensures command { IfOk result (λ command.
@@ -171,7 +171,7 @@ impl<'a> Command<'a> {
         }
     }
 
-    /// The command that a name, a platform and other words ask for.
+    /// The command that a name, a platform and other arguments make up.
     #[tactic(auto, using(crate::proofs::lemmas::NoCommand::some_pick))]
     fn about_names(name: &str, os: Os, rest: &'a [String]) -> Result<Command<'a>, Usage>
         ensures command { IfOk result (λ command.
@@ -197,7 +197,7 @@ impl<'a> Command<'a> {
         }
     }
 
-    /// The command about words of a shell that a name, a form and other words ask for.
+    /// The command about words of a shell that a name, a form and other arguments make up.
     fn about_words(name: &str, form: WordForm, rest: &'a [String]) -> Result<Command<'a>, Usage>
         ensures command { IfOk result (λ command.
             name.now ∷ form_word form ∷ map string_bytes rest.now ≡ words_of command) }
@@ -213,7 +213,8 @@ impl<'a> Command<'a> {
         }
     }
 
-    /// The same of the words after the platform.
+    /// The command about words of a shell that a name, a form and the arguments after the platform
+    /// make up.
     fn about_unix_words(
         name: &str,
         form: WordForm,

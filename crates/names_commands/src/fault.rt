@@ -14,26 +14,27 @@ use std::fmt::Display as _;
 /// Why an item is refused.
 #[derive(Clone, Copy, PartialEq, Eq)]
 pub enum Refusal {
-    /// The name is no string of the platform, or the line isn't UTF-8: the first fault of its bytes.
+    /// The name isn't a string of the platform, or the line isn't UTF-8: the first fault of its
+    /// bytes.
     NoString(EncodingError),
-    /// The line is the escape of no string: the backslash at this index begins no token.
+    /// The line isn't the escape of any string: the backslash at this index begins no token.
     BadEscape(usize),
-    /// The line is no escape: that of the string that it stands for is another.
+    /// The line isn't an escape: it can be read as a string whose escape is another.
     NotCanonical,
-    /// The line, or a word of it, stands for a string with a NUL, which would end the name.
+    /// The line, or a word of it, is read as a string with a NUL, which would end the name.
     HasNul,
     /// The line isn't words of a shell: its fault.
     BadWords(WordsFault),
 }
 
-/// The words ask for no command.
+/// The arguments make up no command.
 #[derive(Clone, Copy, PartialEq, Eq)]
 pub struct Usage;
 
 /// Why the words are refused.
 #[derive(Clone, Copy, PartialEq, Eq)]
 pub enum CommandFault {
-    /// They ask for no command.
+    /// The arguments make up no command.
     Usage,
     /// The pattern is refused: its first fault.
     Pattern(PatternFault),

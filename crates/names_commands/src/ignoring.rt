@@ -80,7 +80,7 @@ fn add_files<F: Files, A: Allocator + Copy>(
     Ok(())
 }
 
-/// The first name after so many others.
+/// The name at `index`, or `None`.
 fn name_after<'a>(names: &[&'a str], index: usize) -> Option<&'a str>
     ensures first { MatchOption result (drop index (map text_of names.now) ≡ [])
         (λ name. drop index (map text_of names.now)

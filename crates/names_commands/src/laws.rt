@@ -10,10 +10,11 @@ ghost use Rattle.names_commands.specs.declared.task.LastLine.TheVariants.{MustEn
 
 use os_str_bytes::Platform;
 
-/// `join` gives back the names of which `list` wrote the lines, with the NUL that the last may lack:
-/// with the same limit it refuses none of the lines, and with another it gives back nothing else.
-/// Where the lines were cut off, it gives back some of the first names, each of them whole, or
-/// refuses them, unless it is told that the last line may lack its newline.
+/// `join` gives back the names whose lines `list` wrote, with the NUL that the last may lack. With
+/// the same limit it rejects none of the lines, and with another it gives back nothing else.
+///
+/// Where the lines were cut off, it gives back some of the first names, each of them whole. Or it
+/// rejects the lines, unless it runs with the setting that the last line may lack its newline.
 pub fn names_come_back<E: Platform>()
     ensures some { (last : LastLine) → (max : ℕ) → (names : List ℕ) → (lines : List ℕ)
         → IsOutput (rules_of ⟦<E as Platform>⟧ (listing max)) names lines → (suffix : List ℕ)
@@ -30,7 +31,8 @@ pub fn names_come_back<E: Platform>()
         → AreFirst names suffix }
 {}
 
-/// The same of names of Unix whose words are on one line each.
+/// `join` gives back names of Unix whose words `list` wrote on one line each, as `names_come_back`
+/// states for escapes.
 pub fn names_come_back_from_words()
     ensures some { (last : LastLine) → (max : ℕ) → (names : List ℕ) → (lines : List ℕ)
         → IsOutput (rules_of (strings Unix) (listing_words max)) names lines → (suffix : List ℕ)

@@ -1,14 +1,15 @@
-//! What the program `names` does, over ends of any kind: lists of names, read and written item by
+//! What the program `names` does, over ends of any kind: it reads and writes lists of names item by
 //! item.
 //!
-//! An item is a name, ended by NUL, or a line that is the escape of a name
-//! ([`os_quote::escape_line`]) or has words of a shell ([`os_command_line::shell::Words`]); one may be
-//! empty. The last name may lack its end, and a last line where
-//! that was asked for ([`task::LastLine`]). Words are a
-//! command ([`Command::parse`](command::Command::parse)). A run reads a block at a time, and writes
-//! what the items that end in it become ([`program_frame::lists::run::run`]), so it keeps one item and what a block
-//! becomes. Where it ends early, the text of a [`Fault`](fault::Fault) says why, and with the number
-//! of which item ([`program::execute`]).
+//! An item is a name, ended by NUL, or a line. A line is the escape of a name
+//! ([`os_quote::escape_line`]) or has words of a shell ([`os_command_line::shell::Words`]). An item
+//! may be empty. The last name may lack its end, and a last line where the settings allow it
+//! ([`task::LastLine`]).
+//!
+//! The arguments are a command ([`Command::parse`](command::Command::parse)). A run reads a block
+//! at a time, and writes what the items that end in it become ([`program_frame::lists::run::run`]).
+//! So it keeps one item and what a block becomes. Where it ends early, the text of a
+//! [`Fault`](fault::Fault) states why, and for which item ([`program::execute`]).
 //!
 //! One of its calls has a `requires`: [`program::execute`] takes a reader and a writer whose marks are
 //! unset, as `Marked::new` makes them.

@@ -34,7 +34,7 @@ pub struct Picker<'g, E: Platform, A: Allocator = Global> {
     /// Those that a pattern of this set matches, or all where there is no set,
     pub globs: Option<&'g GlobSet<E, A>>,
     /// but for those that the lines of these files ignore. One `./` before a name is left out, and a `/`
-    /// at its end says that it is a directory.
+    /// at its end marks a directory.
     pub ignore: &'g Ignore<A>,
 }
 

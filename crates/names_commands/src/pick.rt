@@ -71,14 +71,14 @@ impl<'a> Pick<'a> {
 /// What options choose.
 #[derive(Drop)]
 pub(crate) struct Chosen<'a, E: Platform + 'a, A: Allocator> {
-    /// The patterns of which one matches a name that is picked, if there are any.
+    /// The patterns, if there are any: a name is picked if one of them matches it.
     pub globs: Vec<OsStr<'a, E>, A>,
     /// The names of ignore files.
     pub files: Vec<&'a str, A>,
 }
 
 impl<'a, E: Platform, A: Allocator> Chosen<'a, E, A> {
-    /// Adds what options choose, and answers whether the words are such.
+    /// Adds what options choose, and returns whether the arguments are options.
     #[tactic(auto, using(crate::proofs::lemmas::Picks::first_option, crate::proofs::lemmas::Picks::no_first, crate::proofs::lemmas::Picks::no_more))]
     fn add_options(
         &mut self,
@@ -101,7 +101,7 @@ impl<'a, E: Platform, A: Allocator> Chosen<'a, E, A> {
         }
     }
 
-    /// Adds what two words choose, and answers whether they are an option.
+    /// Adds what two arguments choose, and returns whether they are an option.
     fn add(&mut self, os: Os, option: &str, value: &'a str) -> Result<bool, AllocError>
         ensures { IfOk result (λ is. MatchBool is
             (AddsOption os option.now value.entry.now
@@ -123,7 +123,7 @@ impl<'a, E: Platform, A: Allocator> Chosen<'a, E, A> {
         }
     }
 
-    /// Adds what the words of options choose, and answers whether they are such.
+    /// Adds what the arguments of options choose, and returns whether they are options.
     fn add_rest(&mut self, os: Os, words: &'a [String]) -> Result<bool, AllocError>
         ensures { IfOk result (λ are. MatchBool are
             (AddsOptions os (map string_bytes words.entry.now)

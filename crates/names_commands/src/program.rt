@@ -95,7 +95,7 @@ impl<F: Files> ListProgram for Names<F> {
     }
 }
 
-/// The answer of the run of a command.
+/// Returns the result of the run of a command.
 fn run_command<F: Files, A: Allocator + Copy, R: Read, W: Write>(
     alloc: A,
     files: &F,
@@ -153,7 +153,7 @@ fn run_command<F: Files, A: Allocator + Copy, R: Read, W: Write>(
     }
 }
 
-/// The answer of the run over all items, or over the names that are picked, in this form.
+/// Returns the result of the run over all items, or over the names that are picked, in this form.
 fn run_names<F: Files, A: Allocator + Copy, R: Read, W: Write>(
     alloc: A,
     files: &F,
@@ -178,7 +178,7 @@ fn run_names<F: Files, A: Allocator + Copy, R: Read, W: Write>(
     }
 }
 
-/// The answer to what picks names on a platform.
+/// Returns the result for what picks names on a platform.
 fn run_pick<F: Files, A: Allocator + Copy, R: Read, W: Write>(
     alloc: A,
     files: &F,
@@ -209,7 +209,7 @@ fn run_pick<F: Files, A: Allocator + Copy, R: Read, W: Write>(
     }
 }
 
-/// The same on a platform that is a type.
+/// Returns the result for what picks names, where the platform is a type.
 fn run_picked<E: Platform, F: Files, A: Allocator + Copy, R: Read, W: Write>(
     alloc: A,
     files: &F,
@@ -247,7 +247,7 @@ fn run_picked<E: Platform, F: Files, A: Allocator + Copy, R: Read, W: Write>(
     }
 }
 
-/// The answer to patterns, which are compiled once, and to the names of ignore files.
+/// Returns the result for patterns, which are compiled once, and for the names of ignore files.
 fn run_chosen<E: Platform, F: Files, A: Allocator + Copy, R: Read, W: Write>(
     alloc: A,
     files: &F,
@@ -291,8 +291,8 @@ fn set_of<'g, E: Platform, A: Allocator>(
     if globs.is_empty() { None } else { Some(set) }
 }
 
-/// The answer of the run over the names that a set picks, if there is one, but for those that ignore files
-/// ignore, which are read once.
+/// Returns the result of the run over the names that a set picks, if there is one, but for those
+/// that ignore files ignore. The files are read once.
 fn run_but<E: Platform, F: Files, A: Allocator + Copy, R: Read, W: Write>(
     alloc: A,
     files: &F,
@@ -323,7 +323,7 @@ fn run_but<E: Platform, F: Files, A: Allocator + Copy, R: Read, W: Write>(
     }
 }
 
-/// The fault of the pattern that comes after so many others.
+/// The fault of the pattern at `index`.
 fn fault_of(pick: Pick<'_>, index: usize, fault: PatternFault) -> CommandFault
     requires { index + 1 < 2 ^ 64 }
     ensures { result ≡ fault_of pick.entry index fault }
@@ -334,7 +334,7 @@ fn fault_of(pick: Pick<'_>, index: usize, fault: PatternFault) -> CommandFault
     }
 }
 
-/// The answer of the run on a platform.
+/// Returns the result of the run on a platform.
 fn run_on<A: Allocator, R: Read, W: Write>(
     alloc: A,
     os: Os,

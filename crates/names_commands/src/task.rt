@@ -68,9 +68,10 @@ pub struct Settings {
 }
 
 impl Settings {
-    /// How many bytes an item may have, or `usize::MAX` where that is less: a name as many as it may,
-    /// a line six times as many, since an escape has at most six for each byte of a name, and a line of
-    /// words four times as many and three, since the word of a name has no more.
+    /// How many bytes an item may have, or `usize::MAX` where that is less. A name may have `max`
+    /// bytes. A line may have six times as many, since an escape has at most six for each byte of a
+    /// name. A line of words may have four times as many and three, since the word of a name has no
+    /// more.
     ///
     /// ```
     /// use names_commands::task::{LastLine, Settings, Task};
@@ -108,7 +109,7 @@ impl Task {
     }
 
     /// Whether the last item may lack the byte that ends it: a name may, and a line where
-    /// [`LastLine`] says so.
+    /// [`LastLine`] allows it.
     ///
     /// ```
     /// use names_commands::task::{LastLine, Task};

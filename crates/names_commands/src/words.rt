@@ -72,7 +72,8 @@ pub(crate) fn write_names<A: Allocator + Copy>(
     }
 }
 
-/// The same to a list of names, which may have some of them afterwards where a word is refused.
+/// Appends the names of a line's words to a list of names. Where a word is rejected, the list may
+/// have some of them afterwards.
 fn push_names<A: Allocator + Copy>(
     alloc: A,
     max: usize,

@@ -7,7 +7,7 @@ use Rattle.os_command_line.specs.declared.shell.fish.FishError.{FishError}
 use Rattle.os_command_line.specs.declared.shell.fish.FishError.TheVariants as error
 use Rattle.os_command_line.specs.declared.shell.fish.FishQuoted.{FishQuoted}
 
--- a single quote or a backslash, each of which a backslash escapes in single quotes
+-- a single quote or a backslash: in single quotes a backslash escapes it
 abbrev pub is_escaped : ℕ → Bool
 is_escaped b = nat_eq b 0x27 || nat_eq b 0x5C
 
@@ -20,9 +20,10 @@ abbrev pub EndsWord : List (List ℕ) → Type 0
 EndsWord [] = Unit {0}
 EndsWord (c ∷ cs) = is_one is_gap c ≡ true
 
--- From here, in single quotes or not, the characters are read as the rest of this word, up to `after`:
--- outside quotes a plain byte means itself, a backslash escapes a single quote or a backslash, and a single quote opens a quoted part;
--- in one a single quote closes it, a backslash before a single quote or a backslash escapes that, before any other character it means itself, and so does any other character.
+-- From here, in single quotes or not, the characters are read as the rest of this word, up to `after`.
+-- Outside quotes a plain byte means itself, a backslash escapes a single quote or a backslash, and a single quote opens a quoted part.
+-- In a quoted part a single quote closes it, and a backslash escapes a single quote or a backslash.
+-- Any other character means itself there, and so does a backslash before it.
 pub data ReadsWord (after : List (List ℕ)) : Bool → List (List ℕ) → List ℕ → Type 0 where
   ends : EndsWord after → ReadsWord after false after []
   bare : (c : List ℕ) (text : List (List ℕ)) (word : List ℕ) → is_one is_plain c ≡ true → ReadsWord after false text word → ReadsWord after false (c ∷ text) (c ++ word)
@@ -64,7 +65,7 @@ fish_word name = if is_plain_name name then name else fish_quoted name
 abbrev pub fish_text : FishQuoted → List ℕ
 fish_text q = fish_word q.text.now
 
--- why a name isn't printed: its first NUL, or else that it is no text from this index on
+-- why a name isn't printed: its first NUL, or else the index of its first invalid UTF-8
 abbrev pub IsFishFault : List ℕ → FishError → Type 0
 IsFishFault name (error.Nul index) = IsFirstNul name index
 IsFishFault name (error.NotText index) = HasNoNul name × ((error_len : Option ℕ) × IsUtf8Fault name index error_len)

@@ -51,7 +51,8 @@ is_history b = nat_eq b 0x21
 abbrev pub is_special_doubled : ℕ → Bool
 is_special_doubled b = is_expansion b || is_history b
 
--- what some shell gives a meaning of its own outside quotes; a carriage return is a blank to fish, and ends a line that is typed; # = and ^ where they are first in a word
+-- A byte to which some shell gives a meaning of its own outside quotes; # = and ^ are such bytes where they are first in a word.
+-- A carriage return is a blank to fish, and ends a line that is typed.
 abbrev pub is_special : Bool → ℕ → Bool
 is_special first b = is_operator b || (is_pattern b || (is_history b || (nat_eq b 0x0D || (first && (nat_eq b 0x23 || (nat_eq b 0x3D || nat_eq b 0x5E))))))
 
@@ -180,7 +181,7 @@ pub data Reads (l : Language) : Bool → List ℕ → Outcome → Type 0 where
   expands : (first : Bool) (quoted word : List ℕ) (b : ℕ) (text : List ℕ) → Doubled l quoted word → l.refuses_specials ≡ true → is_special_doubled b ≡ true → Reads l first (double_quote ∷ (quoted ++ b ∷ text)) (Fault Special (b ∷ text))
   keeps : (first : Bool) (quoted word : List ℕ) (b : ℕ) (text : List ℕ) → Doubled l quoted word → l.refuses_specials ≡ true → is_history b ≡ true → Reads l first (double_quote ∷ (quoted ++ backslash ∷ b ∷ text)) (Fault Special (b ∷ text))
 
--- between words: blanks, and newlines after a backslash, by which lines are joined before words are told apart (2.2.1)
+-- between words: blanks, and newlines after a backslash, by which lines are joined before words are separated (2.2.1)
 pub data IsGap : List ℕ → Type 0 where
   no_gap : IsGap []
   blank : (b : ℕ) (gap : List ℕ) → is_blank b ≡ true → IsGap gap → IsGap (b ∷ gap)

@@ -67,7 +67,7 @@ pub data Reads (l : Language) : Bool → List (List ℕ) → List ℕ → List (
   dollared : (first : Bool) (opening quoted text : List (List ℕ)) (meant word : List ℕ) (after : List (List ℕ)) → l.dollar_quotes ≡ true → IsOpening opening → Dollared quoted meant → Reads l false text word after
       → Reads l first ((dollar ∷ []) ∷ (opening ++ (quoted ++ (single_quote ∷ []) ∷ text))) (meant ++ word) after
 
--- between words: blanks, and newlines after a backslash, by which lines are joined before words are told apart (2.2.1)
+-- between words: blanks, and newlines after a backslash, by which lines are joined before words are separated (2.2.1)
 pub data IsGap : List (List ℕ) → Type 0 where
   no_gap : IsGap []
   blank : (c : List ℕ) (gap : List (List ℕ)) → is_one is_blank c ≡ true → IsGap gap → IsGap (c ∷ gap)

@@ -1,4 +1,4 @@
--- The steps of a reader of words. Only views and private contracts name these; `Reads` and `IsRead` say how a line is read.
+-- The steps of a reader of words. Only views and private contracts name these; `Reads` and `IsRead` define how a line is read.
 use Rattle.std.specs.Prelude.{ℕ, zero, suc, ◌-◌, nat_eq, Bool, true, false, not, ◌||◌, ◌&&◌, if◌then◌else◌, Option, None, Some, Result, Ok, Err, option_to_list, List, [], ◌∷◌, ◌++◌, length}
 use Rattle.os_command_line.specs.declared.shell.language.Language.{Language}
 use Rattle.os_command_line.specs.declared.shell.step.State.{State}
@@ -87,7 +87,7 @@ dollar_escape_step (c ∷ text) = letter_step c text (letter_meaning c)
 abbrev pub dollar_step : ℕ → List ℕ → Step
 dollar_step b text = if nat_eq b single_quote then Go None Bare 0 else (if nat_eq b backslash then dollar_escape_step text else Go (Some b) Dollar 0)
 
--- one byte before this text: the word ends before it, or is refused, or goes on with at most one byte that is meant, and so many bytes after this one are passed over
+-- one byte before this text: the word ends before it, or is rejected, or goes on with at most one byte that is meant and a number of bytes after this one that are passed over
 abbrev pub step : Language → State → ℕ → List ℕ → Step
 step l Start b text = outside_step l Start b text
 step l Bare b text = outside_step l Bare b text
@@ -124,7 +124,7 @@ after_step here End o = Word [] here
 after_step here (Refuse kind) o = Fault kind here
 after_step here (Go out next n) o = prepend (option_to_list out) o
 
--- what is still to come of a word, after so many bytes that are passed over
+-- the rest of a word, after a number of bytes that are passed over
 unfoldable pub run : Language → State → List ℕ → ℕ → List ℕ → Outcome
 run l s from k [] = at_end s from
 run l s from (suc k) (b ∷ text) = run l s from k text
@@ -147,7 +147,7 @@ meant l s k [] = []
 meant l s (suc k) (b ∷ text) = meant l s k text
 meant l s zero (b ∷ text) = with_step (step l s b text) (meant l (next_state s (step l s b text)) (passed (step l s b text)) text)
 
--- what is meant by the text of a word, each byte of which means itself or not
+-- what is meant by the text of a word, where each byte means itself or not
 abbrev pub raw_bytes : Language → Bool → List ℕ → List ℕ
 raw_bytes l bare raw = if bare then raw else meant l Start zero raw
 

@@ -65,7 +65,7 @@ abbrev pub character_text : ℕ → Option ℕ → List ℕ
 character_text c (Some letter) = backslash ∷ letter ∷ []
 character_text c None = shown_or_octal c
 
--- what means a symbol there: a character, or a byte that is no text
+-- what means a symbol there: a character, or a byte of invalid UTF-8
 abbrev pub symbol_text : Symbol → List ℕ
 symbol_text (symbol.Character c) = character_text c (letter_for c)
 symbol_text (symbol.Unit u) = octal_text (unit_number u)
@@ -100,7 +100,7 @@ pub record IsDollarWord (name text : List ℕ) : Type 0 where
   pub are_symbols : AreSymbols itself name symbols
   pub text_is : text ≡ dollar_quoted symbols
 
--- the name is a text, each character of which stays on the line
+-- the name is valid UTF-8, and each of its characters stays on the line
 abbrev pub IsLineText : List ℕ → Type 0
 IsLineText name = IsUtf8 name × IsOnOneLine name
 
@@ -126,7 +126,7 @@ pub record IsFirstNul (name : List ℕ) (index : ℕ) : Type 0 where
   pub none_before : HasNoNul before
   pub index_is : index ≡ length before
 
--- why a name can't be a word: a NUL, at its first index; or memory was refused
+-- why a name can't be a word: a NUL, at its first index; or an allocation failed
 abbrev pub IsNameFault : List ℕ → ShellError → Type 0
 IsNameFault name (error.Nul index) = IsFirstNul name index
 IsNameFault name error.Memory = Unit {0}

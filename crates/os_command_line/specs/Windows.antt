@@ -42,11 +42,11 @@ abbrev pub Begins : List ℕ → Type 0
 Begins [] = ⊥
 Begins (u ∷ us) = ¬ (IsBlank u)
 
--- From here, inside quotation marks or not, the text is read as the rest of an argument, up to `after`:
--- backslashes before no quotation mark mean themselves;
--- 2n + 1 of them and a quotation mark are n of them and the mark;
--- 2n of them and a mark are n of them, and the mark opens or closes a quoted part;
--- but inside such a part two marks after them are one, and the part goes on.
+-- From here, inside quotation marks or not, the text is read as the rest of an argument, up to `after`.
+-- Backslashes before no quotation mark mean themselves.
+-- 2n + 1 backslashes and a quotation mark are n backslashes and the mark.
+-- 2n backslashes and a mark are n backslashes, and the mark opens or closes a quoted part.
+-- Inside such a part, 2n backslashes and two marks are n backslashes and one mark, and the part goes on.
 pub data Reads (after : List ℕ) : Bool → List ℕ → List ℕ → Type 0 where
   ends : (inside : Bool) (n : ℕ) → Ends inside after → Reads after inside (backslashes n ++ after) (backslashes n)
   literal : (inside : Bool) (n u : ℕ) (text argument : List ℕ) → IsLiteral inside u → Reads after inside text argument → Reads after inside (backslashes n ++ u ∷ text) (backslashes n ++ u ∷ argument)

@@ -1,4 +1,4 @@
--- The steps of a reader of command lines. Only views and private contracts name these; `Reads`, `ReadsName` and `AreArguments` say how a line is read.
+-- The steps of a reader of command lines. Only views and private contracts name these; `Reads`, `ReadsName` and `AreArguments` define how a line is read.
 use Rattle.std.specs.Prelude.{ℕ, ◌+◌, ◌/◌, ◌%◌, Bool, true, false, not, nat_eq, ◌&&◌, if◌then◌else◌, List, [], ◌∷◌, ◌++◌}
 use Rattle.os_command_line.specs.declared.windows.argument.Kind.{Kind}
 use Rattle.os_command_line.specs.declared.windows.argument.Kind.TheVariants.{Marked, Bare}
@@ -69,7 +69,7 @@ meant_mark false = []
 abbrev pub units_left : List ℕ → Bool → Place → List ℕ → List ℕ
 units_left us mark place rest = us ++ (meant_mark mark ++ meant (index_at place) rest)
 
--- between arguments, or in one of which this much was read
+-- between arguments, or in an argument, and how much of it was read
 pub data Mode : Type 0 where
   Between : Mode
   Within : Index → List ℕ → Mode

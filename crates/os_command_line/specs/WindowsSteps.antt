@@ -27,7 +27,7 @@ pub record IsPartCut (inside : Bool) (text part rest : List ℕ) : Type 0 where
 abbrev pub IsPartEnd : Bool → List ℕ → Option ℕ → Type 0
 IsPartEnd inside text found = MatchOption found (AllByRecursion (IsInPart inside) text) (λ at. (at < length text) × IsPartCut inside text (take at text) (drop at text))
 
--- a quotation mark of an argument was read after so many backslashes, or two marks
+-- a quotation mark of an argument was read after `run` backslashes, or two marks
 pub record IsQuoteStep (inside : Bool) (run : ℕ) (text : List ℕ) (inside' : Bool) (text' : List ℕ) : Type 0 where
   pub taken : List ℕ
   pub parts : text ≡ taken ++ text'
@@ -60,12 +60,12 @@ pub record IsNameCut (line raw rest : List ℕ) : Type 0 where
   pub rest_formed : IsWtf8 rest
   pub reads : ReadsName (units_of rest) false (units_of line) (meant name_index (units_of raw))
 
--- how many backslashes are last, after so many
+-- the number of backslashes at the end of a text that follows n of them
 abbrev pub last_run : ℕ → List ℕ → ℕ
 last_run n [] = n
 last_run n (u ∷ us) = last_run (if nat_eq u backslash then n + 1 else 0) us
 
--- the text ends with so many backslashes, and no more
+-- the text ends with exactly this number of backslashes
 abbrev pub EndsWithRun : List ℕ → ℕ → Type 0
 EndsWithRun text run = (prefix : List ℕ) × (text ≡ prefix ++ backslashes run) × (last_run 0 prefix ≡ 0)
 

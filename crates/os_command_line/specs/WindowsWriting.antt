@@ -18,7 +18,7 @@ pub record IsFirstAt (c : ℕ) (us : List ℕ) (i : ℕ) : Type 0 where
   pub none_before : HasNo c before
   pub index : i ≡ length before
 
--- why an argument can't be written: a NUL, at its first index; or memory was refused
+-- why an argument can't be written: a NUL, at its first index; or an allocation failed
 abbrev pub IsArgumentFault : List ℕ → CommandLineError → Type 0
 IsArgumentFault us (error.Nul i) = IsFirstAt 0 us i
 IsArgumentFault us (error.Quote i) = ⊥

@@ -1,4 +1,4 @@
--- What the reader of a class answers, and the ranges that it compiles members to: only private contracts name this.
+-- What the reader of a class returns, and the ranges that it compiles members to: only private contracts name this.
 use Rattle.std.specs.Prelude.{ℕ, ◌<◌, length, List, [], ◌∷◌}
 use Rattle.wildcards.specs.declared.range.Range.{Range}
 use Rattle.os_ignore.specs.declared.class.Name.{Name}
@@ -10,7 +10,7 @@ use Rattle.os_ignore.specs.declared.class_text.Next.{Next}
 use Rattle.os_ignore.specs.declared.class_text.Next.TheVariants as next
 use Rattle.os_ignore.specs.ClassText.{Reading, broken, closed, member}
 
--- the answer as the definitions have it
+-- the result as the definitions have it
 abbrev pub reading_of : Next → Reading
 reading_of next.Broken = broken
 reading_of (next.Closed rest) = closed rest.now

@@ -17,7 +17,7 @@ without_mark (a ∷ b ∷ c ∷ rest) = cond ((nat_eq a 0xEF && nat_eq b 0xBB) &
 abbrev pub IsWithoutReturn : List ℕ → List ℕ → Type 0
 IsWithoutReturn line rest = (line ≡ rest ++ 0xD ∷ []) ⊎ ((rest ≡ line) × ((front : List ℕ) → line ≡ front ++ 0xD ∷ [] → ⊥))
 
--- what a line, up to its line feed, says: without a carriage return at the end, and up to the first NUL
+-- the part of a line, up to its line feed, that is read: without a carriage return at the end, and then up to the first NUL
 pub record IsLineText (line text : List ℕ) : Type 0 where
   pub whole : List ℕ
   pub without_return : IsWithoutReturn line whole

@@ -6,7 +6,7 @@ use Rattle.os_ignore.specs.Directories.{IsPlace}
 use Rattle.os_ignore.specs.Files.{AreLines}
 
 module _ {A : Type 0} where
-  -- the files, in the order in which their lines are asked, the last first
+  -- the files, in the order in which their lines are tried, the last first
   abbrev pub files_of : Ignore A → List (File A)
   files_of ignore = ignore.files.items
 

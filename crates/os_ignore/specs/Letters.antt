@@ -1,4 +1,4 @@
--- The letters of a line: its bytes, of which a backslash quotes the next (gitignore, "PATTERN FORMAT").
+-- The letters of a line: its bytes, where a backslash quotes the next byte (gitignore, "PATTERN FORMAT").
 use Rattle.std.specs.Prelude.{◌≡◌, ℕ, Bool, true, false, not, nat_eq, ◌&&◌, cond, List, [], ◌∷◌}
 use Rattle.os_ignore.specs.declared.letter.Letter.{Letter}
 use Rattle.os_ignore.specs.declared.letter.Kind.{Kind}

@@ -74,7 +74,7 @@ module _ {A : Type 0} where
     pub taken : line.takes_in ≡ takes_in
     pub numbers : (file.number ≡ file_number) × (line.number ≡ line_number)
 
-  -- what the files say of a path by itself
+  -- the verdict of the files on the path itself, without the directories above it
   abbrev pub IsOwn : List (File A) → List ℕ → Bool → Verdict → Type 0
   IsOwn files path is_dir Neither = AllByRecursion (FileIsSilent path is_dir) files
   IsOwn files path is_dir (Ignored file line) = Decides files path is_dir false file line
@@ -87,13 +87,13 @@ is_ignored (Ignored file line) = true
 is_ignored (TakenIn file line) = false
 
 module _ {A : Type 0} where
-  -- the directory isn't ignored by itself
+  -- the files don't ignore the directory itself
   pub record IsShown (files : List (File A)) (directory : List ℕ) : Type 0 where
     pub verdict : Verdict
     pub own : IsOwn files directory true verdict
     pub shown : is_ignored verdict ≡ false
 
-  -- no directory above the path, of fewer than n bytes, is ignored by itself
+  -- the files ignore no directory itself that is above the path and has fewer than n bytes
   abbrev pub AreShown : List (File A) → List ℕ → ℕ → Type 0
   AreShown files path n = (front back : List ℕ) → IsCut 0x2F path front back → length front < n → IsShown files front
 
@@ -106,7 +106,7 @@ module _ {A : Type 0} where
     pub ignored : is_ignored verdict ≡ true
     pub first : AreShown files path (length front)
 
-  -- what the files say of a path in their tree: a directory that is ignored hides what is in it, and one that is taken in doesn't take in what is in it
+  -- the verdict of the files on a path in their tree: a directory that is ignored hides what is in it, and one that is taken in doesn't take in what is in it
   pub data IsVerdict (files : List (File A)) (path : List ℕ) (is_dir : Bool) (verdict : Verdict) : Type 0 where
     hidden : IsHidden files path verdict → IsVerdict files path is_dir verdict
     own : AreShown files path (length path) → IsOwn files path is_dir verdict → IsVerdict files path is_dir verdict

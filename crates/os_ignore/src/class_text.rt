@@ -130,7 +130,7 @@ fn named_text(first: Letter, rest: &[Letter]) -> Option<&[Letter]>
     }
 }
 
-/// The ends of a range, of which `first` is the `-`, and what comes after it.
+/// Returns the ends of a range whose `-` is `first`, and what comes after it.
 fn range_at<'a>(before: Before, first: Letter, rest: &'a [Letter]) -> Option<(u8, u8, &'a [Letter])>
     ensures range { MatchOption result (range_at before first rest.now ≡ None)
         (λ p. range_at before first rest.now ≡ Some (p.0, p.1, p.2.now)) }

@@ -38,7 +38,8 @@ fn without_return(line: &[u8]) -> &[u8]
     }
 }
 
-/// What a line says: without a carriage return at the end, and up to the first NUL.
+/// The part of a line that is read: without a carriage return at the end, and then up to the first
+/// NUL.
 fn line_text(line: &[u8]) -> &[u8]
     ensures { IsLineText line.now result.now }
 {

@@ -15,7 +15,7 @@ pub struct Ignore<A: Allocator = Global> {
 impl<A: Allocator + Copy> Ignore<A> {
     ghost use Rattle.os_ignore.specs.Ignores.{files_of, IsAdded, IsOnly};
 
-    /// No files: what they say of each path is [`Verdict::Neither`]. It doesn't allocate.
+    /// No files: their verdict on each path is [`Verdict::Neither`]. It doesn't allocate.
     ///
     /// ```
     /// use os_ignore::{Ignore, Verdict};
@@ -35,7 +35,7 @@ impl<A: Allocator + Copy> Ignore<A> {
     ///
     /// # Errors
     ///
-    /// [`AllocError`], where a request for memory was refused. No line is a fault.
+    /// [`AllocError`] if an allocation fails. No line is a fault.
     ///
     /// ```
     /// use os_ignore::{Ignore, Verdict};
@@ -61,7 +61,7 @@ impl<A: Allocator + Copy> Ignore<A> {
     ///
     /// # Errors
     ///
-    /// [`AllocError`], where a request for memory was refused; the files are then as they were.
+    /// [`AllocError`] if an allocation fails; the files are then unchanged.
     ///
     /// ```
     /// use os_ignore::{Ignore, Verdict};
@@ -88,20 +88,21 @@ impl<A: Allocator + Copy> Ignore<A> {
         Ok(())
     }
 
-    /// The files, in the order in which their lines are asked, the last first.
+    /// The files, in the order in which their lines are tried, the last first.
     pub(crate) fn files(&self) -> &[File<A>]
         ensures { result.now ≡ files_of self.entry.now }
     {
         self.files.as_slice()
     }
 
-    /// What the files say of a path, and which line says it, as `git check-ignore -v --no-index`
-    /// prints it. It doesn't allocate.
+    /// Returns whether the files ignore a path, and which line decides it, as
+    /// `git check-ignore -v --no-index` prints it. It doesn't allocate.
     ///
-    /// `is_dir` says whether the path is a directory; what is above it is one. The first directory
-    /// above the path, from the top, that is ignored hides all that is in it, whatever later lines
-    /// say, and the line that ignores the directory is the answer. Else the last line that matches
-    /// the path decides. A directory that is taken in doesn't take in what is in it.
+    /// `is_dir` is whether the path is a directory; the paths above it are directories. The first
+    /// directory above the path, from the top, that is ignored hides all that is in it, whatever
+    /// later lines match. The line that ignores this directory is returned. If there is none, the
+    /// last line that matches the path decides. A directory that is taken in doesn't take in what
+    /// is in it.
     ///
     /// ```
     /// use os_ignore::{Ignore, Verdict};

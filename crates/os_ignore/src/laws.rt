@@ -6,7 +6,7 @@ ghost use Rattle.os_ignore.specs.Verdicts.{IsVerdict};
 
 use std::alloc::Allocator;
 
-/// Files say one thing of a path.
+/// Files have one verdict on a path.
 pub fn one_verdict<A: Allocator>()
     ensures { (files : List (File A)) → (path : List ℕ) → (is_dir : Bool) → (v : Verdict)
         → (w : Verdict) → IsVerdict files path is_dir v → IsVerdict files path is_dir w → v ≡ w }

@@ -1,4 +1,4 @@
-//! The letters of a line: its bytes, of which a backslash quotes the next.
+//! The letters of a line: its bytes, where a backslash quotes the next byte.
 ghost use Rattle.std.specs.Prelude.{◌≡◌, ◌∷◌, ◌<◌, ◌+◌, [], length, MatchOption, IfOk, IfSome};
 ghost use Rattle.os_ignore.specs.Letters.{is_plain, is_simple, kind_of, IsLetter, AreLetters, IsDangling};
 

@@ -1,23 +1,23 @@
 //! Ignore files in git's own language, over bytes: which line of a `.gitignore` decides a path.
 //!
 //! [`Ignore`] holds the lines of the ignore files of one tree, compiled once. [`Ignore::matched`]
-//! answers what they say of a path, and which line says it: that of gitignore, and where its
-//! document is silent or git 2.39 differs from it, what git does.
+//! returns whether they ignore a path, and which line decides it. It follows git's gitignore
+//! document. Where that is silent or git 2.39 differs from it, it does what git does.
 //!
 //! Paths and lines are bytes, in no encoding: a `?` or a class matches one byte, so two of the
 //! bytes of `é`. A path is relative to the top of the tree, `/` separates its components, and it has
 //! none at its start or its end.
 //!
-//! A line is read as follows. It ends at a line feed; a carriage return before that goes, what
-//! comes after a NUL, and blanks at the end that no backslash quotes. A byte order mark at the
-//! start of a file goes. A line that begins with `#` is a comment. A `!` at the start takes in
-//! again what the line matches. A `/` at the end matches directories alone. With a `/` elsewhere
-//! the line matches paths from the directory of its file, and else names at any depth. `*` matches
-//! any bytes of a component and `?` one byte; a component `**` matches any number of components,
-//! and at the end one or more; a backslash quotes the next byte. In a class, `!` or `^` negates,
-//! `a-z` is a range, `[:alpha:]` a class of POSIX over ASCII, and a `]` is a member if it comes
-//! first. A line whose class isn't closed or has a name that isn't known, or that ends with the
-//! backslash that quotes nothing, says nothing; no line is a fault.
+//! A line is read as follows. It ends at a line feed. A carriage return before that is removed, as
+//! are all bytes from a NUL on, and blanks at the end that no backslash quotes. A byte order mark
+//! at the start of a file is removed. A line that begins with `#` is a comment. A `!` at the start
+//! takes in again what the line matches. A `/` at the end matches directories alone. With a `/`
+//! elsewhere the line matches paths from the directory of its file, and else names at any depth.
+//! `*` matches any bytes of a component and `?` one byte; a component `**` matches any number of
+//! components, and at the end one or more; a backslash quotes the next byte. In a class, `!` or `^`
+//! negates, `a-z` is a range, `[:alpha:]` a class of POSIX over ASCII, and a `]` is a member if it
+//! comes first. A line matches nothing if a class in it isn't closed or has an unknown name, or if
+//! it ends with a backslash that quotes nothing. No line is a fault.
 //!
 //! The literal bytes at the start of a line with a `/` are compared by themselves, as git does, and
 //! what comes after them is matched with what comes after them in the path: so `ab**/c` matches

@@ -116,7 +116,7 @@ fn is_comment(letters: &[Letter]) -> bool
     }
 }
 
-/// Reads the letters of a line; `None` where they say nothing.
+/// Reads the letters of a line, or returns `None` if they match nothing.
 fn read_letters<A: Allocator + Copy>(
     alloc: A,
     number: usize,
@@ -151,7 +151,7 @@ fn read_letters<A: Allocator + Copy>(
     }))
 }
 
-/// Reads the text of a line; `None` where it says nothing.
+/// Reads the text of a line, or returns `None` if it matches nothing.
 pub(crate) fn read_line<A: Allocator + Copy>(
     alloc: A,
     number: usize,

@@ -10,7 +10,7 @@ use crate::line::Line;
 use std::alloc::Allocator;
 use wildcards::{Bytes, Options, Part, Piece, Separators, matches};
 
-/// What ignore files say of a path, and which line of which file.
+/// Whether ignore files ignore a path, and the file and the line that decide it.
 #[derive(Clone, Copy, PartialEq, Eq, Debug)]
 pub enum Verdict {
     /// No line decides it.
@@ -160,7 +160,7 @@ impl Verdict {
     }
 }
 
-/// What the lines of files say of a path by itself.
+/// Whether the lines of files ignore a path, without the directories above it.
 pub fn own<A: Allocator>(files: &[File<A>], path: &[u8], is_dir: bool) -> Verdict
     ensures { IsOwn files.entry.now path.now is_dir result }
 {
@@ -179,8 +179,8 @@ pub fn own<A: Allocator>(files: &[File<A>], path: &[u8], is_dir: bool) -> Verdic
     Verdict::Neither
 }
 
-/// What files say of a path: the first directory above it, from the top, that is ignored hides it,
-/// and else the last line that matches decides.
+/// Whether files ignore a path. The first directory above it, from the top, that is ignored hides
+/// it. If there is none, the last line that matches decides.
 pub fn decide<A: Allocator>(files: &[File<A>], path: &[u8], is_dir: bool) -> Verdict
     ensures { IsVerdict files.now path.now is_dir result }
 {

@@ -20,7 +20,7 @@ pub struct Walk<'i, A: Allocator + 'i = Global> {
     ghost decided: { ∥ IsVerdict files.now directory.items true verdict ∥₁ },
 }
 
-/// What files say of a path in a directory of which they say this.
+/// Whether files ignore a path in a directory, given their verdict on the directory.
 #[tactic(auto, using(crate::proofs::lemmas::Below::hidden_in, crate::proofs::lemmas::Below::own_in))]
 fn in_directory<A: Allocator>(
     files: &[File<A>],
@@ -65,9 +65,9 @@ impl<'i, A: Allocator + Copy> Walk<'i, A> {
         }
     }
 
-    /// What the files say of a path, and which line says it: the verdict that [`Ignore::matched`]
-    /// returns. Paths may come in any order; it is fast where most of them are in the directory of
-    /// the path before, or in one below it.
+    /// Returns whether the files ignore a path, and which line decides it: the verdict that
+    /// [`Ignore::matched`] returns. Paths may come in any order; it is fast where most of them are
+    /// in the directory of the path before, or in one below it.
     ///
     /// # Errors
     ///
@@ -112,7 +112,8 @@ impl<'i, A: Allocator + Copy> Walk<'i, A> {
         Ok(())
     }
 
-    /// What the files say of a directory: by one step, if it is in the directory of the path before.
+    /// Returns whether the files ignore a directory. It takes one step if the directory is in that
+    /// of the path before.
     #[tactic(auto, using(crate::proofs::lemmas::Below::merely, crate::proofs::lemmas::Below::own_at_top))]
     fn verdict_of(&self, directory: &[u8]) -> Verdict
         ensures { ∥ IsVerdict (files_of_walk self.now) directory.now true result ∥₁ }

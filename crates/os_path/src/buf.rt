@@ -1,4 +1,5 @@
-//! The calls of std's `PathBuf` that change a path in place. Where memory is refused the path is as it was.
+//! The calls of std's `PathBuf` that change a path in place. If an allocation fails, the path is
+//! unchanged.
 ghost use Rattle.std.specs.Prelude.{◌≡◌, false, IsTrue, IfOk, OnOk, OnErr};
 ghost use Rattle.platform_str.specs.Strings.{bytes, path_bytes, path_vec_of};
 ghost use Rattle.path_rules.specs.Parent.{IsParent, HasNoParent};
@@ -12,14 +13,14 @@ use core::mem::replace_with;
 use platform_str::{OsStr, Path, PathBuf};
 use std::alloc::{AllocError, Allocator};
 
-/// Appends a path (std's `PathBuf::push`): what [`crate::PathExt::join`] answers.
+/// Appends a path (std's `PathBuf::push`). The result is that of [`crate::PathExt::join`].
 ///
 /// It doesn't allocate if the path has room for a separator and the path that is pushed, except
 /// after a prefix that begins with `\\?\`.
 ///
 /// # Errors
 ///
-/// `AllocError` if the memory is refused; the path is then as it was.
+/// `AllocError` if an allocation fails; the path is then unchanged.
 ///
 /// ```
 /// use os_path::push;
@@ -40,9 +41,9 @@ pub fn push<E: PathStyle, A: Allocator + Clone>(
     replace_with(path, more, pushed)
 }
 
-/// Takes the last component away (std's `PathBuf::pop`): what [`crate::PathExt::parent`]
-/// answers is left. The answer is `false` if there is no parent; the path is then as it was. It
-/// doesn't allocate.
+/// Removes the last component (std's `PathBuf::pop`), so that the path is its
+/// [`crate::PathExt::parent`]. Returns `false` and leaves the path unchanged if there is no parent.
+/// It doesn't allocate.
 ///
 /// ```
 /// use os_path::pop;
@@ -66,7 +67,7 @@ pub fn pop<E: PathStyle, A: Allocator>(path: &mut PathBuf<E, A>) -> bool
 ///
 /// # Errors
 ///
-/// `AllocError` if the memory is refused; the path is then as it was.
+/// `AllocError` if an allocation fails; the path is then unchanged.
 ///
 /// ```
 /// use os_path::set_file_name;
@@ -87,15 +88,15 @@ pub fn set_file_name<E: PathStyle, A: Allocator + Clone>(
     replace_with(path, name, named)
 }
 
-/// Gives the last name another extension (std's `PathBuf::set_extension`): what comes after the
-/// name's stem is replaced by a dot and the extension, and by nothing if the extension is empty.
-/// The answer is `false` if the path doesn't end in a name; it is then as it was.
+/// Replaces the extension of the last name (std's `PathBuf::set_extension`). A dot and the
+/// extension replace what follows the name's stem; an empty extension removes it. Returns `false`
+/// and leaves the path unchanged if it doesn't end in a name.
 ///
 /// No byte of the extension separates (test: [`path_rules::is_extension_text`]); std panics.
 ///
 /// # Errors
 ///
-/// `AllocError` if the memory is refused; the path is then as it was.
+/// `AllocError` if an allocation fails; the path is then unchanged.
 ///
 /// ```
 /// use os_path::set_extension;
@@ -117,15 +118,15 @@ pub fn set_extension<E: PathStyle, A: Allocator>(
     replace_with(path, extension, with_extension_set)
 }
 
-/// Appends an extension to the last name (std's `PathBuf::add_extension`): a dot and the
-/// extension follow the name; an empty extension changes nothing. The answer is `false` if the
-/// path doesn't end in a name; it is then as it was.
+/// Appends a dot and an extension to the last name (std's `PathBuf::add_extension`). An empty
+/// extension changes nothing. Returns `false` and leaves the path unchanged if it doesn't end in a
+/// name.
 ///
 /// No byte of the extension separates (test: [`path_rules::is_extension_text`]); std panics.
 ///
 /// # Errors
 ///
-/// `AllocError` if the memory is refused; the path is then as it was.
+/// `AllocError` if an allocation fails; the path is then unchanged.
 ///
 /// ```
 /// use os_path::add_extension;

@@ -61,7 +61,7 @@ impl<'a, E: PathStyle> Components<'a, E> {
     /// assert!(rt; left.as_path().as_os_str() == OsStr::new("lib"));
     /// ```
     ///
-    /// [`path_rules::Components::as_path`] says where it begins and ends.
+    /// [`path_rules::Components::as_path`] documents where it begins and ends.
     pub fn as_path(&self) -> Path<'a, E>
         ensures { IsLeft self.now.style self.now.path self.now.taken self.now.items
             (path_bytes result) }

@@ -44,8 +44,8 @@ use std::cmp::Ordering;
 
 /// The calls of std's `Path` that look at the path alone, for a path of any platform.
 ///
-/// A component is what `path_rules` says: parts between separators, where an empty part and `.`
-/// name nothing, but for a `.` at the start. `..` is never resolved. Each part that a call answers
+/// Components are those of `path_rules`: the parts between separators, without empty parts and
+/// without each `.` that isn't at the start. `..` is never resolved. Each part that a call returns
 /// is a part of the path's bytes and a string of its platform.
 pub trait PathExt<'a>: Sized + Copy {
     /// The platform whose rules the path follows.
@@ -451,7 +451,7 @@ pub trait PathExt<'a>: Sized + Copy {
     // Normal forms.
 
     /// The path without `\\?\`, if that names the same path (the crate dunce's `simplified`); any
-    /// other path is returned as it is, and so is each path of another platform than Windows.
+    /// other path is returned unchanged, and so is each path of another platform than Windows.
     ///
     /// `\\?\` is taken off before a drive and its root, if no component is `.` or `..`, none is
     /// reserved (`path_rules::is_reserved`) or longer than 255 UTF-16 code units, and the path isn't
@@ -478,9 +478,9 @@ pub trait PathExt<'a>: Sized + Copy {
     /// before it (std's `Path::normalize_lexically`), in new memory. It names the same file where
     /// no name is a symbolic link.
     ///
-    /// A `.` at the start of a path without a root is kept, a path whose prefix begins with `\\?\`
-    /// isn't resolved, a first name that by itself would be read as a prefix gets `.\` before it,
-    /// and a root before the name `??` gets `\.` before it, since Windows reads `\??\` as `\\?\`
+    /// A `.` at the start of a path without a root is kept. A path whose prefix begins with `\\?\`
+    /// isn't resolved. A first name that alone would be read as a prefix gets `.\` before it. A
+    /// root before the name `??` gets `\.` before it, since Windows reads `\??\` as `\\?\`
     /// (`path_building::laws::no_object`). A normal form is its own
     /// (`path_building::laws::normalized_again`).
     ///
@@ -524,7 +524,7 @@ pub trait PathExt<'a>: Sized + Copy {
     ///
     /// # Errors
     ///
-    /// `AllocError` if the memory is refused.
+    /// `AllocError` if an allocation fails.
     ///
     /// ```
     /// use os_path::PathExt;
@@ -552,12 +552,12 @@ pub trait PathExt<'a>: Sized + Copy {
 
     /// The path with a separator at its end, in new memory (std's `Path::with_trailing_sep`).
     ///
-    /// A path that ends with a separator is answered as it is, and so are an empty one and a drive
-    /// alone as `C:` (`path_building::laws::trailing_separators`).
+    /// A path that ends with a separator is returned unchanged. So are an empty path and a drive
+    /// alone, as `C:` (`path_building::laws::trailing_separators`).
     ///
     /// # Errors
     ///
-    /// `AllocError` if the memory is refused.
+    /// `AllocError` if an allocation fails.
     ///
     /// ```
     /// use os_path::PathExt;
@@ -580,16 +580,16 @@ pub trait PathExt<'a>: Sized + Copy {
         )
     }
 
-    /// A path after this one, in new memory (std's `Path::join`).
+    /// Joins a path to this one, in new memory (std's `Path::join`).
     ///
-    /// A path with a prefix is answered itself. One with a root alone keeps this path's prefix. Any
-    /// other follows this path, after a separator unless this path is empty, ends with one, or is a
-    /// drive alone as `C:`. After a path that begins with `\\?\` it is resolved: `.` is left out,
-    /// `..` takes the name before it away, and it is written with `\` between its components.
+    /// A path with a prefix is returned unchanged. One with a root alone keeps this path's prefix.
+    /// Any other follows this path, after a separator unless this path is empty, ends with one, or
+    /// is a drive alone as `C:`. After a path that begins with `\\?\` it is resolved: `.` is left
+    /// out, `..` takes the name before it away, and it is written with `\` between its components.
     ///
     /// # Errors
     ///
-    /// `AllocError` if the memory is refused.
+    /// `AllocError` if an allocation fails.
     ///
     /// ```
     /// use os_path::PathExt;
@@ -612,25 +612,33 @@ pub trait PathExt<'a>: Sized + Copy {
         built::join(alloc, base, path.as_os_str())
     }
 
-    /// A path below this one, in new memory, for names that come out of an archive or a request
-    /// (typed-path's `join_checked`): the components of this path, and after them the names of the
-    /// other, in which `.` and `..` are resolved, written with the main separator.
+    /// Joins a path to this one that can't leave it, in new memory (typed-path's `join_checked`).
+    /// It is meant for names that come out of an archive or a request. The result has the
+    /// components of this path, then the names of the other, in which `.` and `..` are resolved. It
+    /// is written with the main separator.
     ///
-    /// The other path is rejected if it has a NUL, a prefix or a root, or if a `..` would leave this
-    /// one; on Windows also if one of its names has a colon or is reserved. This path is rejected if
-    /// it has a NUL, and on Windows if it is no place of its own, as `\\server`. If it is a prefix
-    /// alone and begins with `\\?\`, as `\\?\C:`, it gets its root. So the result has no NUL, and no
-    /// path leaves this one (clause `below`, `path_building::laws::joined_below`), unless a name is a
-    /// symbolic link.
+    /// The other path is rejected if it has a NUL, a prefix or a root, or if a `..` would leave
+    /// this one. On Windows it is also rejected if one of its names has a colon or is reserved.
+    /// This path is rejected if it has a NUL, and on Windows if it is incomplete, as `\\server`. If
+    /// it is a prefix alone and begins with `\\?\`, as `\\?\C:`, it gets its root.
+    ///
+    /// The result has no NUL. No path leaves this one unless a name is a symbolic link (clause
+    /// `below`, `path_building::laws::joined_below`).
     ///
     /// # Errors
     ///
-    /// The first of these that holds: `BaseNul` with the index of this path's first NUL; `Base` if
-    /// the prefix of this path lacks a part, as that of `\\?\UNC\server`, or if it has no prefix and
-    /// begins with two separators, as `\\server`, or with `\??\`; `Nul` with the index of the other
-    /// path's first NUL; `Prefix` if the other path has a prefix; `Root` if it has a root; `Leaves` if
-    /// a `..` has no name of it before it to take away; `Stream` if a name of a Windows path has a
-    /// colon; `Reserved` if one is reserved; `Memory` if an allocation fails.
+    /// The first of these that holds:
+    ///
+    /// - `BaseNul` with the index of this path's first NUL.
+    /// - `Base` if the prefix of this path lacks a part, as that of `\\?\UNC\server`, or if it has
+    ///   no prefix and begins with two separators, as `\\server`, or with `\??\`.
+    /// - `Nul` with the index of the other path's first NUL.
+    /// - `Prefix` if the other path has a prefix.
+    /// - `Root` if the other path has a root.
+    /// - `Leaves` if a `..` has no name of the other path before it to remove.
+    /// - `Stream` if a name of a Windows path has a colon.
+    /// - `Reserved` if a name is reserved.
+    /// - `Memory` if an allocation fails.
     ///
     /// ```
     /// use os_path::{JoinError, PathExt};
@@ -663,20 +671,21 @@ pub trait PathExt<'a>: Sized + Copy {
         checked::join_checked(alloc, base, path.as_os_str())
     }
 
-    /// The path as it is reached from a base, in new memory (the crate pathdiff's `diff_paths`):
-    /// joined to the base, the answer leads to the path's place.
+    /// Returns the path relative to a base, in new memory (the crate pathdiff's `diff_paths`). The
+    /// base joined with the result leads to the same file as the path.
     ///
-    /// The components at the start that both have are left out; then each component of the base is
-    /// a `..`, but for a `.` at its start, and what is left of the path follows. A path with another
-    /// prefix or another root than the base's is answered whole.
+    /// The components that both begin with are left out. Each other component of the base becomes a
+    /// `..`, except a `.` at its start, and the remaining components of the path follow. A path
+    /// with another prefix or another root than the base's is returned whole.
     ///
-    /// `None` if the base is absolute and the path isn't, if the base goes up by a `..` where the
-    /// path doesn't, or if the answer joined to the base would lead to another place. Two paths lead
-    /// to one place if what they are cleaned to is alike, without symbolic links.
+    /// Returns `None` if the base is absolute and the path isn't, or if the base goes up by a `..`
+    /// where the path doesn't. It also returns `None` if the base joined with the result would lead
+    /// to another file. Two paths lead to the same file if their clean forms are alike, without
+    /// symbolic links.
     ///
     /// # Errors
     ///
-    /// `AllocError` if the memory is refused.
+    /// `AllocError` if an allocation fails.
     ///
     /// ```
     /// use os_path::PathExt;
@@ -743,7 +752,7 @@ pub trait PathExt<'a>: Sized + Copy {
     ///
     /// # Errors
     ///
-    /// `AllocError` if the memory is refused.
+    /// `AllocError` if an allocation fails.
     ///
     /// ```
     /// use os_path::PathExt;
@@ -766,15 +775,14 @@ pub trait PathExt<'a>: Sized + Copy {
     }
 
     /// The path with another extension of its last name, in new memory (std's
-    /// `Path::with_extension`): what comes after the name's stem is replaced by a dot and the
-    /// extension, and by nothing if the extension is empty. A path that doesn't end in a name is
-    /// answered as it is.
+    /// `Path::with_extension`). A dot and the extension replace what follows the name's stem; an
+    /// empty extension removes it. A path that doesn't end in a name is returned unchanged.
     ///
     /// No byte of the extension separates (test: [`path_rules::is_extension_text`]); std panics.
     ///
     /// # Errors
     ///
-    /// `AllocError` if the memory is refused.
+    /// `AllocError` if an allocation fails.
     ///
     /// ```
     /// use os_path::PathExt;
@@ -800,13 +808,13 @@ pub trait PathExt<'a>: Sized + Copy {
 
     /// The path with an extension after its last name, in new memory (std's
     /// `Path::with_added_extension`). An empty extension changes nothing, and a path that doesn't
-    /// end in a name is answered as it is.
+    /// end in a name is returned unchanged.
     ///
     /// No byte of the extension separates (test: [`path_rules::is_extension_text`]); std panics.
     ///
     /// # Errors
     ///
-    /// `AllocError` if the memory is refused.
+    /// `AllocError` if an allocation fails.
     ///
     /// ```
     /// use os_path::PathExt;

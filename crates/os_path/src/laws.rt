@@ -1,4 +1,4 @@
-//! What holds of the parts of paths that are answered. Each law is the contract of a function that
+//! Properties of the parts of paths that calls return. Each law is the contract of a function that
 //! does nothing.
 ghost use Rattle.std.specs.Prelude.{◌≡◌, ◌↔◌, ◌++◌, List, ℕ, length, IsTrue, Some};
 ghost use Rattle.wtf8_core.specs.Boundary.{IsBoundary};

@@ -1,17 +1,17 @@
 //! Paths of any platform, on any machine, without a file system.
 //!
 //! [`PathExt`] has the calls of std's `Path` that look at the path alone, for a
-//! [`platform_str::Path`] of any platform. [`PathStyle`] says whose rules the paths of a platform
+//! [`platform_str::Path`] of any platform. [`PathStyle`] states whose rules the paths of a platform
 //! follow: [`platform_str::Windows`] has those of Windows, [`platform_str::Unix`] and
 //! [`platform_str::Wasm`] those of Unix. What the rules are is in `path_rules`, and how paths are
 //! built in `path_building`.
 //!
-//! Each part of a path that a call answers is a string of the path's platform, so no half of a
-//! surrogate pair is ever joined to another. What builds a path takes an allocator and answers a
-//! `Result`; [`push`], [`pop`], [`set_file_name`], [`set_extension`] and [`add_extension`] change an
-//! owned path in place. No other call allocates. An extension that is set has no separator
-//! (`path_rules::is_extension_text` tests it); no other call has a condition. A path may have a NUL,
-//! at which a system would end it; [`PathExt::join_checked`] alone rejects it.
+//! Each part of a path that a call returns is a string of the path's platform, so no half of a
+//! surrogate pair is ever joined to another. Calls that build a path take an allocator and return a
+//! `Result`. [`push`], [`pop`], [`set_file_name`], [`set_extension`] and [`add_extension`] change
+//! an owned path in place. No other call allocates. An extension that is set has no separator
+//! (`path_rules::is_extension_text` tests it); no other call has a precondition. A path may have a
+//! NUL, at which a system would end it; [`PathExt::join_checked`] alone rejects it.
 #![tactic(auto)]
 
 mod ancestors;

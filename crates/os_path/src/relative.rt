@@ -8,7 +8,7 @@ use crate::style::PathStyle;
 use platform_str::{OsStr, OsString, PathBuf};
 use std::alloc::{AllocError, Allocator};
 
-/// A path as it is reached from a base.
+/// A path relative to a base.
 pub(crate) fn relative_from<E: PathStyle, A: Allocator + Clone>(
     alloc: A,
     path: OsStr<'_, E>,

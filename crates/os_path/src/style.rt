@@ -7,7 +7,7 @@ use platform_str::{Platform, Unix, Wasm, Windows};
 
 /// A platform whose paths have rules.
 ///
-/// A platform of one's own takes three lines: the member `follows`, the call, and its answer.
+/// A platform of one's own takes three lines: the member `follows`, the call, and its result.
 pub trait PathStyle: Platform {
     ghost use Rattle.path_rules.specs.declared.rules.Style as whose;
 

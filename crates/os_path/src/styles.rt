@@ -18,7 +18,7 @@ use wtf8_core::EncodingError;
 
 /// Why a path of another platform can't have a path's components.
 ///
-/// Its text says it to a person. It has no width: `{:>99}` writes what `{}` does.
+/// It prints as a message for a person. It has no width: `{:>99}` writes what `{}` does.
 ///
 /// ```
 /// use os_path::ConvertError;
@@ -58,7 +58,7 @@ impl fmt::Display for ConvertError {
 
 impl Error for ConvertError {}
 
-/// Writes the decimal digits of a number, whatever width is asked for.
+/// Writes the decimal digits of a number, and ignores the width of the formatter.
 fn write_number<W: fmt::Write>(number: usize, f: &mut fmt::Formatter<W>) -> fmt::Result
     ensures { WritesStyledOnOk W.write_str_gives f.old result (decimal number) f.new }
 {

@@ -1,10 +1,10 @@
--- What the exports answer.
+-- What the exports return.
 use Rattle.std.specs.Prelude.{◌≡◌, ◌⊎◌, ◌≤◌, ◌<◌, ℕ, List, [], ◌∷◌, length}
 use Rattle.std.specs.declared.cmp.Ordering.{Ordering}
 use Rattle.std.specs.declared.cmp.Ordering.TheVariants.{Less, Equal, Greater}
 use Rattle.wtf8_core.specs.Truncated.{IsTruncated}
 
--- a wanted list is written into the buffer, truncated to the buffer's length, and has so many items
+-- a wanted list is written into the buffer, truncated to the buffer's length, and the number is the list's length
 abbrev pub Writes : (List ℕ → Type 0) → List ℕ → List ℕ → ℕ → Type 0
 Writes Wanted old new count = (list : List ℕ) × (Wanted list × IsTruncated list old new count)
 

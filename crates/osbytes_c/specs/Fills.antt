@@ -4,7 +4,7 @@ use Rattle.osbytes_c.specs.declared.view.View.{View}
 use Rattle.osbytes_c.specs.declared.view.Filled.{Filled}
 use Rattle.osbytes_c.specs.Steps.{part, IsFirstPiece, IsLastPiece}
 
--- the array, whose content was `old`, begins with the items, and after them is as it was; `count` is how many they are
+-- the array, whose content was `old`, begins with the items, and after them it is unchanged; `count` is the number of items
 pub record IsFilled {A : Type 0} (items old new : List A) (count : ℕ) : Type 0 where
   pub same_length : length new ≡ length old
   pub count_is : count ≡ length items

@@ -14,7 +14,7 @@ use Rattle.osbytes_c.specs.ItemLists.{HasOther}
 use Rattle.osbytes_c.specs.Platforms.{formed_on, units_on}
 
 module _ (formed : List ℕ → Type 0) (units : List ℕ → List ℕ) where
-  -- the answer for a path: 0 one of the compiled patterns matches it, 3 none does, 1 it isn't a string
+  -- the number for a path: 0 one of the compiled patterns matches it, 3 none does, 1 it isn't a string
   abbrev pub IsAnswerOn : Options → List (Pattern Global) → List ℕ → ℕ → Type 0
   IsAnswerOn matching compiled path answer =
       ((answer ≡ 0) × (formed path × IsMatched units matching compiled path))
@@ -42,7 +42,7 @@ IsSame None other = ⊥
 IsSame (Some globs) None = ⊥
 IsSame (Some globs) (Some other) = arc_value other.set ≡ arc_value globs.set
 
--- the answer of a set
+-- the number that a set returns for a path
 abbrev pub IsAnswerOf : List ℕ → PlatformGlobs → ℕ → Type 0
 IsAnswerOf path (Unix globs) answer = IsAnswerOn (formed_on 0) (units_on 0) globs.set.options globs.set.patterns.items path answer
 IsAnswerOf path (Windows globs) answer = IsAnswerOn (formed_on 1) (units_on 1) globs.set.options globs.set.patterns.items path answer
@@ -53,13 +53,13 @@ abbrev pub IsAnswer : List ℕ → Option Globs → ℕ → Type 0
 IsAnswer path None answer = answer ≡ 26
 IsAnswer path (Some globs) answer = IsAnswerOf path (arc_value globs.set) answer
 
--- the answer for a path is that of patterns which are those of the list
+-- the number for a path is that of a set compiled from the patterns of the list
 abbrev pub IsAsked : ℕ → GlobOptions → List ℕ → List ℕ → ℕ → Type 0
 IsAsked platform o patterns path answer =
     (matching : Options) × ((compiled : List (Pattern Global))
     × (AreCompiled (formed_on platform) (units_on platform) o patterns matching compiled × IsAnswerOn (formed_on platform) (units_on platform) matching compiled path answer))
 
--- of each path of a list it is told whether a pattern of the set matches it
+-- each path of a list has a byte that records whether a pattern of the set matches it
 abbrev pub AreToldOn : PlatformGlobs → List ℕ → List ℕ → Type 0
 AreToldOn (Unix globs) paths answers = AreNamesTold (formed_on 0) (units_on 0) globs.set.options globs.set.patterns.items paths answers
 AreToldOn (Windows globs) paths answers = AreNamesTold (formed_on 1) (units_on 1) globs.set.options globs.set.patterns.items paths answers
@@ -81,7 +81,7 @@ abbrev pub HasOtherBy : Option Globs → List ℕ → Type 0
 HasOtherBy None list = ⊥
 HasOtherBy (Some globs) list = HasOtherOn (arc_value globs.set) list
 
--- why a set tells nothing of a list
+-- why a set reports nothing for a list of paths
 abbrev pub IsToldRefusal : PlatformGlobs → List ℕ → Refusal → Type 0
 IsToldRefusal (Unix globs) list refusal = IsListRefusal (formed_on 0) list refusal
 IsToldRefusal (Windows globs) list refusal = IsListRefusal (formed_on 1) list refusal

@@ -49,7 +49,7 @@ fault_number UnclosedAlternatives = 5
 fault_number UnopenedAlternatives = 6
 fault_number TooManyChoices = 7
 
--- it is told whether it is so: 1 it is, 0 it isn't
+-- the byte that records whether something holds: 1 it does, 0 it doesn't
 abbrev pub IsTold : Type 0 → ℕ → Type 0
 IsTold Is answer = (Is × (answer ≡ 1)) ⊎ ((¬ Is) × (answer ≡ 0))
 
@@ -64,7 +64,7 @@ AreTold Is (item ∷ items) (answer ∷ answers) = IsTold (Is item) answer × Ar
 abbrev pub IsMatched : (List ℕ → List ℕ) → Options → List (Pattern Global) → List ℕ → Type 0
 IsMatched units matching compiled path = (i : ℕ) × IsHit matching compiled (letters_of units path) i
 
--- of each path of the list, each a string, it is told whether one of the compiled patterns matches it
+-- each path of the list is a string, and its byte records whether one of the compiled patterns matches it
 pub record AreNamesTold (formed : List ℕ → Type 0) (units : List ℕ → List ℕ) (matching : Options) (compiled : List (Pattern Global)) (paths answers : List ℕ) : Type 0 where
   pub names : List (List ℕ)
   pub are_names : AreItems paths names
@@ -80,7 +80,7 @@ module _ (formed : List ℕ → Type 0) (units : List ℕ → List ℕ) (o : Glo
     pub options : matching ≡ options_of o
     pub meanings : AreMeanings formed (letters_of units) (syntax_of o) Global texts compiled
 
-  -- of each path of the list, each a string, it is told whether one of the patterns of the other matches it
+  -- each path of the list is a string, and its byte records whether one of the patterns of the other list matches it
   pub record AreMatchesTold (paths answers : List ℕ) : Type 0 where
     pub matching : Options
     pub compiled : List (Pattern Global)
@@ -105,7 +105,7 @@ module _ (formed : List ℕ → Type 0) (units : List ℕ → List ℕ) (o : Glo
   abbrev pub HasUnstring : List ℕ → Type 0
   HasUnstring paths = HasOther formed patterns ⊎ (CanBeCompiled × HasOther formed paths)
 
-  -- why nothing is told: an allocation failed, an item isn't a string, or a pattern has a fault
+  -- why nothing is reported: an allocation failed, an item isn't a string, or a pattern has a fault
   abbrev pub IsRefusal : List ℕ → Refusal → Type 0
   IsRefusal paths Memory = Unit {0}
   IsRefusal paths Faulty = HasUnstring paths
@@ -117,7 +117,7 @@ module _ (formed : List ℕ → Type 0) (units : List ℕ → List ℕ) (o : Glo
   IsNoSet Faulty = HasOther formed patterns
   IsNoSet (Fault fault) = IsGlobFault fault
 
--- why a list isn't read: memory was refused, or an item is no string
+-- why a list isn't read: memory was refused, or an item isn't a string
 abbrev pub IsListRefusal : (List ℕ → Type 0) → List ℕ → Refusal → Type 0
 IsListRefusal formed list Memory = Unit {0}
 IsListRefusal formed list Faulty = HasOther formed list

@@ -15,7 +15,7 @@ Reports Neither decision = (decision.kind ≡ 0) × ((decision.file ≡ 0) × (d
 Reports (Ignored file line) decision = (decision.kind ≡ 1) × ((decision.file ≡ file) × (decision.line ≡ line))
 Reports (TakenIn file line) decision = (decision.kind ≡ 2) × ((decision.file ≡ file) × (decision.line ≡ line))
 
--- what the files say of a path is reported; it is a directory if the flag isn't 0
+-- the verdict of the files on a path is reported; the path is a directory if the flag isn't 0
 pub record IsDecision (files : List (File Global)) (path : List ℕ) (flag : ℕ) (decision : Decision) : Type 0 where
   pub is_dir : Bool
   pub flag_is : (is_dir ≡ true) ↔ (flag ≢ 0)
@@ -50,6 +50,6 @@ HaveSameFiles None (Some new) = ⊥
 HaveSameFiles (Some old) None = ⊥
 HaveSameFiles (Some old) (Some new) = files_of new.ignore ≡ files_of old.ignore
 
--- what one file in a directory says of a path is reported
+-- the verdict of one file in a directory on a path is reported
 abbrev pub IsDecidedOf : List ℕ → List ℕ → List ℕ → ℕ → Decision → Type 0
 IsDecidedOf directory content path flag decision = (files : List (File Global)) × (IsAdded directory content [] files × IsDecision files path flag decision)

@@ -9,13 +9,13 @@ use Rattle.os_ignore.specs.Verdicts.{IsVerdict}
 use Rattle.osbytes_c.specs.declared.ignores.Told.{Told}
 use Rattle.osbytes_c.specs.ItemLists.{AreItems}
 
--- what is told of a verdict: 0 neither, 1 ignored by this line, 2 taken in by it
+-- how a verdict is reported: 0 neither, 1 ignored by this line, 2 taken in by it
 abbrev pub Tells : Verdict → Told → Type 0
 Tells Neither told = (told.kind ≡ 0) × (told.line ≡ 0)
 Tells (Ignored file line) told = (told.kind ≡ 1) × (told.line ≡ line)
 Tells (TakenIn file line) told = (told.kind ≡ 2) × (told.line ≡ line)
 
--- what the files say of a path is told; it is a directory if the flag of this number is there and isn't 0
+-- the verdict of the files on a path is reported; the path is a directory if the flag with this number exists and isn't 0
 pub record IsPathTold (files : List (File Global)) (flags : List ℕ) (number : ℕ) (path : List ℕ) (told : Told) : Type 0 where
   pub is_dir : Bool
   pub flag : (is_dir ≡ true) ↔ (get_or flags number 0 ≢ 0)
@@ -23,14 +23,14 @@ pub record IsPathTold (files : List (File Global)) (flags : List ℕ) (number : 
   pub is : IsVerdict files path is_dir verdict
   pub tells : Tells verdict told
 
--- the same of each path, of which the first has this number
+-- the verdict on each path is reported, as `IsPathTold` states; the first path has this number
 abbrev pub ArePathsTold : List (File Global) → List ℕ → ℕ → List (List ℕ) → List Told → Type 0
 ArePathsTold files flags number [] [] = Unit {0}
 ArePathsTold files flags number [] (told ∷ rest) = ⊥
 ArePathsTold files flags number (path ∷ paths) [] = ⊥
 ArePathsTold files flags number (path ∷ paths) (told ∷ rest) = IsPathTold files flags number path told × ArePathsTold files flags (suc number) paths rest
 
--- the array, whose content was `old`, begins with what is told, truncated to the array's length, and after it is as it was; `count` is how much there is
+-- the array, whose content was `old`, begins with the reports, truncated to the array's length, and after them it is unchanged; `count` is the number of reports
 pub record ToldTruncated (told old new : List Told) (count : ℕ) : Type 0 where
   pub same_length : length new ≡ length old
   pub count_is : count ≡ length told
@@ -41,7 +41,7 @@ pub record ToldTruncated (told old new : List Told) (count : ℕ) : Type 0 where
 abbrev pub PushesTold : List Told → List Told → ℕ → List Told → ℕ → Type 0
 PushesTold more old count new len = (told buffer : List Told) → ToldTruncated told buffer old count → ToldTruncated (told ++ more) buffer new len
 
--- what the files say of each path of the list is written
+-- the verdict of the files on each path of the list is written
 pub record AreToldIn (files : List (File Global)) (flags paths : List ℕ) (old new : List Told) (count : ℕ) : Type 0 where
   pub names : List (List ℕ)
   pub are_names : AreItems paths names

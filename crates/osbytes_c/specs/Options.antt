@@ -11,7 +11,7 @@ abbrev pub numbers_of : ℕ → Bool
 numbers_of zero = false
 numbers_of (suc n) = true
 
--- 1 a name, 2 a name that is no text, 3 a character, 4 bytes of which no character is first, 5 an operand
+-- 1 a name, 2 a name that isn't text, 3 a character, 4 bytes that don't begin with a character, 5 an operand
 abbrev pub kind_number : Kind → ℕ
 kind_number (Long name) = 1
 kind_number (LongBytes name) = 2
@@ -43,7 +43,7 @@ marks_of (Short c) = 1
 marks_of (ShortBytes rest) = 1
 marks_of (Value value) = 0
 
--- words of which none was taken
+-- a list of words before any of them is read
 abbrev pub unread : Bool → List (List ℕ) → Reading
 unread numbers given = record { given = given; index = 0; pending = []; ended = false; numbers = numbers; last = None }
 

@@ -2,7 +2,7 @@
 use Rattle.std.specs.Prelude.{◌≡◌, ℕ, List, length, take, drop, ◌++◌}
 use Rattle.osbytes_c.specs.declared.part_list.Part.{Part}
 
--- the array, whose content was `old`, begins with the components, truncated to the array's length, and after them is as it was; `count` is how many there are
+-- the array, whose content was `old`, begins with the components, truncated to the array's length, and after them it is unchanged; `count` is the number of components there are
 pub record PartsTruncated (parts old new : List Part) (count : ℕ) : Type 0 where
   pub same_length : length new ≡ length old
   pub count_is : count ≡ length parts

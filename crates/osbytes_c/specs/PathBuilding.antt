@@ -17,7 +17,7 @@ reason_number (Nul index) = 7
 reason_number (BaseNul index) = 8
 reason_number Memory = 0
 
--- the path isn't joined to the base for the reason with this number, which isn't want of memory
+-- the path isn't joined to the base for the reason with this number, which isn't an allocation failure
 pub record IsJoinReason (style : Style) (base path : List ℕ) (number : ℕ) : Type 0 where
   pub error : JoinError
   pub fault : IsJoinFault style base path error

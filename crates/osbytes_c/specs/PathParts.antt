@@ -24,11 +24,11 @@ kind_number (Normal s) = 5
 abbrev pub part_of : ℕ → ℕ → ℕ → Part
 part_of kind start end = record { kind = kind; start = start; end = end }
 
--- what the bytes between two separators name, of which the first is at an index
+-- what the bytes between two separators name; the first byte is at this index
 abbrev pub part_named : Rules → ℕ → List ℕ → Option Part
 part_named r at s = option_map (λ x. part_of (kind_number x) at (at + length s)) (named r s)
 
--- what those between several separators name, of which the first begin at an index, and each others after a separator
+-- what the bytes between several separators name; the first run begins at this index, and each other run after a separator
 abbrev pub parts_of : Rules → ℕ → List (List ℕ) → List Part
 parts_of r at [] = []
 parts_of r at (s ∷ others) = cons_option (part_named r at s) (parts_of r (at + (length s + 1)) others)
@@ -37,7 +37,7 @@ parts_of r at (s ∷ others) = cons_option (part_named r at s) (parts_of r (at +
 abbrev pub parts_in : Rules → ℕ → List ℕ → List Part
 parts_in r at s = parts_of r at (slice_split (separates r) s)
 
--- a prefix of so many bytes, if there is one
+-- a prefix with this number of bytes, if there is one
 abbrev pub prefix_parts : ℕ → List Part
 prefix_parts n = if nat_eq n 0 then [] else part_of 1 0 n ∷ []
 

@@ -1,4 +1,4 @@
--- What the exports for paths answer: parts of a path, by their indices.
+-- What the exports for paths return: parts of a path, by their indices.
 use Rattle.std.specs.Prelude.{◌≡◌, ◌⊎◌, ◌≤◌, ℕ, zero, suc, List, length, drop}
 use Rattle.path_rules.specs.declared.rules.Style.{Style}
 use Rattle.path_rules.specs.declared.rules.Style.TheVariants.{Unix, Windows}
@@ -18,7 +18,7 @@ abbrev pub style_on : ℕ → Style
 style_on (suc zero) = Windows
 style_on platform = Unix
 
--- the components are written into the array, truncated to the array's length, and there are so many
+-- the components are written into the array, truncated to the array's length, and the number is how many there are
 abbrev pub WritesParts : Style → List ℕ → List Part → List Part → ℕ → Type 0
 WritesParts style path old new count = (parts : List Part) × (AreParts style path parts × PartsTruncated parts old new count)
 

@@ -1,4 +1,4 @@
--- How much room lists want. Only private contracts name these.
+-- How much room lists need. Only private contracts name these.
 use Rattle.std.specs.Prelude.{◌+◌, ℕ, List, [], ◌∷◌, length, Result, Ok, Err}
 use Rattle.os_command_line.specs.declared.shell.fault.WordsFault.{WordsFault}
 

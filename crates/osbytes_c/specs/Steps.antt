@@ -92,7 +92,7 @@ StartsWithNoSymbol (suc zero) s = StartsWithNoCharacter s × ((unit : ℕ) → �
 StartsWithNoSymbol (suc (suc zero)) s = StartsWithNoCharacter s
 StartsWithNoSymbol (suc (suc (suc n))) s = ⊥
 
--- bytes that begin with no whole character begin with this unit of the platform, of so many bytes: a byte of Unix, or a surrogate of Windows
+-- bytes that begin with no whole character begin with this unit of the platform, which has this length: a byte of Unix, or a surrogate of Windows
 abbrev pub StartsWithUnit : ℕ → List ℕ → ℕ → ℕ → Type 0
 StartsWithUnit zero s value len = (value ≡ slice_index_or s 0 0) × (len ≡ 1)
 StartsWithUnit (suc zero) s value len = IsSurrogatePrefix s value × (len ≡ 3)

@@ -1,4 +1,4 @@
--- Whole walks of an iterator, step by step from an index on: each step's answer, and a further walk from where it ended.
+-- Whole walks of an iterator, step by step from an index on: the result of each step, and a further walk from where it ended.
 use Rattle.std.specs.Prelude.{◌≡◌, ℕ, true, false, List, [], ◌∷◌, length}
 use Rattle.wtf8_core.specs.Chunks.{Chunk}
 use Rattle.os_str_ext.specs.declared.symbols.Symbol.{Symbol}

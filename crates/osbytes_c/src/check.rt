@@ -28,7 +28,7 @@ pub extern "C" fn osb_core_check(platform: u32, bytes: &[u8], fault: &mut Fault)
     }
 }
 
-/// The same on Windows.
+/// Checks that bytes are WTF-8, as Windows requires.
 pub(crate) fn check_wtf8(bytes: &[u8], fault: &mut Fault) -> u32
     ensures string { (result ≡ 0) ↔ IsWtf8 bytes.now }
     ensures fault { result ≡ 1 → IsWtf8Report bytes.now fault.new }
@@ -44,8 +44,8 @@ pub(crate) fn check_wtf8(bytes: &[u8], fault: &mut Fault) -> u32
     }
 }
 
-/// Reports the first fault of bytes that aren't WTF-8. They are read a second time, since a check tells
-/// no index.
+/// Reports the first fault of bytes that aren't WTF-8. They are read a second time, since a check
+/// returns no index.
 pub(crate) fn report_wtf8(bytes: &[u8], error: EncodingError, fault: &mut Fault)
     requires { HasFirstFault bytes.now error }
     ensures { IsWtf8Report bytes.now fault.new }
@@ -63,7 +63,7 @@ pub(crate) fn report_wtf8(bytes: &[u8], error: EncodingError, fault: &mut Fault)
     }
 }
 
-/// The same on wasm.
+/// Checks that bytes are UTF-8, as wasm requires.
 pub(crate) fn check_utf8(bytes: &[u8], fault: &mut Fault) -> u32
     ensures string { (result ≡ 0) ↔ IsUtf8 bytes.now }
     ensures fault { result ≡ 1 → IsUtf8Report bytes.now fault.new }

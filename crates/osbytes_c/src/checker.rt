@@ -28,8 +28,8 @@ pub extern "C" fn osb_core_start(opened: &mut Open)
     *opened = Open { state: 0, bits: 0 };
 }
 
-/// Reads one more piece. If the bytes joined have a fault that no later byte changes, that is the
-/// answer, and nothing else is written; a check that found one isn't to be fed again.
+/// Reads one more piece. If the joined bytes have a fault that no later byte changes, the call
+/// returns that fault and writes nothing else. A check that found a fault isn't to be fed again.
 #[unsafe(no_mangle)]
 pub extern "C" fn osb_core_feed(opened: &mut Open, piece: &[u8], fault: &mut Fault) -> u32
     ensures describes { result ≡ 0 → (fed : List ℕ) → OpenDescribes opened.old fed

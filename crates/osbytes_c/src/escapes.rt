@@ -13,8 +13,8 @@ use os_quote::{write_escape, write_escape_line};
 use platform_str::{OsStr, Platform};
 
 /// Writes the escape of a string of a platform into `out`, as far as there is room, and counts its
-/// bytes: at most six for each byte of the string. If the bytes are no string, the fault is their
-/// first one.
+/// bytes: at most six for each byte of the string. If the bytes aren't a string of the platform,
+/// the fault is their first one.
 #[unsafe(no_mangle)]
 pub extern "C" fn osb_core_escape(
     platform: u32,
@@ -38,7 +38,8 @@ pub extern "C" fn osb_core_escape(
     on_string!(platform, bytes, fault, string => escape(string, out, count))
 }
 
-/// The same of the escape on one line.
+/// Writes the escape of a string of a platform on one line, and counts its bytes, as
+/// `osb_core_escape` does.
 #[unsafe(no_mangle)]
 pub extern "C" fn osb_core_escape_line(
     platform: u32,

@@ -50,7 +50,8 @@ pub fn split_into_two(
     }
 }
 
-/// The same from the end.
+/// Writes the pieces of a split from the end into two arrays, as `split_into_two` does from the
+/// start.
 pub fn rsplit_into_two(
     bytes: &[u8],
     pattern: &[u8],

@@ -147,7 +147,8 @@ fn answer_on<E: Platform>(set: &GlobSet<E>, path: &[u8]) -> u32
     }
 }
 
-/// Tells of each path of a list whether a pattern of the set matches it, as `osb_core_glob_matches` does.
+/// Writes for each path of a list whether a pattern of the set matches it, as
+/// `osb_core_glob_matches` does.
 #[unsafe(no_mangle)]
 pub extern "C" fn osb_core_globs_matches(
     alloc: Global,
@@ -172,7 +173,7 @@ pub extern "C" fn osb_core_globs_matches(
     status
 }
 
-/// Writes what a set tells of each path of a list.
+/// Writes whether a set matches each path of a list.
 fn write_told(
     alloc: Global,
     globs: &PlatformGlobs,
@@ -192,7 +193,7 @@ fn write_told(
     }
 }
 
-/// What a set tells of each path of a list.
+/// Returns a byte for each path of a list: whether the set matches it.
 fn told_by(alloc: Global, globs: &PlatformGlobs, paths: &[u8]) -> Result<Vec<u8>, Refusal>
     ensures { MatchResult result (λ answers. AreToldOn globs.now paths.now answers.items)
         (λ refusal. IsToldRefusal globs.now paths.now refusal) }

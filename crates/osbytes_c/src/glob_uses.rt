@@ -13,8 +13,8 @@ use crate::globs::{GlobFault, osb_core_glob_matches};
 use crate::status::DONE;
 use std::alloc::Global;
 
-/// Of how many paths it is told in a buffer whether a pattern matches them; else the status, and the fault
-/// of the first pattern that has one.
+/// The number of paths that a buffer has a byte for: whether a pattern matches the path. Else the
+/// status, and the fault of the first pattern that has one.
 pub fn told_in(
     alloc: Global,
     platform: u32,
@@ -46,8 +46,8 @@ pub fn told_in(
     }
 }
 
-/// What a kept set answers of a path: 0 a pattern matches it, 3 none does, 1 it isn't a string; 99 says that
-/// there was no set.
+/// What a kept set returns for a path: 0 a pattern matches it, 3 none does, 1 it isn't a string. 99
+/// means that there was no set.
 pub fn asked(
     alloc: Global,
     platform: u32,
@@ -67,7 +67,8 @@ pub fn asked(
     told
 }
 
-/// Of how many paths a kept set tells in a buffer whether a pattern matches them; else a status.
+/// The number of paths that a kept set writes a byte for into a buffer: whether a pattern matches
+/// the path. Else a status.
 pub fn told_kept(
     alloc: Global,
     platform: u32,

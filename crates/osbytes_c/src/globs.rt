@@ -23,8 +23,9 @@ pub struct GlobFault {
     pub which: usize,
     /// The byte index in the pattern.
     pub index: usize,
-    /// 1 a class isn't closed, 2 a range is reversed, 3 the name of a class isn't known, 4 nothing
-    /// comes after a `\`, 5 alternatives aren't closed, 6 a `}` closes none, 7 they are too many.
+    /// 1: a class isn't closed. 2: a range is reversed. 3: the name of a class isn't known.
+    /// 4: nothing comes after a `\`. 5: alternatives aren't closed. 6: a `}` closes none. 7: there
+    /// are too many alternatives.
     pub kind: u32,
 }
 
@@ -39,8 +40,8 @@ pub(crate) enum Refusal {
     Fault(GlobFault),
 }
 
-/// Tells of each path whether a pattern matches it, compiled for the time of the call. Both lists have
-/// a 0 after each item, which the last may lack.
+/// Writes for each path whether a pattern matches it. The patterns are compiled for the time of the
+/// call. Both lists have a 0 after each item, which the last may lack.
 #[unsafe(no_mangle)]
 pub extern "C" fn osb_core_glob_matches(
     alloc: Global,
@@ -95,7 +96,7 @@ pub(crate) fn options_of(options: u32) -> Option<GlobOptions>
     })
 }
 
-/// The same on one platform.
+/// Writes for each path whether a pattern matches it, on one platform.
 fn matches_on<E: Platform>(
     alloc: Global,
     options: GlobOptions,
@@ -124,7 +125,7 @@ fn matches_on<E: Platform>(
     }
 }
 
-/// What is told of each path.
+/// Returns a byte for each path: whether a pattern matches it.
 fn told_on<E: Platform>(
     alloc: Global,
     options: GlobOptions,
@@ -183,7 +184,7 @@ fn strings_of<'a, E: Platform>(alloc: Global, list: &'a [u8]) -> Result<Vec<OsSt
     Ok(strings)
 }
 
-/// What a set tells of each path of a list.
+/// Returns a byte for each path of a list: whether a pattern of the set matches it.
 pub(crate) fn told_of<E: Platform>(
     alloc: Global,
     set: &GlobSet<E>,
@@ -208,7 +209,7 @@ pub(crate) fn told_of<E: Platform>(
     Ok(answers)
 }
 
-/// What a set tells of a path: 1 a pattern matches it, 0 none does.
+/// The byte of a set for a path: 1 a pattern matches it, 0 none does.
 fn answer_of<E: Platform>(set: &GlobSet<E>, path: OsStr<'_, E>) -> u8
     ensures { IsTold (IsMatched E.units set.now.set.options set.now.set.patterns.items
         (bytes path.entry)) result }

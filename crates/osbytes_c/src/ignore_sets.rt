@@ -14,13 +14,14 @@ pub struct Ignores {
     ignore: Ignore,
 }
 
-/// What ignore files say of a path.
+/// The verdict of ignore files on a path.
 #[repr(C)]
 #[derive(Clone, Copy)]
 pub struct Decision {
     /// 0 neither, 1 ignored, 2 taken in.
     pub kind: u32,
-    /// The number of the file that says it, from 0 on in the order in which they were added; 0 if none does.
+    /// The number of the file that decides, from 0 on in the order in which they were added; 0 if
+    /// none does.
     pub file: usize,
     /// Its line, from 1 on; 0 if none does.
     pub line: usize,
@@ -73,7 +74,8 @@ pub extern "C" fn osb_core_ignores_add(
     status
 }
 
-/// Reports what the files say of a path, which is a directory if the flag isn't 0: 0, or 26 nothing is kept.
+/// Reports the verdict of the files on a path, which is a directory if the flag isn't 0. Returns 0,
+/// or 26 if nothing is kept.
 #[unsafe(no_mangle)]
 pub extern "C" fn osb_core_ignores_match(
     held: &mut HeldIgnores,
@@ -95,7 +97,7 @@ pub extern "C" fn osb_core_ignores_match(
     DONE
 }
 
-/// What the files say of a path.
+/// The verdict of the files on a path.
 fn decided(ignores: &Ignores, path: &[u8], is_dir: u32) -> Decision
     ensures { IsDecided ignores.now path.now is_dir result }
 {

@@ -14,7 +14,7 @@ use crate::ignores::{Told, osb_core_ignore_matches};
 use crate::status::DONE;
 use std::alloc::Global;
 
-/// Of how many paths it is told in an array what a file says of them; else the status.
+/// The number of paths that have a verdict of an ignore file in an array; else the status.
 pub fn verdicts_in(
     alloc: Global,
     file: &[u8],
@@ -35,7 +35,7 @@ pub fn verdicts_in(
     }
 }
 
-/// Whether it was reported what one file in a directory says of a path.
+/// Whether the verdict of one file in a directory on a path was reported.
 pub fn is_decided(
     alloc: Global,
     directory: &[u8],

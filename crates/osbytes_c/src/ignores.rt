@@ -9,7 +9,7 @@ use crate::status::{NO_MEMORY, fits};
 use os_ignore::{Ignore, Verdict};
 use std::alloc::Global;
 
-/// What an ignore file says of a path.
+/// The verdict of an ignore file on a path.
 #[repr(C)]
 #[derive(Clone, Copy)]
 pub struct Told {
@@ -19,9 +19,9 @@ pub struct Told {
     pub line: usize,
 }
 
-/// Writes what the lines of a file at the top of a tree say of each path of a list, as far as there
-/// is room, and counts the paths. After each path a 0 comes, which the last may lack. A path is a
-/// directory if its flag is there and isn't 0.
+/// Writes the verdict of a file at the top of a tree on each path of a list, as far as there is
+/// room, and counts the paths. After each path a 0 comes, which the last may lack. A path is a
+/// directory if its flag exists and isn't 0.
 #[unsafe(no_mangle)]
 pub extern "C" fn osb_core_ignore_matches(
     alloc: Global,
@@ -43,7 +43,7 @@ pub extern "C" fn osb_core_ignore_matches(
     fits(told, out.len())
 }
 
-/// Writes what the files say of each path, as far as there is room, and counts the paths.
+/// Writes the verdict of the files on each path, as far as there is room, and counts the paths.
 fn tell(ignore: &Ignore, paths: &[u8], flags: &[u8], out: &mut [Told]) -> usize
     ensures { AreToldIn (files_of ignore.now) flags.now paths.now out.old out.new result }
 {
@@ -64,7 +64,7 @@ fn flag_at(flags: &[u8], number: usize) -> bool
     number < flags.len() && flags[number] != 0
 }
 
-/// What is told of a verdict.
+/// The report of a verdict.
 fn told_of(verdict: Verdict) -> Told
     ensures { Tells verdict result }
 {
@@ -75,7 +75,7 @@ fn told_of(verdict: Verdict) -> Told
     }
 }
 
-/// Appends to an array of so many, as far as there is room.
+/// Appends to an array that has `count` items, as far as there is room.
 fn push(out: &mut [Told], count: usize, told: Told) -> usize
     requires { count + 1 < 2 ^ 64 }
     ensures pushes { PushesTold (told ∷ []) out.old count out.new result }

@@ -1,28 +1,38 @@
-//! What the C library `libosbytes` is proved of: [`check`] and [`checker`] the check of bytes, whole
-//! and in pieces, [`fault_text`] the text of a fault, [`wide`] bytes to 16-bit units and back,
-//! [`lossy`] lossy texts, [`escapes`] and [`unescapes`] escapes and back, [`search`] searches,
-//! [`prefix`] prefixes and suffixes by units, [`boundary`] where strings may be cut, [`compare`]
-//! their order, one step of each iterator: [`split`], [`chunks`] and [`symbols`], and many at once:
-//! [`split_fill`], [`chunks_fill`] and [`symbols_fill`], [`paths`] and [`path_tests`] paths, whose
-//! components [`path_parts`] finds and [`part_list`] writes, [`path_joins`], [`path_forms`] and
-//! [`path_names`] paths that are built of others, [`globs`] path patterns, [`glob_sets`]
-//! compiled sets of them that C keeps in a [`glob_places`] place, [`ignores`] ignore files, [`ignore_sets`] those of several
-//! directories, which C keeps in an [`ignore_places`] place,
-//! and [`shell`] and [`powershell`] words of a shell, [`shell_words`] lines of them,
-//! [`windows_quote`], [`windows_name`] and [`windows_arguments`] command lines of Windows, and
-//! [`options`] options and operands. [`laws`] says what whole walks and whole lines give,
-//! [`fill_laws`] what filled arrays hold, and [`string_uses`], [`uses`], [`fill_uses`], [`line_uses`],
-//! [`path_part_uses`], [`path_uses`], [`glob_uses`] and [`ignore_uses`] conclude from it.
+//! What the C library `libosbytes` is proved of:
 //!
-//! A slice crosses as a pointer and a length. Each export takes any values: a platform, a pattern,
-//! an index or a fault that there isn't is answered by a status ([`status`]), so none has a
-//! `requires`. What no export can test is what its pointers point to; the edge in C (`c/osbytes.c`)
-//! tests what of it C can.
+//! [`check`] and [`checker`] check bytes, whole and in pieces. [`fault_text`] writes the text of a
+//! fault. [`wide`] converts bytes to 16-bit units and back. [`lossy`] writes lossy texts.
+//! [`escapes`] and [`unescapes`] write escapes and read them back.
 //!
-//! The callers in the modules `.._uses` show that wrong bodies are refused: each is proved from the
-//! contract of an export alone, and its own contract would be false with a wrong body, so a contract
-//! that let the body through would leave the caller unproved. Where one asks for another status than
-//! `DONE`, it asks for its number, as C sees it, since a name would follow a wrong constant.
+//! [`search`] searches, and [`prefix`] tests prefixes and suffixes by units. [`boundary`] tests
+//! where strings may be cut, and [`compare`] orders them. [`split`], [`chunks`] and [`symbols`]
+//! take one step of each iterator. [`split_fill`], [`chunks_fill`] and [`symbols_fill`] take many
+//! steps at once.
+//!
+//! [`paths`] and [`path_tests`] handle paths. [`path_parts`] finds their components, and
+//! [`part_list`] writes these. [`path_joins`], [`path_forms`] and [`path_names`] build paths from
+//! others. [`globs`] matches path patterns. [`glob_sets`] compiles sets of them, which C keeps in a
+//! [`glob_places`] place. [`ignores`] reads ignore files. [`ignore_sets`] reads those of several
+//! directories, which C keeps in an [`ignore_places`] place.
+//!
+//! [`shell`] and [`powershell`] write words of a shell, and [`shell_words`] reads lines of them.
+//! [`windows_quote`], [`windows_name`] and [`windows_arguments`] handle command lines of Windows.
+//! [`options`] reads options and operands.
+//!
+//! [`laws`] states what whole walks and whole lines give, and [`fill_laws`] what filled arrays
+//! hold. [`string_uses`], [`uses`], [`fill_uses`], [`line_uses`], [`path_part_uses`],
+//! [`path_uses`], [`glob_uses`] and [`ignore_uses`] draw conclusions from the contracts.
+//!
+//! A slice crosses as a pointer and a length. Each export takes any values, so none has a
+//! `requires`. For a platform, a pattern, an index or a fault that doesn't exist, it returns a
+//! status ([`status`]). No export can test what its pointers point to; the edge in C
+//! (`c/osbytes.c`) tests as much of it as C can.
+//!
+//! The callers in the modules `.._uses` show that wrong bodies are rejected. Each is proved from
+//! the contract of an export alone, and its own contract would be false with a wrong body. A
+//! contract that let the body through would leave the caller unproved. A caller that tests for
+//! another status than `DONE` uses its number, as C sees it, since a name would follow a wrong
+//! constant.
 #![tactic(auto)]
 
 pub mod boundary;

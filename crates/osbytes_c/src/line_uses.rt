@@ -81,7 +81,7 @@ pub fn is_too_long(name: &[u8]) -> bool
     osb_core_shell_quote(name, &mut [], &mut count, &mut index) == 21
 }
 
-/// The same on one line.
+/// The number of bytes of a name's word on one line; `None` as for its word above.
 pub fn line_word_len(name: &[u8]) -> Option<usize>
     ensures { MatchOption result
         (((index : ℕ) × IsFirstNul name.now index) ⊎ (usize.MAX < 4 * length name.now + 3))
@@ -95,7 +95,7 @@ pub fn line_word_len(name: &[u8]) -> Option<usize>
     }
 }
 
-/// The same in fish.
+/// The number of bytes of a name's word in fish; `None` as for its word in other shells.
 pub fn fish_len(name: &[u8]) -> Option<usize>
     ensures { MatchOption result
         (((index : ℕ) × IsFirstNul name.now index) ⊎ (usize.MAX < 4 * length name.now + 3))
@@ -109,7 +109,7 @@ pub fn fish_len(name: &[u8]) -> Option<usize>
     }
 }
 
-/// The same in PowerShell, also `None` if it isn't a text.
+/// The number of bytes of a name's word in PowerShell; `None` also if the name isn't text.
 pub fn powershell_len(name: &[u8]) -> Option<usize>
     ensures { MatchOption result
         (((index : ℕ) × ((len : Option ℕ) × IsUtf8Fault name.now index len))
@@ -125,7 +125,8 @@ pub fn powershell_len(name: &[u8]) -> Option<usize>
     }
 }
 
-/// How many units the text of an argument has; `None` if it is no string, has a NUL or is too long.
+/// The number of units of an argument's text; `None` if it isn't a string, has a NUL or is too
+/// long.
 pub fn argument_len(argument: &[u8]) -> Option<usize>
     ensures { MatchOption result
         (((report : Fault) × IsWtf8Report argument.now report)
@@ -147,7 +148,8 @@ pub fn argument_len(argument: &[u8]) -> Option<usize>
     }
 }
 
-/// The same of a program's name, also `None` if it has a quotation mark.
+/// The number of units of the text of a program's name; `None` as for an argument, and also if it
+/// has a quotation mark.
 pub fn name_len(name: &[u8]) -> Option<usize>
     ensures { MatchOption result
         (((report : Fault) × IsWtf8Report name.now report)
@@ -231,8 +233,8 @@ pub fn words_in(options: u32, line: &[u8], buffer: &mut [u8]) -> Option<usize>
     }
 }
 
-/// How many units a line's program's name and its arguments have with a 0 after each; `None` if the line is
-/// no string, has a NUL or is too long.
+/// The number of units of a line's program name and arguments, with a 0 after each; `None` if the
+/// line isn't a string, has a NUL or is too long.
 pub fn arguments_len(line: &[u8]) -> Option<usize>
     ensures { MatchOption result
         (((report : Fault) × IsWtf8Report line.now report)

@@ -11,8 +11,8 @@ use crate::status::{DONE, NO_ROOM, TOO_LONG};
 use platform_str::{OsStr, Platform};
 
 /// Writes the lossy text of a string of a platform into `out`, as far as there is room, and counts
-/// its bytes: at most three for each byte of the string. If the bytes are no string, the fault is
-/// their first one.
+/// its bytes: at most three for each byte of the string. If the bytes aren't a string of the
+/// platform, the fault is their first one.
 #[unsafe(no_mangle)]
 pub extern "C" fn osb_core_lossy(
     platform: u32,
@@ -36,7 +36,7 @@ pub extern "C" fn osb_core_lossy(
     on_string!(platform, bytes, fault, string => write_lossy(string, out, count))
 }
 
-/// The same of a string.
+/// Writes the lossy text of a string, and counts its bytes.
 fn write_lossy<E: Platform>(string: OsStr<'_, E>, out: &mut [u8], count: &mut usize) -> u32
     ensures done { result ≡ 0 → Writes (λ text. text ≡ E.lossy (bytes string.entry)) out.old
         out.new count.new × (count.new ≤ length out.old) }

@@ -1,6 +1,6 @@
 //! One dispatch over the platforms by their numbers: 0 Unix, 1 Windows, 2 wasm.
 
-/// What a call that is generic over the platform answers on the platform with a number, and
+/// What a call that is generic over the platform returns on the platform with a number, and
 /// `NO_PLATFORM` if there is none.
 macro_rules! on_platform {
     ($platform:expr, $call:ident($($argument:expr),*)) => {
@@ -13,8 +13,9 @@ macro_rules! on_platform {
     };
 }
 
-/// The answer for the string that bytes are on the platform with a number, and `NO_PLATFORM` if there is
-/// none. If the bytes are no string of it, the answer is `FAULTY` and the fault their first one.
+/// The result for the string that bytes are on the platform with a number, and `NO_PLATFORM` if
+/// there is none. If the bytes aren't a string of it, the result is `FAULTY` and the fault their
+/// first one.
 macro_rules! on_string {
     ($platform:expr, $bytes:expr, $fault:expr, $string:ident => $answer:expr) => {
         match $platform {

@@ -18,8 +18,8 @@ use platform_str::{OsStr, Unix};
 #[repr(C)]
 #[derive(Clone, Copy)]
 pub struct OptionSpan {
-    /// 1 a name, 2 a name that is no text, 3 a character, 4 bytes of which no character is first, 5 an
-    /// operand.
+    /// 1 a name, 2 a name that isn't text, 3 a character, 4 bytes that don't begin with a
+    /// character, 5 an operand.
     pub kind: u32,
     /// The character, or 0.
     pub value: u32,
@@ -85,7 +85,7 @@ fn first_in(numbers: bool, word: &[u8]) -> OptionSpan
     }
 }
 
-/// Words of which none is read, and negative numbers may be operands.
+/// A list of words before any of them is read. `numbers` is whether negative numbers are operands.
 fn arguments_of<'s, 'a>(numbers: bool, words: &'s [OsStr<'a, Unix>]) -> Arguments<'s, 'a, Unix>
     ensures { reading result ≡ unread numbers (map bytes words.entry.now) }
 {

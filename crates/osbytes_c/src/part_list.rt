@@ -31,7 +31,7 @@ pub(crate) fn kind_number(component: Component<&[u8]>) -> u32
     }
 }
 
-/// Appends a component to an array of so many, as far as there is room.
+/// Appends a component to an array that has `count` components, as far as there is room.
 pub(crate) fn push(out: &mut [Part], count: usize, part: Part) -> usize
     requires { count + 1 < 2 ^ 64 }
     ensures pushes { PushesPart (part ∷ []) out.old count out.new result }

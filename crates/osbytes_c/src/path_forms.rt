@@ -65,8 +65,9 @@ pub extern "C" fn osb_core_path_clean(
     }
 }
 
-/// Writes the path of another platform with the same components. If the bytes are no string of that
-/// platform, the fault is their first one; `index` is that of the first component that its paths can't have.
+/// Writes the path of another platform with the same components. If the bytes aren't a string of
+/// that platform, the fault is their first one; `index` is that of the first component that its
+/// paths can't have.
 #[unsafe(no_mangle)]
 pub extern "C" fn osb_core_path_convert(
     alloc: Global,

@@ -38,9 +38,9 @@ pub extern "C" fn osb_core_path_join(
     }
 }
 
-/// Writes a path below a base, or says why there is none: 1 the path has a prefix, 2 it has a root,
-/// 3 one of its `..` leaves the base, 4 a name of a Windows path has a colon, 5 one is reserved,
-/// 6 the base isn't a place of its own, 7 the path has a NUL, 8 the base has one.
+/// Writes a path below a base, or a number for why there is none. 1: the path has a prefix. 2: it
+/// has a root. 3: one of its `..` leaves the base. 4: a name of a Windows path has a colon. 5: one
+/// is reserved. 6: the base isn't a place of its own. 7: the path has a NUL. 8: the base has one.
 #[unsafe(no_mangle)]
 pub extern "C" fn osb_core_path_join_checked(
     alloc: Global,

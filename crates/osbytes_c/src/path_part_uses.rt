@@ -111,7 +111,7 @@ pub fn parent_of(platform: u32, path: &[u8]) -> Option<Span>
     }
 }
 
-/// The same of its last component, if that is a name.
+/// Where the last component of a path is, if that is a name.
 pub fn name_of(platform: u32, path: &[u8]) -> Option<Span>
     ensures { MatchOption result ((2 < platform) ⊎ HasNoLastName (style_on platform) path.now)
         (λ span. IsNameSpan (style_on platform) path.now span) }
@@ -123,7 +123,7 @@ pub fn name_of(platform: u32, path: &[u8]) -> Option<Span>
     }
 }
 
-/// The same of that name without its extension.
+/// Where the last name of a path is, without its extension.
 pub fn stem_of(platform: u32, path: &[u8]) -> Option<Span>
     ensures { MatchOption result ((2 < platform) ⊎ HasNoLastName (style_on platform) path.now)
         (λ span. IsStemSpan (style_on platform) path.now span) }
@@ -135,7 +135,7 @@ pub fn stem_of(platform: u32, path: &[u8]) -> Option<Span>
     }
 }
 
-/// The same of its extension.
+/// Where the extension of a path's last name is.
 pub fn extension_of(platform: u32, path: &[u8]) -> Option<Span>
     ensures { MatchOption result ((2 < platform) ⊎ HasNoExtensionSpan (style_on platform) path.now)
         (λ span. IsExtensionSpan (style_on platform) path.now span) }
@@ -147,7 +147,7 @@ pub fn extension_of(platform: u32, path: &[u8]) -> Option<Span>
     }
 }
 
-/// The same of a prefix.
+/// Where the prefix of a path is.
 pub fn prefix_of(platform: u32, path: &[u8]) -> Option<Span>
     ensures { MatchOption result ((2 < platform) ⊎ (¬ (IsPrefixed (style_on platform) path.now)))
         (λ span. IsPrefixSpan (style_on platform) path.now span) }

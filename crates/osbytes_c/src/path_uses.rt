@@ -41,7 +41,8 @@ pub fn join_in(
     }
 }
 
-/// The same of a path below a base; the reason goes out, too.
+/// The length of a path that is joined below a base, written into a buffer; else the status. The
+/// reason is returned, too.
 pub fn join_checked_in(
     alloc: Global,
     platform: u32,
@@ -62,7 +63,7 @@ pub fn join_checked_in(
     }
 }
 
-/// The same of how a path is reached from a base.
+/// The length of the path that leads from a base to a path, written into a buffer; else the status.
 pub fn relative_in(
     alloc: Global,
     platform: u32,
@@ -82,7 +83,7 @@ pub fn relative_in(
     }
 }
 
-/// The same of the normal form of a path.
+/// The length of the normal form of a path, written into a buffer; else the status.
 pub fn normalize_in(
     alloc: Global,
     platform: u32,
@@ -101,7 +102,7 @@ pub fn normalize_in(
     }
 }
 
-/// The same of a path cleaned.
+/// The length of a cleaned path, written into a buffer; else the status.
 pub fn clean_in(alloc: Global, platform: u32, path: &[u8], buffer: &mut [u8]) -> Result<usize, u32>
     ensures ok { IfOk result (λ len. IsCleaned (style_on platform) path.now (take len buffer.new)) }
     ensures err { IfErr result (λ status. status ≡ 16 → 2 < platform) }
@@ -113,7 +114,8 @@ pub fn clean_in(alloc: Global, platform: u32, path: &[u8], buffer: &mut [u8]) ->
     }
 }
 
-/// The same of the path of another platform; the component's index and the fault go out, too.
+/// The length of the path of another platform, written into a buffer; else the status. The index of
+/// the component and the fault are returned, too.
 pub fn convert_in(
     alloc: Global,
     from: u32,
@@ -137,7 +139,7 @@ pub fn convert_in(
     }
 }
 
-/// The same of a path with another last name.
+/// The length of a path with another last name, written into a buffer; else the status.
 pub fn named_in(
     alloc: Global,
     platform: u32,
@@ -156,7 +158,7 @@ pub fn named_in(
     }
 }
 
-/// The same of a path with another extension.
+/// The length of a path with another extension, written into a buffer; else the status.
 pub fn extension_set_in(
     alloc: Global,
     platform: u32,
@@ -176,7 +178,7 @@ pub fn extension_set_in(
     }
 }
 
-/// The same of a path with one more extension.
+/// The length of a path with one more extension, written into a buffer; else the status.
 pub fn extension_added_in(
     alloc: Global,
     platform: u32,

@@ -45,7 +45,7 @@ pub extern "C" fn osb_core_ends_with_units(platform: u32, bytes: &[u8], suffix: 
     on_platform!(platform, ends_with(bytes, suffix))
 }
 
-/// The same of one platform.
+/// Tests whether the units of a string start with those of another, on one platform.
 fn starts_with<E: Platform>(bytes: &[u8], prefix: &[u8]) -> u32
     ensures found { result ≡ 0 → IsPrefix (E.units prefix.now) (E.units bytes.now) }
     ensures none { result ≡ 3 → ¬ (IsPrefix (E.units prefix.now) (E.units bytes.now)) }
@@ -68,7 +68,7 @@ fn starts_with<E: Platform>(bytes: &[u8], prefix: &[u8]) -> u32
     }
 }
 
-/// The same of one platform.
+/// Tests whether the units of a string end with those of another, on one platform.
 fn ends_with<E: Platform>(bytes: &[u8], suffix: &[u8]) -> u32
     ensures found { result ≡ 0 → IsSuffix (E.units suffix.now) (E.units bytes.now) }
     ensures none { result ≡ 3 → ¬ (IsSuffix (E.units suffix.now) (E.units bytes.now)) }

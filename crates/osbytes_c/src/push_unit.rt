@@ -2,7 +2,7 @@
 ghost use Rattle.std.specs.Prelude.{◌+◌, ◌<◌, ◌^◌, ◌∷◌, []};
 ghost use Rattle.os_quote.specs.Buffers.{Pushes};
 
-/// Appends a unit to a buffer of so many, as far as there is room.
+/// Appends a unit to a buffer that has `count` units, as far as there is room.
 #[inline(always)]
 pub(crate) fn push_unit(out: &mut [u16], count: usize, unit: u16) -> usize
     requires { count + 1 < 2 ^ 64 }

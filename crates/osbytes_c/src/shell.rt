@@ -17,7 +17,7 @@ use os_command_line::shell::{
 pub(crate) enum Shell {
     /// That of every POSIX shell.
     Posix,
-    /// The same, first on a line.
+    /// That of every POSIX shell, for the first word on a line.
     First,
     /// That of the shells that read `$'..'`, on one line.
     Line,
@@ -62,7 +62,7 @@ pub extern "C" fn osb_core_shell_quote_first(
     quote(Shell::First, name, out, count, index)
 }
 
-/// The same on one line.
+/// Writes the word of a name on one line, for the shells that read `$'..'`.
 #[unsafe(no_mangle)]
 pub extern "C" fn osb_core_shell_quote_line(
     name: &[u8],
@@ -79,7 +79,7 @@ pub extern "C" fn osb_core_shell_quote_line(
     quote(Shell::Line, name, out, count, index)
 }
 
-/// The same in fish.
+/// Writes the word of a name in fish.
 #[unsafe(no_mangle)]
 pub extern "C" fn osb_core_fish_quote(
     name: &[u8],

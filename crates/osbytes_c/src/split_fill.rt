@@ -36,7 +36,7 @@ pub extern "C" fn osb_core_split_fill(
     DONE
 }
 
-/// The same from the end: the pieces of what comes before an index.
+/// Fills an array with pieces from the end: the pieces of what comes before an index.
 #[unsafe(no_mangle)]
 pub extern "C" fn osb_core_rsplit_fill(
     bytes: &[u8],

@@ -59,8 +59,8 @@ pub fn is_fed(opened: &mut Open, piece: &[u8]) -> bool
     osb_core_feed(opened, piece, &mut no_fault()) == 0
 }
 
-/// How many bytes the lossy text of a string has; `None` if there is no such platform, it is no string or
-/// too long.
+/// The number of bytes of the lossy text of a string; `None` if there is no such platform, or the
+/// bytes aren't a string of it or are too long.
 pub fn lossy_len(platform: u32, bytes: &[u8]) -> Option<usize>
     ensures { MatchOption result
         ((2 < platform) ⊎ (((report : Fault) × IsReport platform bytes.now report)
@@ -75,8 +75,8 @@ pub fn lossy_len(platform: u32, bytes: &[u8]) -> Option<usize>
     }
 }
 
-/// Whether the units of a string start with those of another; `None` if there is no such platform, or one
-/// is no string of it.
+/// Whether the units of a string start with those of another; `None` if there is no such platform,
+/// or one isn't a string of it.
 pub fn starts_with(platform: u32, bytes: &[u8], prefix: &[u8]) -> Option<bool>
     ensures strings { MatchOption result
         ((2 < platform) ⊎ (IsUnstring platform bytes.now ⊎ IsUnstring platform prefix.now))
@@ -91,7 +91,7 @@ pub fn starts_with(platform: u32, bytes: &[u8], prefix: &[u8]) -> Option<bool>
     }
 }
 
-/// The same of the end of a string.
+/// Whether the units of a string end with those of another; `None` as in `starts_with`.
 pub fn ends_with(platform: u32, bytes: &[u8], suffix: &[u8]) -> Option<bool>
     ensures strings { MatchOption result
         ((2 < platform) ⊎ (IsUnstring platform bytes.now ⊎ IsUnstring platform suffix.now))
@@ -129,8 +129,8 @@ pub fn is_string_in_two(first: &[u8], second: &[u8]) -> bool
     is_finished(&opened)
 }
 
-/// How many bytes the escape of a string has; `None` if there is no such platform, it is no string or too
-/// long.
+/// The number of bytes of the escape of a string; `None` if there is no such platform, or the bytes
+/// aren't a string of it or are too long.
 pub fn escape_len(platform: u32, bytes: &[u8]) -> Option<usize>
     ensures { MatchOption result
         ((2 < platform) ⊎ (((report : Fault) × IsReport platform bytes.now report)
@@ -146,7 +146,7 @@ pub fn escape_len(platform: u32, bytes: &[u8]) -> Option<usize>
     }
 }
 
-/// The same of the escape on one line.
+/// The number of bytes of the escape of a string on one line; `None` as in `escape_len`.
 pub fn line_escape_len(platform: u32, bytes: &[u8]) -> Option<usize>
     ensures { MatchOption result
         ((2 < platform) ⊎ (((report : Fault) × IsReport platform bytes.now report)
@@ -287,7 +287,8 @@ pub fn unescaped_in(platform: u32, escape: &[u8], buffer: &mut [u8]) -> Option<u
     }
 }
 
-/// The same of an escape on one line.
+/// The number of bytes of the string that has an escape on one line, written into a buffer; `None`
+/// as in `unescaped_in`.
 pub fn line_unescaped_in(platform: u32, escape: &[u8], buffer: &mut [u8]) -> Option<usize>
     ensures { IfSome result (λ len. formed_on platform (take len buffer.new)
         × IsLineEscape (units_on platform) (take len buffer.new) escape.now) }

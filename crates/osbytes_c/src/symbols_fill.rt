@@ -59,7 +59,8 @@ pub extern "C" fn osb_core_symbols_fill(
     DONE
 }
 
-/// Fills `out` with the symbols after an index; `None` if that is no string of the platform.
+/// Fills `out` with the symbols after an index; `None` if the bytes there aren't a string of the
+/// platform.
 #[inline(always)]
 fn fill_symbols(
     platform: u32,
@@ -91,10 +92,10 @@ fn fill_symbols(
     })
 }
 
-/// Writes the symbol after an index; `None` if what comes there is no string of the platform.
+/// Writes the symbol after an index; `None` if the bytes there aren't a string of the platform.
 ///
-/// ASCII is written apart, with a kind and a length that the compiler knows: so arrays of any symbols take
-/// 0.75 to 0.92 of the time.
+/// ASCII is written apart, with a kind and a length that the compiler knows: so arrays of any
+/// symbols take 0.75 to 0.92 of the time.
 #[inline(always)]
 fn write_symbol(
     platform: u32,

@@ -11,8 +11,9 @@ use os_quote::{QuoteError, write_unescaped_bytes, write_unescaped_line_bytes};
 use platform_str::Platform;
 
 /// Writes the string of a platform with this escape into `out`, as far as there is room, and counts
-/// its bytes: at most one for each byte of the escape. Without room for it, the escape may still be
-/// that of no string. `index` is that of the first backslash that begins no token.
+/// its bytes: at most one for each byte of the escape. Without room for the string, it is
+/// unknown whether the escape is that of any string. `index` is that of the first backslash that
+/// begins no token.
 #[unsafe(no_mangle)]
 pub extern "C" fn osb_core_unescape(
     platform: u32,
@@ -36,7 +37,8 @@ pub extern "C" fn osb_core_unescape(
     on_platform!(platform, unescape(escape, out, count, index))
 }
 
-/// The same of an escape on one line.
+/// Writes the string of a platform with this escape on one line, and counts its bytes, as
+/// `osb_core_unescape` does.
 #[unsafe(no_mangle)]
 pub extern "C" fn osb_core_unescape_line(
     platform: u32,

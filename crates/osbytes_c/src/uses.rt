@@ -30,7 +30,7 @@ pub fn is_one_piece(bytes: &[u8], pattern: &[u8]) -> bool
     }
 }
 
-/// The same from the end.
+/// Whether the first piece from the end is the last one, too: then it is the whole string.
 pub fn is_one_piece_from_end(bytes: &[u8], pattern: &[u8]) -> bool
     ensures { result ≡ true → IsRSplit pattern.now bytes.now (bytes.now ∷ []) }
 {

@@ -12,11 +12,11 @@ use crate::strings::windows;
 use platform_str::{OsStr, Windows};
 use wtf8_core::{DecodeWide, EncodingError, encode_wide};
 
-/// From so many bytes on they are checked and then written in blocks: 80 bytes take up to 90 ns less than
-/// unit by unit, and 16 bytes up to 50 more.
+/// Strings of at least this many bytes are checked and then written in blocks: 80 bytes take up to
+/// 90 ns less than unit by unit, and 16 bytes up to 50 more.
 const LONG: usize = 32;
 
-/// From so many units on they are counted and then written in blocks.
+/// At least this many units are counted and then written in blocks.
 const LONG_WIDE: usize = 40;
 
 /// Writes the units of the bytes into `out`, as far as there is room, and counts them. The bytes
@@ -50,8 +50,8 @@ pub extern "C" fn osb_core_to_wide(
     }
 }
 
-/// The same: checks the bytes, and then writes in blocks. It is kept apart, so that short strings pay
-/// for no more than the test of their length.
+/// Checks the bytes, and then writes their units in blocks. It is kept apart, so that short strings
+/// pay for no more than the test of their length.
 #[inline(never)]
 fn write_checked(bytes: &[u8], out: &mut [u16], count: &mut usize, fault: &mut Fault) -> u32
     ensures done { result ≡ 0 → Writes (HasUnits bytes.now) out.old out.new count.new

@@ -17,9 +17,9 @@ use crate::status::fits;
 use crate::strings::windows_word;
 use os_command_line::windows::{Argument, Arguments};
 
-/// Writes the units of a line's program's name and of its arguments into `out`, with a 0 after each, as
-/// far as there is room, and counts them: at most two for each byte of the line, and one. If the
-/// bytes are no string, the fault is their first one; `index` is that of their first NUL.
+/// Writes the units of a line's program name and of its arguments into `out`, with a 0 after each,
+/// as far as there is room. Counts the units: at most two for each byte of the line, and one. If
+/// the bytes aren't a string, the fault is their first one; `index` is that of their first NUL.
 #[unsafe(no_mangle)]
 pub extern "C" fn osb_core_windows_arguments(
     line: &[u8],

@@ -20,9 +20,9 @@ use platform_str::{OsStr, Windows};
 
 const QUOTE: u16 = 0x22;
 
-/// Writes a program's name in quotation marks into `out`, as units, as far as there is room, and counts
-/// them: at most one for each byte of the name, and two. If the bytes are no string, the fault is their
-/// first one; `index` is that of their first NUL, or of the first quotation mark.
+/// Writes a program's name in quotation marks into `out`, as units, as far as there is room. Counts
+/// the units: at most one for each byte of the name, and two. If the bytes aren't a string, the
+/// fault is their first one; `index` is that of their first NUL, or of the first quotation mark.
 #[unsafe(no_mangle)]
 pub extern "C" fn osb_core_windows_quote_name(
     name: &[u8],

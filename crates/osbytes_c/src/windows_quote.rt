@@ -24,9 +24,9 @@ const BACKSLASH: u16 = 0x5C;
 
 const QUOTE: u16 = 0x22;
 
-/// Writes the text of an argument into `out`, as units, as far as there is room, and counts them: at most
-/// two for each byte of the argument, and two. If the bytes are no string, the fault is their first
-/// one; `index` is that of their first NUL.
+/// Writes the text of an argument into `out`, as units, as far as there is room. Counts the units:
+/// at most two for each byte of the argument, and two. If the bytes aren't a string, the fault is
+/// their first one; `index` is that of their first NUL.
 #[unsafe(no_mangle)]
 pub extern "C" fn osb_core_windows_quote(
     argument: &[u8],
@@ -114,8 +114,8 @@ fn push_units(
     (len, run)
 }
 
-/// Appends a unit after so many backslashes, and returns how many units there are, and how many
-/// backslashes are last.
+/// Appends a unit after a run of backslashes. Returns the number of units, and the number of
+/// backslashes at the end.
 #[inline(always)]
 fn push_escaped(
     inside: bool,

@@ -43,7 +43,7 @@ abbrev pub BeginsTwice : List ℕ → Type 0
 BeginsTwice [] = ⊥
 BeginsTwice (a ∷ s) = (separates rules.Either a ≡ true) × BeginsWithSeparator rules.Either s
 
--- the path is no place of its own: its prefix lacks a part, or it has none and begins as one that does, or as a path of the object manager
+-- the path is incomplete as a base: its prefix lacks a part, or it has no prefix and begins as a path with such a prefix does, or as a path of the object manager
 abbrev pub LacksPart : whose.Style → List ℕ → Type 0
 LacksPart style.Unix path = ⊥
 LacksPart style.Windows path = HasOpenPrefix path ⊎ (¬ (IsPrefixed style.Windows path) × (BeginsTwice path ⊎ BeginsAsObject path))

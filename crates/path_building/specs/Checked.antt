@@ -62,7 +62,8 @@ pub record AreCheckedNames (w : whose.Style) (path : List ℕ) (names : List Ite
   pub streams : NameNoStream w items
   pub free : AreFree w items
 
--- the joined path has the components of a base that is a place of its own, its root if it is a prefix alone that begins with `\\?\`, and then the names, written with the main separator
+-- The joined path has the components of a complete base, and then the names, written with the main separator.
+-- A base that is a prefix alone and begins with `\\?\` gets its root.
 pub record IsCheckedJoin (w : whose.Style) (base path joined : List ℕ) : Type 0 where
   pub base_items : List Item
   pub names : List Item
@@ -99,7 +100,7 @@ NamesStream w path = (items : List Item) × ((names : List Item) × (LeadsInside
 abbrev pub NamesReserved : whose.Style → List ℕ → Type 0
 NamesReserved w path = (items : List Item) × ((names : List Item) × (LeadsInside w path items names × (NameNoStream w items × ¬ (AreFree w items))))
 
--- why the names of a path without NUL are refused
+-- why the names of a path without NUL are rejected
 abbrev pub IsNameFault : whose.Style → List ℕ → JoinError → Type 0
 IsNameFault w path (error.BaseNul index) = ⊥
 IsNameFault w path error.Base = ⊥
@@ -123,7 +124,7 @@ IsBaseFault w base error.Stream = ⊥
 IsBaseFault w base error.Reserved = ⊥
 IsBaseFault w base error.Memory = ⊥
 
--- the base is one, the path has no NUL, and its names are refused for this reason
+-- the base is one, the path has no NUL, and its names are rejected for this reason
 abbrev pub AreNamesRefused : whose.Style → List ℕ → List ℕ → JoinError → Type 0
 AreNamesRefused w base path e = IsBase w base × (HasNoNul path × IsNameFault w path e)
 

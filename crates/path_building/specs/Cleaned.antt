@@ -1,4 +1,4 @@
--- A path cleaned (Go's `filepath.Clean`): without `.` and without each `..` that has a name before it or stands at a root.
+-- A path cleaned (Go's `filepath.Clean`): without `.` and without each `..` that has a name before it or follows a root.
 use Rattle.std.specs.Prelude.{◌≡◌, ◌⊎◌, ℕ, List, [], ◌∷◌, reverse}
 use Rattle.path_rules.specs.declared.rules.Style.{Style}
 use Rattle.path_rules.specs.Component.{Item, Prefix, RootDir, CurDir, ParentDir, Normal}
@@ -36,7 +36,7 @@ or_dot (x ∷ xs) = x ∷ xs
 abbrev pub IsCleanForm : List Item → List Item → Type 0
 IsCleanForm items clean = (AreVerbatim items × (clean ≡ items)) ⊎ (¬ (AreVerbatim items) × ((left : List Item) × (CleansTo (reverse items) (reverse left) × (clean ≡ or_dot left))))
 
--- the answer has the clean form of the path's components, written with the main separator
+-- the result has the clean form of the path's components, written with the main separator
 pub record IsCleaned (w : Style) (path answer : List ℕ) : Type 0 where
   pub items : List Item
   pub clean : List Item

@@ -55,7 +55,7 @@ pub record IsNameExtended (w : Style) (path extension extended : List ℕ) : Typ
 abbrev pub IsKept : Style → List ℕ → List ℕ → Type 0
 IsKept w path kept = HasNoFileName w path × (kept ≡ path)
 
--- the path with this extension of its last name in the place of its own, and whether it has a last name
+-- the path with the extension of its last name replaced by this one, and whether it has a last name
 abbrev pub IsExtensionSet : Style → List ℕ → List ℕ → List ℕ → Bool → Type 0
 IsExtensionSet w path extension result is_set = (IsTrue is_set × IsStemExtended w path extension result) ⊎ ((is_set ≡ false) × IsKept w path result)
 

@@ -19,7 +19,7 @@ AreVerbatim (CurDir ∷ xs) = ⊥
 AreVerbatim (ParentDir ∷ xs) = ⊥
 AreVerbatim (Normal s ∷ xs) = ⊥
 
--- a name that by itself begins with a prefix
+-- a name that alone begins with a prefix
 abbrev pub IsReadAsPrefix : Style → List ℕ → Type 0
 IsReadAsPrefix style.Unix s = ⊥
 IsReadAsPrefix style.Windows s = (kind : Kind) × ((rest : List ℕ) × IsPrefixOf s kind rest)
@@ -41,7 +41,7 @@ IsShielded w items shown = (BeginsAsPrefix w items × (shown ≡ CurDir ∷ item
 abbrev pub IsNormalForm : List Item → List Item → Type 0
 IsNormalForm items normal = (AreVerbatim items × (normal ≡ items)) ⊎ (¬ (AreVerbatim items) × AreNormalOf items normal)
 
--- the answer has the normal form of the path's components, written with the main separator
+-- the result has the normal form of the path's components, written with the main separator
 pub record IsNormalized (w : Style) (path answer : List ℕ) : Type 0 where
   pub items : List Item
   pub normal : List Item

@@ -59,7 +59,7 @@ pub record IsWhole (w : Style) (path r : List ℕ) : Type 0 where
   pub form : (AreVerbatim items × CleansTo (reverse items) (reverse shown)) ⊎ (¬ (AreVerbatim items) × (shown ≡ items))
   pub answers : IsPathOf w shown r
 
--- what is left of a path and of a base, of which both or neither is absolute
+-- what is left of a path and of a base, where both or neither are absolute
 pub record AreLeft (w : Style) (path base : List ℕ) (us vs : List Item) : Type 0 where
   pub items : List Item
   pub base_items : List Item
@@ -70,7 +70,8 @@ pub record AreLeft (w : Style) (path base : List ℕ) (us vs : List Item) : Type
   pub apart : AreApart items base_items us left
   pub wanted : vs ≡ without_dot left
 
--- the way from the base: the whole path where what is left of it begins with a prefix or a root; else a `..` for each component that is left of the base, but for a `.` at its start, and then what is left of the path
+-- The relative path is the whole path where what is left of it begins with a prefix or a root.
+-- Else it is a `..` for each component that is left of the base, except a `.` at its start, and then what is left of the path.
 abbrev pub IsWay : Style → List ℕ → List Item → List Item → List ℕ → Type 0
 IsWay w path us vs r = (BeginsAtTop us × IsWhole w path r) ⊎ (¬ (BeginsAtTop us) × AreWritten w (up_from vs ++ us) r)
 
@@ -88,7 +89,7 @@ pub record IsRelativeWay (w : Style) (path base r : List ℕ) : Type 0 where
 abbrev pub IsCandidate : Style → List ℕ → List ℕ → List ℕ → Type 0
 IsCandidate w path base r = IsAbsoluteAlone w path base r ⊎ IsRelativeWay w path base r
 
--- there is no way from an absolute base to a path that isn't, nor from a base of which a `..` is left first
+-- there is no relative path from an absolute base to a path that isn't, nor from a base whose first component left is a `..`
 abbrev pub HasNoWay : Style → List ℕ → List ℕ → Type 0
 HasNoWay w path base = (¬ (IsAbsolute w path) × IsAbsolute w base) ⊎ ((us : List Item) × ((vs : List Item) × (AreLeft w path base us vs × BeginsUp vs)))
 

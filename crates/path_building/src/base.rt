@@ -20,8 +20,8 @@ pub(crate) fn first_nul(bytes: &[u8]) -> Option<usize>
     memchr(0, bytes)
 }
 
-/// Whether a path is no place of its own: Windows takes the next name as a part of its prefix, or the
-/// path as one of another kind.
+/// Whether a Windows path is incomplete as a base. Windows then reads the next name as a part of
+/// its prefix, or the path as one of another kind.
 pub(crate) fn lacks_part(style: Style, path: &[u8]) -> bool
     ensures { IsTrue result ↔ LacksPart style path.now }
 {

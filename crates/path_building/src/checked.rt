@@ -20,7 +20,7 @@ use std::fmt;
 
 /// Why [`join_checked`] returns no path.
 ///
-/// Its text says it to a person. It has no width: `{:>99}` writes what `{}` does.
+/// It prints as a message for a person. It has no width: `{:>99}` writes what `{}` does.
 ///
 /// ```
 /// use path_building::JoinError;
@@ -34,8 +34,8 @@ use std::fmt;
 pub enum JoinError {
     /// The byte index of the first NUL of the base.
     BaseNul(usize),
-    /// The Windows base is no place of its own: its prefix lacks a part, as `\\?\UNC\server`, or it has
-    /// none and begins with two separators, as `\\server`, or with `\??\`.
+    /// The Windows base is incomplete. Its prefix lacks a part, as `\\?\UNC\server`, or it has no
+    /// prefix and begins with two separators, as `\\server`, or with `\??\`.
     Base,
     /// The byte index of the first NUL of the path.
     Nul(usize),
@@ -89,27 +89,35 @@ impl From<AllocError> for JoinError {
     }
 }
 
-/// A path below a base, in new memory, for names that come out of an archive or a request
-/// (typed-path's `join_checked`): the base's components, and after them the names of the path, in
-/// which `.` and `..` are resolved, written with the main separator.
+/// Joins a path to a base that it can't leave, in new memory (typed-path's `join_checked`). It is
+/// meant for names that come out of an archive or a request. The result has the base's components,
+/// then the names of the path, in which `.` and `..` are resolved. It is written with the main
+/// separator.
 ///
-/// The path is rejected if it has a NUL, a prefix or a root, or if a `..` would leave the base; on
-/// Windows also if one of its names has a colon or is reserved, even if a `..` takes that name away.
-/// A base with a NUL is rejected, and on Windows one that is no place of its own, since a name would
-/// belong to its prefix, as to that of `\\server`. A base that is a prefix alone and begins with
-/// `\\?\`, as `\\?\C:`, gets its root. So the result has no NUL, and begins with the base's components
-/// as its normal form does with the base's ([`crate::laws::joined_below`]): no path leaves the base
-/// unless a name is a symbolic link.
+/// The path is rejected if it has a NUL, a prefix or a root, or if a `..` would leave the base. On
+/// Windows it is also rejected if one of its names has a colon or is reserved, even if a `..`
+/// removes that name. A base with a NUL is rejected. So is an incomplete base on Windows, as
+/// `\\server`, since a name would belong to its prefix. A base that is a prefix alone and begins
+/// with `\\?\`, as `\\?\C:`, gets its root.
+///
+/// The result has no NUL and begins with the base's components. Its normal form begins with those
+/// of the base's normal form ([`crate::laws::joined_below`]). So no path leaves the base unless a
+/// name is a symbolic link.
 ///
 /// # Errors
 ///
-/// The first of these that holds: `BaseNul` with the index of the base's first NUL; `Base` if the
-/// base's prefix lacks a part, as that of `\\?\UNC\server`, or if it has no prefix and begins with
-/// two separators, as `\\server`, or with `\??\`; `Nul` with the index of the path's first NUL;
-/// `Prefix` if the path has a prefix; `Root` if it has a root; `Leaves` if a `..` has no name of the
-/// path before it to take away, as in `..` and `a/../..`; `Stream` if a name of a Windows path has a
-/// colon, as `a:b`; `Reserved` if one is reserved, as `nul.txt` ([`path_rules::is_reserved`]);
-/// `Memory` if an allocation fails.
+/// The first of these that holds:
+///
+/// - `BaseNul` with the index of the base's first NUL.
+/// - `Base` if the base's prefix lacks a part, as that of `\\?\UNC\server`, or if it has no prefix
+///   and begins with two separators, as `\\server`, or with `\??\`.
+/// - `Nul` with the index of the path's first NUL.
+/// - `Prefix` if the path has a prefix.
+/// - `Root` if the path has a root.
+/// - `Leaves` if a `..` has no name of the path before it to remove, as in `..` and `a/../..`.
+/// - `Stream` if a name of a Windows path has a colon, as `a:b`.
+/// - `Reserved` if a name is reserved, as `nul.txt` ([`path_rules::is_reserved`]).
+/// - `Memory` if an allocation fails.
 ///
 /// ```
 /// use path_building::{JoinError, join_checked};

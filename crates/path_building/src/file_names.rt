@@ -15,7 +15,7 @@ use std::alloc::{AllocError, Allocator};
 ///
 /// # Errors
 ///
-/// `AllocError` if the memory is refused.
+/// `AllocError` if an allocation fails.
 ///
 /// ```
 /// use path_building::with_file_name;
@@ -37,12 +37,12 @@ pub fn with_file_name<A: Allocator + Clone>(
     join(alloc, style, name_base(style, path), name)
 }
 
-/// Gives a path another last name, in place (std's `PathBuf::set_file_name`): what
-/// [`with_file_name`] answers.
+/// Replaces the last name of a path, in place (std's `PathBuf::set_file_name`). The result is that
+/// of [`with_file_name`].
 ///
 /// # Errors
 ///
-/// `AllocError` if the memory is refused; the path is then as it was.
+/// `AllocError` if an allocation fails; the path is then unchanged.
 ///
 /// ```
 /// use path_building::set_file_name;
@@ -68,12 +68,12 @@ pub fn set_file_name<A: Allocator + Clone>(
 /// A path with another extension of its last name, in new memory (std's `Path::with_extension`).
 ///
 /// What comes after the stem of the last name is replaced by a dot and the extension, and by
-/// nothing if the extension is empty. A path that doesn't end in a name is answered as it is. No
+/// nothing if the extension is empty. A path that doesn't end in a name is returned unchanged. No
 /// byte of the extension separates (test: [`path_rules::is_extension_text`]).
 ///
 /// # Errors
 ///
-/// `AllocError` if the memory is refused.
+/// `AllocError` if an allocation fails.
 ///
 /// ```
 /// use path_building::with_extension;
@@ -103,15 +103,15 @@ pub fn with_extension<A: Allocator>(
     )
 }
 
-/// Gives the last name of a path another extension, in place (std's `PathBuf::set_extension`):
-/// what [`with_extension`] answers. The answer is `false` if the path doesn't end in a name; it is
-/// then as it was.
+/// Replaces the extension of a path's last name, in place (std's `PathBuf::set_extension`). The
+/// result is that of [`with_extension`]. Returns `false` and leaves the path unchanged if it
+/// doesn't end in a name.
 ///
 /// No byte of the extension separates (test: [`path_rules::is_extension_text`]).
 ///
 /// # Errors
 ///
-/// `AllocError` if the memory is refused; the path is then as it was.
+/// `AllocError` if an allocation fails; the path is then unchanged.
 ///
 /// ```
 /// use path_building::set_extension;
@@ -142,13 +142,13 @@ pub fn set_extension<A: Allocator>(
 /// A path with an extension after its last name, in new memory (std's
 /// `Path::with_added_extension`).
 ///
-/// A dot and the extension follow the last name; an empty extension changes nothing, and a path
-/// that doesn't end in a name is answered as it is. No byte of the extension separates (test:
+/// A dot and the extension follow the last name. An empty extension changes nothing, and a path
+/// that doesn't end in a name is returned unchanged. No byte of the extension separates (test:
 /// [`path_rules::is_extension_text`]).
 ///
 /// # Errors
 ///
-/// `AllocError` if the memory is refused.
+/// `AllocError` if an allocation fails.
 ///
 /// ```
 /// use path_building::with_added_extension;
@@ -176,15 +176,15 @@ pub fn with_added_extension<A: Allocator>(
     extended(alloc, path, end, extension)
 }
 
-/// Appends an extension to the last name of a path, in place (std's `PathBuf::add_extension`): what
-/// [`with_added_extension`] answers. The answer is `false` if the path doesn't end in a name; it is
-/// then as it was.
+/// Appends an extension to the last name of a path, in place (std's `PathBuf::add_extension`). The
+/// result is that of [`with_added_extension`]. Returns `false` and leaves the path unchanged if it
+/// doesn't end in a name.
 ///
 /// No byte of the extension separates (test: [`path_rules::is_extension_text`]).
 ///
 /// # Errors
 ///
-/// `AllocError` if the memory is refused; the path is then as it was.
+/// `AllocError` if an allocation fails; the path is then unchanged.
 ///
 /// ```
 /// use path_building::add_extension;

@@ -19,16 +19,16 @@ struct Kept {
     separator: &'static [u8],
 }
 
-/// A path after another, in new memory (std's `Path::join`).
+/// Joins a path to another, in new memory (std's `Path::join`).
 ///
-/// A path with a prefix is answered itself. One with a root alone keeps the base's prefix. Any
+/// A path with a prefix is returned unchanged. One with a root alone keeps the base's prefix. Any
 /// other follows the base, after a separator unless the base is empty, ends with one, or is a drive
 /// alone as `C:`. After a base that begins with `\\?\` the path is resolved: `.` is left out, `..`
 /// takes the name before it away, and the path is written with `\` between its components.
 ///
 /// # Errors
 ///
-/// `AllocError` if the memory is refused.
+/// `AllocError` if an allocation fails.
 ///
 /// ```
 /// use path_building::join;
@@ -57,14 +57,14 @@ pub fn join<A: Allocator + Clone>(
     Ok(joined)
 }
 
-/// Appends a path to another, in place (std's `PathBuf::push`): what [`join`] answers.
+/// Appends a path to another, in place (std's `PathBuf::push`). The result is that of [`join`].
 ///
 /// It doesn't allocate if the vector has room for a separator and the path, except after a base
 /// that begins with `\\?\`.
 ///
 /// # Errors
 ///
-/// `AllocError` if the memory is refused; the base is then as it was.
+/// `AllocError` if an allocation fails; the base is then unchanged.
 ///
 /// ```
 /// use path_building::push;

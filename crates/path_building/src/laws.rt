@@ -1,5 +1,5 @@
-//! What holds of paths that are built, whatever a call answers. Each law is the contract of a
-//! function that does nothing.
+//! Properties of the paths that calls return. Each law is the contract of a function that does
+//! nothing.
 ghost use Rattle.std.specs.Prelude.{◌≡◌, ◌≢◌, ◌++◌, ◌∷◌, [], List, ℕ, Some};
 ghost use Rattle.path_rules.specs.declared.rules.Style as whose;
 ghost use Rattle.path_rules.specs.Component.{Item, Normal};
@@ -115,9 +115,9 @@ pub fn trailing_separators()
         → AreComponents style ended items }
 {}
 
-/// A base joined with what [`path_rules::strip_prefix`] gives has the path's components: on Unix always,
-/// and else where the base isn't verbatim, the joined path has the base's prefix, and the rest, read
-/// by itself, is relative and has the components that it had.
+/// A base joined with the result of [`path_rules::strip_prefix`] has the path's components. On Unix
+/// this always holds. On Windows it holds where the base isn't verbatim, the joined path has the
+/// base's prefix, and the rest, read alone, is relative and has the components that it had.
 pub fn strip_joined()
     ensures unix { (path : List ℕ) → (base : List ℕ) → (rest : List ℕ) → (joined : List ℕ)
         → (more : List Item) → IsStripped Unix path base rest more → IsJoin Unix base rest joined
@@ -130,9 +130,9 @@ pub fn strip_joined()
         → HaveTheSamePrefix style base joined → HaveAlikeComponents style path joined }
 {}
 
-/// A parent joined with the path's last name has the path's components: on Unix always, and else
-/// where the parent is neither empty nor verbatim, the joined path has its prefix, and the name, read
-/// by itself, is a relative path of this name alone.
+/// A parent joined with the path's last name has the path's components. On Unix this always holds.
+/// On Windows it holds where the parent is neither empty nor verbatim, the joined path has its
+/// prefix, and the name, read alone, is a relative path of this name only.
 pub fn parent_joined()
     ensures unix { (path : List ℕ) → (parent : List ℕ) → (name : List ℕ) → (joined : List ℕ)
         → IsParent Unix path parent → HasFileName Unix path name → IsJoin Unix parent name joined
@@ -153,12 +153,14 @@ pub fn no_object()
         → ¬ (BeginsAsObject path) }
 {}
 
-/// In a path that is written anew the main separator alone separates, but in its prefix: a Windows
-/// path has no other `/`, unless its prefix begins with `\\?\`, after which `/` is a part of a name.
-/// So are what [`crate::normalize`], [`crate::clean`] and [`crate::join_checked`] answer, what
-/// [`crate::with_style`] answers for another style, and the way to a path that isn't verbatim
-/// ([`crate::relative_from`]), unless the path is absolute and the base isn't: then the path is
-/// itself the way.
+/// A path that is written anew has no separator but the main one, except in its prefix. A Windows
+/// path has no other `/`, unless its prefix begins with `\\?\`, after which `/` is a part of a
+/// name.
+///
+/// This holds of the results of [`crate::normalize`], [`crate::clean`] and [`crate::join_checked`],
+/// and of [`crate::with_style`] for another style. It also holds of the result of
+/// [`crate::relative_from`] for a path that isn't verbatim, unless the path is absolute and the
+/// base isn't. In that case the result is the path itself.
 pub fn main_separators()
     ensures written { (style : whose.Style) → (items : List Item) → (path : List ℕ)
         → IsPathOf style items path → HasMainSeparators style path }

@@ -22,7 +22,7 @@ use std::fmt;
 
 /// Why [`normalize`] returns no path.
 ///
-/// Its text says it to a person. It has no width: `{:>99}` writes what `{}` does.
+/// It prints as a message for a person. It has no width: `{:>99}` writes what `{}` does.
 ///
 /// ```
 /// use path_building::NormalizeError;
@@ -72,9 +72,9 @@ impl From<AllocError> for NormalizeError {
 /// where no name is a symbolic link.
 ///
 /// A `.` at the start of a path without a root is kept. A path whose prefix begins with `\\?\` is
-/// not resolved: Windows takes its `.` and `..` as they are. A first name that by itself would be
-/// read as a prefix gets `.\` before it, as in `a\..\C:`, whose normal form is `.\C:`, and a root
-/// before the name `??` gets `\.` before it, since Windows reads `\??\` as it reads `\\?\`
+/// not resolved: Windows takes its `.` and `..` as they are. A first name that alone would be read
+/// as a prefix gets `.\` before it, so the normal form of `a\..\C:` is `.\C:`. A root before the
+/// name `??` gets `\.` before it, since Windows reads `\??\` as it reads `\\?\`
 /// ([`crate::laws::no_object`]). A normal form is its own ([`crate::laws::normalized_again`]).
 ///
 /// # Errors
@@ -119,14 +119,14 @@ pub fn normalize<A: Allocator + Clone>(
 /// root (Go's `filepath.Clean`, CPython's `normpath`), written with the main separator. It names the
 /// same file where no name is a symbolic link.
 ///
-/// A `..` that has neither a name nor a root before it is kept, and the empty path is `.`. It
-/// differs from [`normalize`] in these and in that a `.` at the start is left out; a path whose
-/// prefix begins with `\\?\`, a first name that would be read as a prefix and the name `??` after a
-/// root are treated as there. A clean path is its own clean form ([`crate::laws::cleaned_again`]).
+/// Unlike [`normalize`], it keeps a `..` that has neither a name nor a root before it, removes a
+/// `.` at the start, and makes the empty path `.`. A path whose prefix begins with `\\?\`, a first
+/// name that would be read as a prefix, and the name `??` after a root are treated as by
+/// [`normalize`]. A clean path is its own clean form ([`crate::laws::cleaned_again`]).
 ///
 /// # Errors
 ///
-/// `AllocError` if the memory is refused.
+/// `AllocError` if an allocation fails.
 ///
 /// ```
 /// use path_building::clean;
@@ -275,7 +275,7 @@ fn go_up<A: Allocator>(names: &mut Vec<Component<&[u8]>, A>, rooted: bool) -> Re
     }
 }
 
-/// Whether the first name by itself begins with a prefix.
+/// Whether the first name alone begins with a prefix.
 pub(crate) fn begins_as_prefix(style: Style, names: &[Component<&[u8]>]) -> bool
     ensures { IsTrue result ↔ BeginsAsPrefix style (map item_of names.now) }
 {
@@ -285,7 +285,7 @@ pub(crate) fn begins_as_prefix(style: Style, names: &[Component<&[u8]>]) -> bool
     }
 }
 
-/// Whether a name by itself begins with a prefix.
+/// Whether a name alone begins with a prefix.
 pub(crate) fn is_read_as_prefix(style: Style, name: &[u8]) -> bool
     ensures { IsTrue result ↔ IsReadAsPrefix style name.now }
 {
@@ -305,8 +305,8 @@ fn has_doubled_root(style: Style, path: &[u8]) -> bool
     }
 }
 
-/// With what a path without a prefix starts, so that no prefix begins it: with `.` before a name
-/// that by itself begins with one.
+/// Returns the start of a path without a prefix, so that it isn't read with one. The start is `.`
+/// if the first name alone begins with a prefix.
 fn shielded(style: Style, start: Start, names: &[Component<&[u8]>]) -> Start
     ensures shield { IsShielded style (start_items start ++ map item_of names.now)
         (start_items result ++ map item_of names.now) }
@@ -347,7 +347,7 @@ pub(crate) fn is_root(start: Start) -> bool
     }
 }
 
-/// With what a clean path starts: with `.` where it would be empty, and as [`shielded`] says.
+/// Returns the start of a clean path: `.` where it would be empty, and else as [`shielded`].
 fn clean_start(style: Style, head: Head<'_>, names: &[Component<&[u8]>]) -> Start
     requires { head.prefix.now ≢ [] → ¬ (head.start ≡ Dot) }
     ensures shield { IsShielded style

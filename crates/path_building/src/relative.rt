@@ -1,4 +1,4 @@
-//! A path as it is reached from a base.
+//! A path relative to a base.
 ghost use Rattle.std.specs.Prelude.{◌≡◌, ◌++◌, ◌↔◌, false, Some, map, IsTrue, IfOk, OnOk};
 ghost use Rattle.std.specs.Option.{option_map};
 ghost use Rattle.path_rules.specs.Views.{item_of};
@@ -18,23 +18,25 @@ use path_rules::parts::{Head, Start, are_alike, head_of, is_verbatim};
 use path_rules::{Component, Components, Style, is_absolute};
 use std::alloc::{AllocError, Allocator};
 
-/// The path as it is reached from a base, in new memory (the crate pathdiff's `diff_paths`): joined
-/// to the base, the answer leads to the path's place.
+/// Returns the path relative to a base, in new memory (the crate pathdiff's `diff_paths`). The base
+/// joined with the result leads to the same file as the path.
 ///
-/// The components at the start that both have are left out; then each component of the base is a
-/// `..`, but for a `.` at its start, and what is left of the path follows, written with the main
-/// separator. A path with another prefix or another root than the base's is the whole way, written
-/// with the main separator; if it begins with `\\?\`, its `.` and `..` are resolved, as they are where
-/// it is joined. A first name that by itself would be read as a prefix gets `.\` before it.
+/// The components that both begin with are left out. Each other component of the base becomes a
+/// `..`, except a `.` at its start. The remaining components of the path follow, and the result is
+/// written with the main separator.
 ///
-/// `None` if that isn't so: if the base is absolute and the path isn't, if the base goes up by a `..`
-/// where the path doesn't, or if the answer joined to the base would lead to another place, as
-/// `..\..\a` for `a` seen from `C:b`. Two paths lead to one place if what they are cleaned to is
-/// alike, without symbolic links and also after `\\?\`.
+/// A path with another prefix or another root than the base's is returned whole, written with the
+/// main separator. If it begins with `\\?\`, its `.` and `..` are resolved, as they are where it is
+/// joined. A first name that alone would be read as a prefix gets `.\` before it.
+///
+/// Returns `None` if the base is absolute and the path isn't, or if the base goes up by a `..`
+/// where the path doesn't. It also returns `None` if the base joined with the result would lead to
+/// another file, as `..\..\a` for `a` relative to `C:b`. Two paths lead to the same file if their
+/// clean forms are alike, without symbolic links and also after `\\?\`.
 ///
 /// # Errors
 ///
-/// `AllocError` if the memory is refused.
+/// `AllocError` if an allocation fails.
 ///
 /// ```
 /// use path_building::relative_from;
@@ -105,7 +107,7 @@ fn is_one_absolute(style: Style, path: &[u8], base: &[u8]) -> bool
     is_absolute(style, base)
 }
 
-/// The way to a path, of which these components are left, and these of the base.
+/// Returns the relative path, given the components that are left of the path and of the base.
 fn way<A: Allocator + Clone>(
     alloc: A,
     style: Style,

@@ -16,7 +16,7 @@ use std::fmt;
 
 /// Why [`with_style`] returns no path.
 ///
-/// Its text says it to a person. It has no width: `{:>99}` writes what `{}` does.
+/// It prints as a message for a person. It has no width: `{:>99}` writes what `{}` does.
 ///
 /// ```
 /// use path_building::StyleError;
@@ -66,7 +66,7 @@ impl From<AllocError> for StyleError {
 
 /// The path of another style with the same components, in new memory (typed-path's
 /// `with_encoding`): the root, `.`, `..` and the names, written with the main separator. A path of
-/// the same style is answered as it is.
+/// the same style is returned unchanged.
 ///
 /// A root before the name `??` gets `\.` before it on Windows, which reads `\??\` as it reads `\\?\`
 /// ([`crate::laws::no_object`]). A name may still be one that Windows keeps for itself

@@ -6,15 +6,16 @@ use crate::joining::join;
 use path_rules::Style;
 use std::alloc::{AllocError, Allocator};
 
-/// The path with a separator at its end, in new memory (std's `Path::with_trailing_sep`); in place
-/// [`crate::push`] of an empty path is the same.
+/// The path with a separator at its end, in new memory (std's `Path::with_trailing_sep`). To do
+/// this in place, [`crate::push`] an empty path.
 ///
-/// A path that ends with a separator is answered as it is, and so are an empty one and a drive
-/// alone as `C:`, which a separator would give a root ([`crate::laws::trailing_separators`]).
+/// A path that ends with a separator is returned unchanged, and so is an empty path. A drive alone,
+/// as `C:`, is unchanged too, since a separator would give it a root
+/// ([`crate::laws::trailing_separators`]).
 ///
 /// # Errors
 ///
-/// `AllocError` if the memory is refused.
+/// `AllocError` if an allocation fails.
 ///
 /// ```
 /// use path_building::with_trailing_sep;

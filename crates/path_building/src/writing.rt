@@ -12,7 +12,8 @@ use path_rules::parts::Start;
 use path_rules::{Component, Prefix, Style, windows_prefix};
 use std::alloc::{AllocError, Allocator};
 
-/// A path of a prefix, a start and names, in memory for so many bytes, or for more if it has more.
+/// Writes a path of a prefix, a start and names. It allocates `capacity` bytes, and more if the
+/// path is longer.
 pub(crate) fn written<A: Allocator>(
     alloc: A,
     capacity: usize,

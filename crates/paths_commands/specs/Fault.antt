@@ -13,10 +13,10 @@ refusal_text NoRelativePath = codes "no path from the base leads there"
 refusal_text (NoComponent index) = codes "no path there can have the component at index " ++ decimal index
 refusal_text (NoStringThere error) = codes "no path there: " ++ fault_text error
 
--- the words ask for no command
+-- the arguments make up no command
 abbrev pub usage : Usage
 usage = record {}
 
--- what the program prints of words that ask for no command
+-- what the program prints for arguments that make up no command
 abbrev pub usage_text : List ℕ
 usage_text = codes "usage: paths components|parent|name|stem|extension|normalize|clean|join|relative|convert unix|windows|wasm [BASE|PLATFORM]; paths --help tells more"

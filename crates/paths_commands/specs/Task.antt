@@ -1,4 +1,4 @@
--- What each question asks of a path, and with which faults a path is refused.
+-- What each task requests of a path, and with which faults a path is rejected.
 use Rattle.std.specs.Prelude.{◌≡◌, ◌⊎◌, ℕ, List, [], ◌∷◌, ◌++◌, codes, Some, None}
 use Rattle.std.specs.Borrow.{Bor}
 use Rattle.os_str_bytes.specs.Platform.{Ghosts}
@@ -27,7 +27,7 @@ use Rattle.paths_commands.specs.declared.fault.Refusal.TheVariants as refusal
 use Rattle.paths_commands.specs.declared.task.Task.{Task}
 use Rattle.paths_commands.specs.declared.task.Task.TheVariants.{Components, Parent, Name, Stem, Extension, Normalize, Clean, Join, Relative, Convert}
 
--- the word that asks this of each path
+-- the argument that requests this of each path
 abbrev pub task_word : Task → List ℕ
 task_word Components = codes "components"
 task_word Parent = codes "parent"
@@ -61,7 +61,7 @@ component_text style CurDir = codes "."
 component_text style ParentDir = codes ".."
 component_text style (Normal s) = s
 
--- what answers the question: the part that is asked for, and nothing where the path has none; a form of the path, the path after a base or as it is reached from one, or a path of another platform with its components
+-- the result of the task: the requested part, and nothing where the path has none. Or a form of the path, the path after a base or as it is reached from one, or a path of another platform with its components
 abbrev pub IsAnswer : Style → Task → List ℕ → List ℕ → Type 0
 IsAnswer style Components path answer = ⊥
 IsAnswer style Parent path answer = IsParent style path answer ⊎ (HasNoParent style path × (answer ≡ []))
@@ -74,7 +74,7 @@ IsAnswer style (Join base) path answer = IsJoin style base.now path answer
 IsAnswer style (Relative base) path answer = IsRelativeFrom style path base.now (Some answer)
 IsAnswer style (Convert to) path answer = (strings to).well_formed answer × IsRestyled style (style_of to) path answer
 
--- why there is no path of another platform with the path's components: it can't have one of them, or the bytes are no string of it
+-- why there is no path of another platform with the path's components: it can't have one of them, or the bytes aren't a string of it
 abbrev pub IsUnconverted : Style → Style → (List ℕ → EncodingError → Type 0) → List ℕ → Refusal → Type 0
 IsUnconverted from to is_fault path (refusal.NoString error) = ⊥
 IsUnconverted from to is_fault path refusal.NoNormalForm = ⊥
@@ -82,7 +82,7 @@ IsUnconverted from to is_fault path refusal.NoRelativePath = ⊥
 IsUnconverted from to is_fault path (refusal.NoComponent index) = IsConvertFault from to is_fault path (convert.Component index)
 IsUnconverted from to is_fault path (refusal.NoStringThere error) = IsConvertFault from to is_fault path (convert.Encoding error)
 
--- why there is no answer for a string of the platform
+-- why there is no result for a string of the platform
 abbrev pub IsUnanswered : Style → Task → List ℕ → Refusal → Type 0
 IsUnanswered style task path (refusal.NoString error) = ⊥
 IsUnanswered style task path refusal.NoNormalForm = (task ≡ Normalize) × HasNoNormalForm style path
@@ -90,7 +90,7 @@ IsUnanswered style task path refusal.NoRelativePath = (base : Bor (List ℕ)) ×
 IsUnanswered style task path (refusal.NoComponent index) = (to : Os) × ((task ≡ Convert to) × IsUnconverted style (style_of to) (strings to).first_fault path (refusal.NoComponent index))
 IsUnanswered style task path (refusal.NoStringThere error) = (to : Os) × ((task ≡ Convert to) × IsUnconverted style (style_of to) (strings to).first_fault path (refusal.NoStringThere error))
 
--- on a platform that says this of its strings, whose paths follow these rules:
+-- on a platform that states this of its strings, and whose paths follow these rules:
 module _ {E : Type 0} (p : Ghosts E) (style : Style) where
   -- the escape of each component on a line
   abbrev pub AreLines : List Item → List ℕ → Type 0
@@ -105,11 +105,11 @@ module _ {E : Type 0} (p : Ghosts E) (style : Style) where
     pub each : AreLines items lines
     pub text_is : text ≡ lines ++ 0x0A ∷ []
 
-  -- an answer with NUL
+  -- a result with NUL
   abbrev pub IsAnswered : Task → List ℕ → List ℕ → Type 0
   IsAnswered task path text = (answer : List ℕ) × (IsAnswer style task path answer × (text ≡ answer ++ 0 ∷ []))
 
-  -- what is written for a path: its components on lines, or an answer with NUL
+  -- what is written for a path: its components on lines, or a result with NUL
   abbrev pub IsPathText : Task → List ℕ → List ℕ → Type 0
   IsPathText task path text = ((task ≡ Components) × IsComponentsText path text) ⊎ IsAnswered task path text
 
@@ -117,7 +117,7 @@ module _ {E : Type 0} (p : Ghosts E) (style : Style) where
   abbrev pub IsText : Task → List ℕ → List ℕ → Type 0
   IsText task path text = p.well_formed path × IsPathText task path text
 
-  -- why a path is refused: the first fault of bytes that are no string; or that there is no answer
+  -- why a path is rejected: the first fault of bytes that aren't a string, or why there is no result
   abbrev pub IsRefusal : Task → List ℕ → Refusal → Type 0
   IsRefusal task path (refusal.NoString error) = p.first_fault path error
   IsRefusal task path refusal.NoNormalForm = IsUnanswered style task path refusal.NoNormalForm

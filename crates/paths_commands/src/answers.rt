@@ -1,4 +1,4 @@
-//! What answers a question about a path, where that is a part of the path.
+//! The results of the tasks that request a part of a path.
 ghost use Rattle.std.specs.Prelude.{◌≡◌, ◌⊎◌, ℕ, List, [], MatchOption};
 ghost use Rattle.platform_str.specs.Strings.{bytes, path_bytes};
 ghost use Rattle.path_rules.specs.Parent.{IsParent, HasNoParent};

@@ -1,4 +1,4 @@
-//! Commands, and the words that ask for them.
+//! Commands, and the arguments that make them up.
 ghost use Rattle.std.specs.Prelude.{◌≡◌, ◌≢◌, IfOk, OnErr, map, string_bytes};
 ghost use Rattle.paths_commands.specs.declared.command.Command.{Command};
 ghost use Rattle.paths_commands.specs.Command.{words_of};
@@ -7,17 +7,17 @@ use crate::fault::Usage;
 use crate::task::Task;
 use program_frame::os::Os;
 
-/// What the program is asked to do.
+/// What the program does.
 #[derive(Clone, Copy, PartialEq, Eq)]
 pub enum Command<'a> {
-    /// Reads paths of the platform, each ended by NUL, and writes what each is answered with.
+    /// Reads paths of the platform, each ended by NUL, and writes the result for each.
     Ask(Task<'a>, Os),
     /// `--help`: writes what the commands are.
     Help,
 }
 
 impl<'a> Command<'a> {
-    /// The command that the words after the program's name ask for, and nothing else. It takes no
+    /// Parses the arguments after the program's name, and nothing else, as a command. It takes no
     /// memory.
     ///
     /// # Errors

@@ -11,7 +11,7 @@ use std::fmt::Display as _;
 /// Why a path is refused.
 #[derive(Clone, Copy, PartialEq, Eq)]
 pub enum Refusal {
-    /// It is no string of the platform: the first fault of its bytes.
+    /// It isn't a string of the platform: the first fault of its bytes.
     NoString(EncodingError),
     /// It has no normal form: a `..` has no name before it to take away.
     NoNormalForm,
@@ -19,11 +19,11 @@ pub enum Refusal {
     NoRelativePath,
     /// The other platform's paths can't have the component at this index, the first such.
     NoComponent(usize),
-    /// The bytes with its components are no string of the other platform: their first fault.
+    /// The bytes with its components aren't a string of the other platform: their first fault.
     NoStringThere(EncodingError),
 }
 
-/// The words ask for no command.
+/// The arguments make up no command.
 #[derive(Clone, Copy, PartialEq, Eq)]
 pub struct Usage;
 

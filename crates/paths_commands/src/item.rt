@@ -45,7 +45,7 @@ pub fn write_item<E: PathStyle, A: Allocator + Copy>(
     }
 }
 
-/// The same for a string of the platform.
+/// Appends the result for a string of the platform.
 fn write_path<E: PathStyle, A: Allocator + Copy>(
     alloc: A,
     task: Task<'_>,
@@ -191,7 +191,7 @@ fn write_on<E: PathStyle, A: Allocator + Copy>(
     }
 }
 
-/// The same for a platform that is a type.
+/// Appends the path of another platform, where that platform is a type.
 fn write_converted<E: PathStyle, F: PathStyle, A: Allocator + Copy>(
     alloc: A,
     path: Path<'_, E>,
@@ -217,7 +217,7 @@ fn write_converted<E: PathStyle, F: PathStyle, A: Allocator + Copy>(
     }
 }
 
-/// Appends an answer and NUL.
+/// Appends a result and NUL.
 fn write_answer<A: Allocator>(
     answer: &[u8],
     output: &mut Vec<u8, A>,

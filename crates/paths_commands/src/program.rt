@@ -60,7 +60,7 @@ impl ListProgram for Paths {
     }
 }
 
-/// The answer of the run of a command.
+/// Returns the result of the run of a command.
 fn run_command<A: Allocator, R: Read, W: Write>(
     alloc: A,
     command: Command<'_>,
@@ -86,7 +86,7 @@ fn run_command<A: Allocator, R: Read, W: Write>(
     }
 }
 
-/// The answer of the run on a platform.
+/// Returns the result of the run on a platform.
 fn run_on<A: Allocator, R: Read, W: Write>(
     alloc: A,
     os: Os,

@@ -1,4 +1,4 @@
-//! What is asked of each path of the input.
+//! What the program writes for each path of the input.
 ghost use Rattle.std.specs.Prelude.{◌≡◌, ◌≢◌, ◌∷◌, [], IfSome, IfNone};
 ghost use Rattle.paths_commands.specs.Task.{rules_of, task_word, operands_of};
 ghost use Rattle.paths_commands.specs.declared.task.Task.{Task};
@@ -13,12 +13,12 @@ use program_frame::os::Os;
 use std::alloc::Allocator;
 use std::marker::PhantomData;
 
-/// What is asked of each path of the input.
+/// What the program writes for each path of the input.
 #[derive(Clone, Copy, PartialEq, Eq)]
 pub enum Task<'a> {
     /// Its components: the escape of each on a line, and an empty line after the last.
     Components,
-    /// Its parent, ended by NUL, as all answers below: without the last component.
+    /// Its parent, ended by NUL, as all results below: without the last component.
     Parent,
     /// Its last component, where that is a name.
     Name,
@@ -96,10 +96,10 @@ impl<'a> Task<'a> {
     }
 }
 
-/// What is asked of each path of a list of a platform, and how long a path may be.
+/// What the program writes for each path of a list of a platform, and how long a path may be.
 #[derive(Clone, Copy)]
 pub struct OnPlatform<'a, E> {
-    /// What is asked of each path.
+    /// What the program writes for each path.
     pub task: Task<'a>,
     /// How many bytes a path may have.
     pub max: usize,
@@ -107,7 +107,7 @@ pub struct OnPlatform<'a, E> {
 }
 
 impl<'a, E> OnPlatform<'a, E> {
-    /// The question, asked of paths of the platform of at most this many bytes.
+    /// The task for paths of the platform of at most this many bytes.
     ///
     /// ```
     /// use os_str_bytes::Unix;

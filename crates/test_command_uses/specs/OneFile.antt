@@ -28,7 +28,7 @@ pub record IsFilteredBy (A : Type 0) (content name text : List ℕ) : Type 0 whe
   pub ignored : IsIgnored files name → text ≡ []
   pub kept : ¬ (IsIgnored files name) → text ≡ name ++ 0 ∷ []
 
--- the program ends with this answer and this status: the first ignore file can't be read, or memory is refused
+-- the program ends with this result and this status: the first ignore file can't be read, or memory is refused
 abbrev pub IsUnread : Result ⊤ Fault → ℕ → Type 0
 IsUnread answer status =
     (((answer ≡ Err (Words (NoFile 1))) ⊎ (answer ≡ Err (Words (Unread 1)))) × (status ≡ 4))

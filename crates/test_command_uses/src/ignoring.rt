@@ -66,7 +66,8 @@ pub fn left_out<A: Allocator + Copy, W: Output, E: Messages>(
     execute(&names, alloc, Ok(arguments), &mut reader, writer, errors).outcome()
 }
 
-/// Filters names by a file that isn't there: nothing is read or written, and the status says so.
+/// Filters names by a file that doesn't exist: nothing is read or written, and the status reports
+/// it.
 pub fn unread<P: Eprint, A: Allocator + Copy, R: Read, W: Output, E: Messages>(
     rt: &P,
     alloc: A,

@@ -4,7 +4,7 @@ ghost use Rattle.std.specs.Prelude.{◌≡◌, ◌↔◌, false, IsTrue};
 use program_frame::marked::Marked;
 use std::io::{ErrorKind, Write};
 
-/// Whether a write of no bytes that answers `Ok` sets a writer's mark.
+/// Whether a write of no bytes that returns `Ok` sets a writer's mark.
 pub fn marked_by_no_bytes<W: Write + Drop>(writer: W) -> bool
     ensures { result ≡ false }
 {
@@ -12,7 +12,7 @@ pub fn marked_by_no_bytes<W: Write + Drop>(writer: W) -> bool
     writer.write(b"").is_ok() && writer.failed()
 }
 
-/// Whether a writer is closed after a write that answers `Ok`.
+/// Whether a writer is closed after a write that returns `Ok`.
 pub fn closed_by_no_bytes<W: Write + Drop>(writer: W) -> bool
     ensures { result ≡ false }
 {
@@ -31,7 +31,7 @@ pub fn closed_by_a_write<W: Write + Drop>(writer: W) -> (bool, bool)
     }
 }
 
-/// The same of a flush.
+/// Whether a flush fails because nobody reads any more, and whether the writer is closed after it.
 pub fn closed_by_a_flush<W: Write + Drop>(writer: W) -> (bool, bool)
     ensures { IsTrue result.0 ↔ IsTrue result.1 }
 {

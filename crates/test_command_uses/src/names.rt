@@ -247,7 +247,7 @@ pub fn line_of<E: Platform, A: Allocator, W: Write>(
     run_over::<E, A, W>(alloc, settings, name, writer)
 }
 
-/// Lists names of which the second is refused: the line of the first is written, and nothing else.
+/// Lists names where the second is rejected: the line of the first is written, and nothing else.
 pub fn line_before<E: Platform, A: Allocator, W: Write>(
     alloc: A,
     max: usize,

@@ -1,4 +1,4 @@
-//! Lists of paths: the words of commands, what one path is answered with, and one that is refused.
+//! Lists of paths: the arguments of commands, the result for one path, and one that is rejected.
 ghost use Rattle.std.specs.Prelude.{◌≡◌, ◌≢◌, ◌∷◌, ◌++◌, ◌⊎◌, [], ℕ, List, false, Some, IsOk, IfErr, OnOk, map, string_bytes};
 ghost use Rattle.std.specs.Io.KnownBytes.{Appends};
 ghost use Rattle.os_str_bytes.specs.EncodingError.{EncodingError};
@@ -60,7 +60,7 @@ fn ask<E: PathStyle, A: Allocator, W: Write>(
     run(alloc, &OnPlatform::<E>::new(task, max), &mut reader, writer)
 }
 
-/// Asks one path a question that isn't for its components: the answer is written with NUL.
+/// Runs a task other than the one for components on one path: the result is written with NUL.
 pub fn answered<E: PathStyle, A: Allocator, W: Write>(
     alloc: A,
     task: Task<'_>,
@@ -78,7 +78,7 @@ pub fn answered<E: PathStyle, A: Allocator, W: Write>(
     ask::<E, A, W>(alloc, task, 4096, path, writer)
 }
 
-/// Asks one path for its parent, which is written with NUL, or NUL alone where it has none.
+/// Writes the parent of one path with NUL, or NUL alone where it has none.
 pub fn parent_of<E: PathStyle, A: Allocator, W: Write>(
     alloc: A,
     path: &[u8],
@@ -112,7 +112,7 @@ pub fn after_base<E: PathStyle, A: Allocator, W: Write>(
     answered::<E, A, W>(alloc, Task::Join(base), path, writer)
 }
 
-/// Asks how one path is reached from a base, which is written with NUL.
+/// Writes how one path is reached from a base, with NUL.
 pub fn from_base<E: PathStyle, A: Allocator, W: Write>(
     alloc: A,
     base: &str,
@@ -129,7 +129,7 @@ pub fn from_base<E: PathStyle, A: Allocator, W: Write>(
     answered::<E, A, W>(alloc, Task::Relative(base), path, writer)
 }
 
-/// Asks for the path of another platform with one path's components, which is written with NUL.
+/// Writes the path of another platform with one path's components, with NUL.
 pub fn on_platform<E: PathStyle, A: Allocator, W: Write>(
     alloc: A,
     to: Os,
@@ -147,7 +147,7 @@ pub fn on_platform<E: PathStyle, A: Allocator, W: Write>(
     answered::<E, A, W>(alloc, Task::Convert(to), path, writer)
 }
 
-/// Asks one path for its components, which are written one a line, and an empty line after them.
+/// Writes the components of one path, one per line, and an empty line after them.
 pub fn components_of<E: PathStyle, A: Allocator, W: Write>(
     alloc: A,
     path: &[u8],
@@ -164,7 +164,8 @@ pub fn components_of<E: PathStyle, A: Allocator, W: Write>(
     ask::<E, A, W>(alloc, Task::Components, 4096, path, writer)
 }
 
-/// Asks one path: where it is refused, it is the first, with the first fault of its bytes.
+/// Runs a task on one path: where it is rejected, it is the first, with the first fault of its
+/// bytes.
 pub fn asked_one<E: PathStyle, A: Allocator, W: Write>(
     alloc: A,
     task: Task<'_>,

@@ -30,7 +30,7 @@ use std::io;
 use std::io::{Eprint, ErrorKind, Read, Write};
 use std::process::{ExitCode, Termination};
 
-/// The program where its arguments can't be had: whether it told why, and its status.
+/// The program where its arguments aren't available: whether it printed why, and its status.
 pub fn without_arguments<P: Eprint, A: Allocator, R: Read, W: Output, E: Messages>(
     rt: &P,
     alloc: A,
@@ -51,7 +51,7 @@ pub fn without_arguments<P: Eprint, A: Allocator, R: Read, W: Output, E: Message
     (told, ended.report(rt))
 }
 
-/// The program with arguments of which the first is its name.
+/// The program with arguments. The first argument is the program's name.
 pub fn with_words<R: Read, W: Output, E: Messages>(
     alloc: Global,
     words: Vec<String>,
@@ -82,7 +82,7 @@ pub fn with_arguments<A: Allocator, R: Read, W: Output, E: Messages>(
     execute(alloc, Ok(arguments), reader, writer, errors).outcome()
 }
 
-/// Whether nobody reads the program's output any more; it then has told nothing.
+/// Whether nobody reads the program's output any more; it then has printed no error.
 pub fn silent_where_closed<A: Allocator, R: Read, W: Output, E: Messages>(
     alloc: A,
     arguments: Args,
@@ -98,7 +98,7 @@ pub fn silent_where_closed<A: Allocator, R: Read, W: Output, E: Messages>(
     writer.closed()
 }
 
-/// Whether nobody reads the output of the program for names any more; it then has told nothing.
+/// Whether nobody reads the output of the program for names any more; it then has printed no error.
 pub fn names_silent_where_closed<F: Files, A: Allocator + Copy, R: Read, W: Output, E: Messages>(
     program: &Names<F>,
     alloc: A,
@@ -115,7 +115,7 @@ pub fn names_silent_where_closed<F: Files, A: Allocator + Copy, R: Read, W: Outp
     writer.closed()
 }
 
-/// The end of a run whose outcome nobody waits for: it is told nowhere.
+/// The end of a run whose outcome nobody waits for: it is printed nowhere.
 pub fn untold<F: ProgramFault, E: Write>(outcome: Result<(), F>, errors: &mut E) -> Result<(), F>
     ensures outcome { result ≡ outcome }
     ensures quiet { errors.new ≡ errors.old }
@@ -123,7 +123,8 @@ pub fn untold<F: ProgramFault, E: Write>(outcome: Result<(), F>, errors: &mut E)
     Ended::telling_unless("osbytes", true, outcome, errors).outcome()
 }
 
-/// The program for names where its arguments can't be had: whether it told why, and its status.
+/// The program for names where its arguments aren't available: whether it printed why, and its
+/// status.
 pub fn names_without_arguments<
     P: Eprint,
     F: Files,
@@ -153,7 +154,8 @@ pub fn names_without_arguments<
     (told, ended.report(rt))
 }
 
-/// The program for paths where its arguments can't be had: whether it told why, and its status.
+/// The program for paths where its arguments aren't available: whether it printed why, and its
+/// status.
 pub fn paths_without_arguments<P: Eprint, A: Allocator + Copy, R: Read, W: Output, E: Messages>(
     rt: &P,
     alloc: A,
@@ -194,7 +196,7 @@ pub fn paths_refused<A: Allocator + Copy, R: Read, W: Output, E: Messages>(
     execute_list(&Paths, alloc, Ok(arguments), reader, writer, errors).outcome()
 }
 
-/// The end of a program after a fault: whether it told it, and its status.
+/// The end of a program after a fault: whether it printed it, and its status.
 pub fn after_a_fault<F: ProgramFault, P: Eprint, E: Write>(
     rt: &P,
     program: &str,
@@ -210,7 +212,7 @@ pub fn after_a_fault<F: ProgramFault, P: Eprint, E: Write>(
     (told, ended.report(rt))
 }
 
-/// The end of a program without a fault: what it answered, and its status.
+/// The end of a program without a fault: what it returned, and its status.
 pub fn after_success<P: Eprint, E: Write>(rt: &P, errors: &mut E) -> (Result<(), Fault>, ExitCode)
     ensures outcome { IsOk result.0 }
     ensures status { exit_status result.1 ≡ 0 }

@@ -11,7 +11,7 @@ use program_frame::os::Os;
 use std::alloc::Allocator;
 use std::io::{Read, Write};
 
-/// Whether a run answers a failed read exactly where the reader is marked, and a failed write
+/// Whether a run returns a failed read exactly where the reader is marked, and a failed write
 /// exactly where the writer is.
 pub fn faults_match_marks<A: Allocator, R: Read + Drop, W: Write + Drop>(
     alloc: A,

@@ -162,7 +162,7 @@ pub fn negative_number<'a, E: Platform + 'a>(
     arguments.next()
 }
 
-/// What the next step says of a value that nothing took.
+/// What the next step returns for a value that nothing took.
 pub fn value_too_many<'s, 'a, E: Platform + 'a>(
     arguments: &mut Arguments<'s, 'a, E>,
 ) -> Result<Option<WordOf<'a, E>>, ErrorOf<'a, E>>

@@ -1,4 +1,4 @@
-//! Words that are read in one way, of which nothing is lost.
+//! Words that are read in one way only, without loss.
 ghost use Rattle.std.specs.Prelude.{◌≡◌, ◌≢◌, ◌∷◌, [], ℕ, List, Some, Ok, false};
 ghost use Rattle.std.specs.Option.{option_map};
 ghost use Rattle.platform_str.specs.Strings.{bytes};
@@ -29,7 +29,7 @@ pub fn word_and_value<'s, 'a, E: Platform + 'a>(
     (word, value)
 }
 
-/// Takes a word of which it is known how it is read; it isn't `--`, and comes before that.
+/// Takes a word when it is known how it is read. The word isn't `--`, and comes before it.
 pub fn one_word<'s, 'a, E: Platform + 'a>(
     arguments: &mut Arguments<'s, 'a, E>,
 ) -> Result<Option<WordOf<'a, E>>, ErrorOf<'a, E>>

@@ -1,9 +1,9 @@
 //! For trying: what a user of patterns, classes, arguments and command lines concludes from the public
 //! contracts alone.
 //!
-//! Each function is a caller whose contract is such a conclusion. Nothing here cites a lemma
-//! or a private word of the crates below, so that a contract or a law that says too little
-//! breaks a caller.
+//! Each function is a caller whose contract is such a conclusion. Nothing here cites a lemma or a
+//! private word of the crates below, so that a contract or a law that states too little breaks a
+//! caller.
 #![tactic(auto)]
 
 pub mod arguments;

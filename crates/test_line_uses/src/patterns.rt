@@ -1,5 +1,5 @@
-//! Path patterns: what a text stands for, the pattern of one name, the first of a set that matches,
-//! what an error prints.
+//! Path patterns: what a text is written out as, the pattern of one name, the first match of a set,
+//! and what an error prints.
 ghost use Rattle.std.specs.Prelude.{◌≡◌, ◌↔◌, ◌++◌, ◌<◌, ℕ, List, IsTrue, IfErr, IfOk, IfSome, MatchOption, MatchResult, OnOk, codes, decimal, string_bytes};
 ghost use Rattle.platform_str.specs.Strings.{bytes};
 ghost use Rattle.wildcards.specs.Sets.{IsHit};
@@ -21,7 +21,8 @@ use os_str_ext::{OsStr, Platform};
 use std::alloc::{AllocError, Allocator};
 use std::fmt::Write as _;
 
-/// Whether a path has the pattern that a text is, by what the text stands for; else why it is none.
+/// Whether a path matches the pattern of a text, by what the text is written out as, or why the
+/// text isn't a pattern.
 pub fn match_by_text<E: Platform, A: Allocator + Copy>(
     alloc: A,
     options: GlobOptions,
@@ -38,8 +39,8 @@ pub fn match_by_text<E: Platform, A: Allocator + Copy>(
     Ok(glob.is_match(path))
 }
 
-/// Whether a path is a name, asked by the pattern of that name, which is refused for want of memory
-/// alone.
+/// Whether a path is a name, found by the pattern of that name. It fails only if an allocation
+/// fails.
 pub fn is_named<E: Platform, A: Allocator + Copy>(
     alloc: A,
     name: OsStr<'_, E>,
@@ -54,7 +55,7 @@ pub fn is_named<E: Platform, A: Allocator + Copy>(
     Ok(glob.is_match(path))
 }
 
-/// Whether a path has one of the patterns of a set, by what their texts stand for.
+/// Whether a path matches one of the patterns of a set, by what their texts are written out as.
 pub fn match_by_texts<E: Platform, A: Allocator>(globs: &GlobSet<E, A>, path: OsStr<'_, E>) -> bool
     ensures { (o : GlobOptions) → (texts : List (List ℕ))
         → (meanings : AreMeanings E.well_formed (letters_of E.units) (syntax_of o) A texts

@@ -31,7 +31,8 @@ pub fn only_word<'l>(line: OsStr<'l, Unix>, specials: Specials) -> Words<'l>
     Words::new(line, specials)
 }
 
-/// The same where `$'..'` is read, of what [`quote_line`] writes.
+/// The words of a line that is the text of a name, as [`quote_line`] writes it where `$'..'` is
+/// read: this name alone.
 pub fn only_line_word<'l>(line: OsStr<'l, Unix>, specials: Specials) -> Words<'l>
     ensures { (name : List ℕ)
         → IsTextOf (language (is_refused specials) true) (bytes line.entry) name

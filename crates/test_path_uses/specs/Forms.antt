@@ -6,7 +6,7 @@ use Rattle.path_building.specs.Cleaned.{IsCleaned}
 use Rattle.test_path_uses.specs.declared.form.Form.{Form}
 use Rattle.test_path_uses.specs.declared.form.Form.TheVariants as which
 
--- the answer is the path in this form
+-- the result is the path in this form
 abbrev pub IsForm : Form → Style → List ℕ → List ℕ → Type 0
 IsForm which.Normal w path answer = IsNormalized w path answer
 IsForm which.Clean w path answer = IsCleaned w path answer

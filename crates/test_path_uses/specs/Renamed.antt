@@ -4,7 +4,7 @@ use Rattle.path_rules.specs.Component.{Item, Normal}
 use Rattle.path_rules.specs.Components.{AreUnixComponents}
 use Rattle.path_building.specs.FileName.{dotted}
 
--- the Unix path has another last name, if that is a name by itself
+-- the Unix path has another last name, if that alone is a name
 abbrev pub IsRenamed : List ℕ → List ℕ → List ℕ → Type 0
 IsRenamed path name made = (items : List Item) (last : List ℕ) → AreUnixComponents path (items ++ Normal last ∷ []) → AreUnixComponents name (Normal name ∷ []) → AreUnixComponents made (items ++ Normal name ∷ [])
 

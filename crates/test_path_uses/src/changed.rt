@@ -43,7 +43,7 @@ pub fn pushed<E: PathStyle, A: Allocator + Copy>(
     push(path, more)
 }
 
-/// Gives a Unix path another last name, which is a name by itself.
+/// Replaces the last name of a Unix path by a string that alone is a name.
 pub fn named<A: Allocator + Copy>(
     path: &mut PathBuf<Unix, A>,
     name: OsStr<'_, Unix>,
@@ -98,8 +98,8 @@ pub fn extended_again<E: PathStyle, A: Allocator>(
     add_extension(path, extension)
 }
 
-/// Gives the last name another extension, if the test says that no byte of it separates: nothing is
-/// asked of the caller.
+/// Replaces the extension of the last name, if the test finds that no byte of it separates. The
+/// call has no precondition.
 pub fn extended_by_any<E: PathStyle, A: Allocator>(
     path: &mut PathBuf<E, A>,
     extension: OsStr<'_, E>,

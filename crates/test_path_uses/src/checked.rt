@@ -30,7 +30,7 @@ pub fn unpacked<'a, E: PathStyle + 'a, A: Allocator + Copy>(
     folder.join_checked(alloc, name)
 }
 
-/// The same on Windows.
+/// A file of an archive below a folder on Windows, as [`unpacked`].
 pub fn unpacked_on_windows<A: Allocator + Copy>(
     alloc: A,
     folder: Path<'_, Windows>,
@@ -42,7 +42,7 @@ pub fn unpacked_on_windows<A: Allocator + Copy>(
     folder.join_checked(alloc, name)
 }
 
-/// The same on Unix.
+/// A file of an archive below a folder on Unix, as [`unpacked`].
 pub fn unpacked_on_unix<A: Allocator + Copy>(
     alloc: A,
     folder: Path<'_, Unix>,
@@ -107,9 +107,8 @@ pub fn let_through<'a, E: PathStyle + 'a, A: Allocator + Copy>(
     base.join_checked(alloc, path)
 }
 
-/// Whether a path is rejected that has a NUL, a prefix or a root, leads out of the base, or has a
-/// stream's colon or a reserved name, and any path below a base that has a NUL or is no place of its
-/// own: always.
+/// Rejects each path that has a NUL, a prefix, a root, a stream's colon or a reserved name, or that
+/// leads out of the base. Rejects any path if the base has a NUL or is incomplete.
 pub fn refused<'a, E: PathStyle + 'a, A: Allocator + Copy>(
     alloc: A,
     base: Path<'a, E>,

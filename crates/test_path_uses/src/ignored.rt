@@ -9,7 +9,7 @@ ghost use Rattle.os_ignore.specs.Walks.{files_of_walk};
 use os_ignore::{Ignore, Verdict, Walk, laws};
 use std::alloc::{AllocError, Allocator};
 
-/// What one file of a tree says of a path: what its lines say, as they are written.
+/// The verdict of one file of a tree on a path: that of its lines, as they are written.
 pub fn matched_by_text<A: Allocator + Copy>(
     alloc: A,
     content: &[u8],
@@ -23,7 +23,7 @@ pub fn matched_by_text<A: Allocator + Copy>(
     Ok(ignore.matched(path, is_dir))
 }
 
-/// What files say of a path: the one thing that they do.
+/// The verdict of files on a path, which is the only one.
 pub fn one_verdict<A: Allocator + Copy>(ignore: &Ignore<A>, path: &[u8], is_dir: bool) -> Verdict
     ensures { (said : Verdict) → IsVerdict (files_of ignore.now) path.now is_dir said
         → result ≡ said }
@@ -32,8 +32,8 @@ pub fn one_verdict<A: Allocator + Copy>(ignore: &Ignore<A>, path: &[u8], is_dir:
     ignore.matched(path, is_dir)
 }
 
-/// What files say of the directory above a path that ends at this slash, and of the path: the same,
-/// if the directory is ignored.
+/// The verdicts of files on the directory above a path that ends at this slash, and on the path.
+/// They are equal if the directory is ignored.
 pub fn above_and_below<A: Allocator + Copy>(
     ignore: &Ignore<A>,
     path: &[u8],
@@ -69,7 +69,7 @@ pub fn is_decided_by_first<A: Allocator + Copy>(
     })
 }
 
-/// What files say of a path before and after a file that couldn't be added: the same.
+/// The verdicts of files on a path before and after a file that couldn't be added: they are equal.
 pub fn before_and_after<A: Allocator + Copy>(
     alloc: A,
     ignore: &mut Ignore<A>,
@@ -95,7 +95,7 @@ pub fn is_undecided<A: Allocator + Copy>(alloc: A, path: &[u8], is_dir: bool) ->
     Ignore::empty(alloc).matched(path, is_dir) == Verdict::Neither
 }
 
-/// What a walk says of a path, and what the files say of it by itself: the same.
+/// The verdict of a walk on a path, and that of the files without a walk: they are equal.
 pub fn walked<A: Allocator + Copy>(
     alloc: A,
     ignore: &Ignore<A>,

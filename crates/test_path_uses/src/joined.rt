@@ -15,9 +15,9 @@ use path_building::laws;
 use platform_str::{OsStr, Path, PathBuf, Unix};
 use std::alloc::{AllocError, Allocator};
 
-/// A path joined to a base: the components of both, where the path is relative, the base isn't
-/// verbatim, and the joined path has the base's prefix; the path itself where it has a prefix; the
-/// base's prefix and the path where it has a root alone.
+/// A path joined to a base. The result has the components of both, where the path is relative, the
+/// base isn't verbatim, and the joined path has the base's prefix. It is the path itself where the
+/// path has a prefix. It is the base's prefix and the path where the path has a root alone.
 pub fn joined<'a, E: PathStyle + 'a, A: Allocator + Copy>(
     alloc: A,
     base: Path<'a, E>,

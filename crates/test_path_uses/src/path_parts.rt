@@ -70,7 +70,7 @@ pub fn prefix_of_bytes<'a, E: PathStyle + 'a>(path: Path<'a, E>) -> Option<Path<
     path.parent()
 }
 
-/// The last name of a path of which it is known that it ends in a name.
+/// The last name of a path that is known to end in a name.
 pub fn last_name<'a, E: PathStyle + 'a>(path: Path<'a, E>) -> Option<OsStr<'a, E>>
     ensures { (items : List Item) → (name : List ℕ)
         → AreComponents E.follows (path_bytes path.entry) (items ++ Normal name ∷ [])

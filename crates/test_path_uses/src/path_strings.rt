@@ -26,7 +26,7 @@ pub fn first_string<'a, E: PathStyle + 'a>(path: Path<'a, E>) -> Option<OsStr<'a
     left.next()
 }
 
-/// The same, by the component.
+/// The first component of a path as a string, as [`first_string`], but read from the component.
 pub fn first_component<'a, E: PathStyle + 'a>(path: Path<'a, E>) -> Option<OsStr<'a, E>>
     ensures { (first : Item) → (others : List Item)
         → AreComponents E.follows (path_bytes path.entry) (first ∷ others)

@@ -14,7 +14,8 @@ use path_rules::{extension, laws, stem, windows_prefix};
 use platform_str::{OsStr, Path, Windows};
 use std::alloc::{AllocError, Allocator};
 
-/// The kind of a path's first component, of which it is known that it is a prefix: the path's own.
+/// The kind of a path's first component, which is known to be a prefix: that of the path's own
+/// prefix.
 pub fn kind_of_first(path: Path<'_, Windows>) -> Option<Prefix<OsStr<'_, Windows>>>
     ensures { (kind : Kind) → (rest : List ℕ) → IsPrefixOf (path_bytes path.entry) kind rest
         → option_map os_kind_of result ≡ Some kind }

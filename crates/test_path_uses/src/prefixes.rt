@@ -10,7 +10,7 @@ use os_path::{PathExt, PathStyle, Prefix};
 use path_rules::laws;
 use platform_str::{OsStr, Path, Unix, Windows};
 
-/// The prefix of a path of which it is known which one it has, or that it has none.
+/// The prefix of a path whose prefix is known, or `None` if the path is known to have none.
 pub fn known_prefix<'a, E: PathStyle + 'a>(path: Path<'a, E>) -> Option<Prefix<OsStr<'a, E>>>
     ensures some { (known : Kind) → HasPrefix E.follows (path_bytes path.entry) known
         → option_map os_kind_of result ≡ Some known }

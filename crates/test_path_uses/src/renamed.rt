@@ -14,7 +14,7 @@ use path_rules::laws;
 use platform_str::{OsStr, Path, PathBuf, Unix};
 use std::alloc::{AllocError, Allocator};
 
-/// A Unix path with another last name, which is a name by itself.
+/// A Unix path with its last name replaced by a string that alone is a name.
 pub fn with_name<A: Allocator + Copy>(
     alloc: A,
     path: Path<'_, Unix>,

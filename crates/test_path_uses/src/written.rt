@@ -128,7 +128,7 @@ pub fn separators_below<'a, E: PathStyle + 'a, A: Allocator + Copy>(
     base.join_checked(alloc, path)
 }
 
-/// The same of a path of another style.
+/// The main separator alone separates in a path that is converted to another style.
 pub fn separators_on<'a, E: PathStyle + 'a, F: PathStyle, A: Allocator + Copy>(
     alloc: A,
     path: Path<'a, E>,
@@ -140,7 +140,8 @@ pub fn separators_on<'a, E: PathStyle + 'a, F: PathStyle, A: Allocator + Copy>(
     path.with_style::<F, A>(alloc)
 }
 
-/// The same of the way to a path that isn't verbatim, unless the path is absolute and the base isn't.
+/// The main separator alone separates in the relative path to a path that isn't verbatim, unless
+/// the path is absolute and the base isn't.
 pub fn separators_of_way<'a, E: PathStyle + 'a, A: Allocator + Copy>(
     alloc: A,
     path: Path<'a, E>,

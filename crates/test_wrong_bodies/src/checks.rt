@@ -47,8 +47,8 @@ pub fn from_raw_vec<E: Platform, A: Allocator>(
     OsString::from_raw_vec(raw)
 }
 
-/// The bytes of a string in new memory, or their first fault, for which no memory is asked: so the
-/// program's commands read their input.
+/// The bytes of a string in new memory, or their first fault, which allocates nothing. The
+/// program's commands read their input in this way.
 pub fn copied<E: Platform, A: Allocator>(
     alloc: A,
     raw: &[u8],

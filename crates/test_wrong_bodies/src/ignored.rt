@@ -13,7 +13,7 @@ pub fn read_ignore<A: Allocator + Copy>(alloc: A, file: &[u8]) -> Result<Ignore<
     Ignore::new(alloc, file)
 }
 
-/// What files say of a path, which has this index.
+/// The verdict of files on a path, which has this index.
 pub fn matched<A: Allocator + Copy>(
     ignore: &Ignore<A>,
     path: &[u8],

@@ -25,7 +25,7 @@ pub fn run_over<A: Allocator, W: Write>(
     run(alloc, command, &mut reader, writer)
 }
 
-/// A run, which answers a failed read exactly where the reader is marked.
+/// A run, which returns a failed read exactly where the reader is marked.
 pub fn run_once<A: Allocator, R: Read, W: Write>(
     alloc: A,
     command: Command<'_>,

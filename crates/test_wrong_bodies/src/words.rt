@@ -6,7 +6,7 @@ ghost use Rattle.osbytes_commands.specs.declared.command.Command.{Command};
 use osbytes_commands::command::Command;
 use osbytes_commands::fault::Fault;
 
-/// The command that words ask for.
+/// The command that words make up.
 pub fn parse(words: &[String]) -> Result<Command<'_>, Fault>
     ensures command { IfOk result (λ command. map string_bytes words.now ≡ words_of command) }
     ensures no_command { OnErr result ((command : Command)

@@ -6,7 +6,7 @@ use std::fmt;
 
 /// The index of the first NUL of a name. No argument of a program has one.
 ///
-/// Its text says it to a person. It has no width: `{:>99}` writes what `{}` does.
+/// It prints as a message for a person. It has no width: `{:>99}` writes what `{}` does.
 ///
 /// ```
 /// use os_command_line::shell::NulError;

@@ -24,9 +24,9 @@ pub enum FaultKind {
 
 /// Why [`Words`](crate::shell::Words) gives no further word.
 ///
-/// Its text says it to a person: `unclosed single quote`, `unclosed double quote`, `unclosed
-/// dollar-single-quote`, `trailing backslash`, `special character` or `unknown escape`, and the index.
-/// It has no width: `{:>99}` writes what `{}` does.
+/// It prints as a message for a person: `unclosed single quote`, `unclosed double quote`,
+/// `unclosed dollar-single-quote`, `trailing backslash`, `special character` or `unknown escape`,
+/// and the index. It has no width: `{:>99}` writes what `{}` does.
 ///
 /// ```
 /// use os_command_line::shell::{FaultKind, WordsFault};

@@ -30,7 +30,7 @@ use wtf8_core::push_truncated;
 pub enum FishError {
     /// The byte index of the first NUL. No argument has one.
     Nul(usize),
-    /// The byte index from which on a name without NUL is no text, so that `{}` can't print it.
+    /// The byte index of the first invalid UTF-8 of a name without NUL, which `{}` can't print.
     /// [`write_quoted_fish`] writes such a name.
     NotText(usize),
 }
@@ -62,20 +62,20 @@ pub struct FishQuoted<'a> {
     text: &'a str,
 }
 
-/// A value that prints a name as a word of fish: a name that isn't empty and has only letters and digits
-/// of ASCII and `_ @ + : , . / -` as it is, any other in single quotes, in which a backslash is
-/// written before each single quote and each backslash (fish's documentation, "Quotes").
+/// Returns a value that prints a name as a word of fish. A name that isn't empty and has only
+/// letters and digits of ASCII and `_ @ + : , . / -` is printed unchanged. Any other is in single
+/// quotes, where a backslash precedes each single quote and each backslash (fish's documentation,
+/// "Quotes").
 ///
-/// No backslash comes after a byte from 0x80 on: the quotes end before it, and begin again after what it
-/// escapes, as in `'é'\''`, since in GBK, GB18030 and Shift-JIS the two may be one character. So fish may
-/// read it in UTF-8, GBK, GB18030, Big5, Shift-JIS, the EUCs and each charset of one byte (`IsFishText`
-/// says which charsets). fish keeps characters: of two codes that a charset has for one character it
-/// passes one on, as in Big5.
+/// No backslash comes after a byte from 0x80 on: the quotes end before it, and begin again after
+/// what it escapes, as in `'é'\''`, since in GBK, GB18030 and Shift-JIS the two may be one
+/// character. So fish may read it in UTF-8, GBK, GB18030, Big5, Shift-JIS, the EUCs and each
+/// charset of one byte (`IsFishText` defines which charsets). fish keeps characters, not bytes: if
+/// a charset has two codes for one character, as Big5 has, it passes on one of them.
 ///
 /// # Errors
 ///
-/// `Nul` with the byte index of the first NUL, else `NotText` with that from which on the name is no
-/// text.
+/// `Nul` with the byte index of the first NUL, else `NotText` with that of the first invalid UTF-8.
 ///
 /// ```
 /// use os_command_line::shell::{FishError, quoted_fish};
@@ -107,17 +107,17 @@ pub fn quoted_fish(name: OsStr<'_, Unix>) -> Result<FishQuoted<'_>, FishError>
     })
 }
 
-/// Writes a name as a word of fish ([`quoted_fish`]) into a buffer, truncated if the buffer is too short
-/// for it, and returns the length of the whole word. The name may be no text: its bytes are written.
-/// What the word doesn't reach stays as it is. It doesn't allocate, and with an empty buffer only
-/// counts.
+/// Writes a name as a word of fish ([`quoted_fish`]) into a buffer, truncated if the buffer is too
+/// short, and returns the length of the whole word. The name needn't be valid UTF-8: its bytes are
+/// written. The buffer after the word is unchanged. It doesn't allocate, and with an empty buffer
+/// only counts.
 ///
 /// Three times the name's length and two is below 2^64 (test: `name.len() <= usize::MAX / 3 - 1`). The
 /// word is never longer than that.
 ///
 /// # Errors
 ///
-/// `NulError` with the byte index of the first NUL; the buffer is then as it was.
+/// `NulError` with the byte index of the first NUL; the buffer is then unchanged.
 ///
 /// ```
 /// use os_command_line::shell::write_quoted_fish;

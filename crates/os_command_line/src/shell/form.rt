@@ -86,7 +86,7 @@ pub(crate) fn line_form_of(name: OsStr<'_, Unix>) -> Result<Form, NulError>
     }
 }
 
-/// Whether a name is a text, each character of which stays on the line.
+/// Whether a name is valid UTF-8 and each of its characters stays on the line.
 pub(crate) fn is_line_text(name: OsStr<'_, Unix>) -> bool
     ensures { IsTrue result ↔ IsLineText (bytes name.entry) }
 {
@@ -144,7 +144,8 @@ pub(crate) fn cut_at_quote(bytes: &[u8]) -> Option<(&[u8], &[u8])>
     Some((&bytes[..at], &bytes[at + 1..]))
 }
 
-/// The same of a text.
+/// Returns the parts of a text before and after its first single quote, as [`cut_at_quote`] does
+/// for bytes.
 pub(crate) fn split_at_quote(text: &str) -> Option<(&str, &str)>
     ensures cut { MatchOption result (HasNoQuote text.now)
         (λ parts. IsCutAtQuote text.now parts.0.now parts.1.now) }

@@ -13,16 +13,17 @@ use crate::shell::owned::{push_first, push_next, unix_string};
 use platform_str::{OsStr, OsString, Unix};
 use std::alloc::{AllocError, Allocator};
 
-/// Returns a line of the words of these names ([`quote`](crate::shell::quote)), a space between them:
-/// what a shell reads from it is these names. The line of no name is empty. (Of texts, `join` of the
-/// crates shlex and shell-words.)
+/// Returns a line of the words of these names ([`quote`](crate::shell::quote)), separated by
+/// spaces. A shell reads these names from it. The line of no names is empty. (The crates shlex and
+/// shell-words have `join` for texts.)
 ///
-/// A shell takes the first word for the command. A name that some shell wouldn't run there, as `if`,
-/// `time` or `select`, is quoted in that position alone, for a quoted word is no reserved word and no
-/// alias (POSIX.1-2024, Shell Command Language, 2.4 and 2.3.1). These are the reserved words of POSIX,
-/// bash, ksh93, mksh, zsh, busybox and yash, the aliases that mksh and zsh begin with, and each name
-/// that ends with a colon. A builtin of the shell, as `cd` or zsh's `noglob`, is one with quotes, too,
-/// and so is a function; an alias that a user defined isn't known here.
+/// A shell takes the first word for the command. A name that some shell wouldn't run there, as
+/// `if`, `time` or `select`, is quoted in that position alone. A quoted word is neither a reserved
+/// word nor an alias (POSIX.1-2024, Shell Command Language, 2.4 and 2.3.1). Quoted there are the
+/// reserved words of POSIX, bash, ksh93, mksh, zsh, busybox and yash, the aliases that mksh and zsh
+/// begin with, and each name that ends with a colon. A builtin of the shell, as `cd` or zsh's
+/// `noglob`, is still run when it is quoted, and so is a function. An alias that a user defined
+/// isn't known here.
 ///
 /// # Errors
 ///
@@ -85,7 +86,7 @@ fn push_after<A: Allocator>(
     Ok(())
 }
 
-/// The first name after so many others.
+/// Returns the name at `index`, or `None`.
 fn name_after<'a>(names: &[OsStr<'a, Unix>], index: usize) -> Option<OsStr<'a, Unix>>
     ensures first { MatchOption result (drop index (map bytes names.now) ≡ [])
         (λ name. drop index (map bytes names.now)

@@ -3,19 +3,23 @@
 /// What a reader does with a byte that some shell gives a meaning of its own.
 #[derive(Clone, Copy, Debug, PartialEq, Eq)]
 pub enum Specials {
-    /// It is a fault. So what is read is the same words, as arguments, in each POSIX shell (dash, bash,
-    /// zsh, ksh93, mksh, busybox, posh, yash), in a script or at a prompt: nothing in them is expanded
-    /// or taken from a history, and no operator and no comment ends them.
+    /// It is a fault. So each POSIX shell (dash, bash, zsh, ksh93, mksh, busybox, posh, yash) reads
+    /// the same words as arguments, in a script or at a prompt. Nothing in them is expanded or
+    /// taken from a history, and no operator or comment ends them.
     ///
     /// Outside quotes these are `| & ; < > ( ) $ * ? [ { } ~ !`, a grave accent and a carriage return,
     /// and `# = ^` where they are first in a word; in double quotes `$`, a grave accent and `!`, also
     /// after a backslash. (Where a history is read, bash and zsh expand `!`, and `^` first on a line;
     /// a carriage return is a blank to fish, and ends a line that is pasted into a terminal.)
     ///
-    /// It promises nothing for a shell in a locale that isn't C or UTF-8; for blanks beyond ASCII, as
-    /// U+3000, which are part of a word here and separate words in yash (POSIX 2.3 leaves them to the
-    /// locale); for options that give more bytes a meaning, as zsh's `extendedglob`; for what the first
-    /// word does, which may be a reserved word or an alias; and for fish and csh, whose escapes differ.
+    /// It promises nothing in these cases:
+    ///
+    /// - A shell in a locale that isn't C or UTF-8.
+    /// - Blanks beyond ASCII, as U+3000. They are part of a word here and separate words in yash;
+    ///   POSIX 2.3 leaves them to the locale.
+    /// - Options that give more bytes a meaning, as zsh's `extendedglob`.
+    /// - What the first word does, which may be a reserved word or an alias.
+    /// - fish and csh, whose escapes differ.
     Refused,
     /// It means itself.
     Kept,

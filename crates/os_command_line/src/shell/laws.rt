@@ -30,10 +30,10 @@ pub fn parts()
         → IsRead l line items → AreLineParts line items }
 {}
 
-/// The word of a name is read as the name in each language, whatever blank or end comes after it, and a
-/// text that is read so is read as no other, and is a line of this word alone; names with equal words
-/// are equal; a line of the words of
-/// names is read as these names and has no fault, also where the first is quoted if it is reserved.
+/// The word of a name is read as the name in each language, whatever blank or end comes after it. A
+/// text that is read as a name is read as no other, and is a line of this word alone. Names with
+/// equal words are equal. A line of the words of names is read as these names and has no fault,
+/// also where the first is quoted because it is reserved.
 pub fn words()
     ensures read { (l : Language) → (name : List ℕ) → AreBytes name
         → IsTextOf l (quoted_word name) name }
@@ -49,9 +49,10 @@ pub fn words()
         → AreWords l (join_words (line_words names)) names }
 {}
 
-/// The word of a name on one line is a text, each character of which stays on the line, and no other
-/// name has it. It is read as the name, whatever blank or end comes after it: in each language where each
-/// character of the name stays on the line, and else where `$'..'` is read.
+/// The word of a name on one line is valid UTF-8, each of its characters stays on the line, and no
+/// other name has it. It is read as the name, whatever blank or end comes after it. If each
+/// character of the name stays on the line, each language reads it so, and else each language with
+/// `$'..'`.
 pub fn line_words()
     ensures stays { (name : List ℕ) → (text : List ℕ) → AreBytes name → IsLineWord name text
         → IsLineText text }

@@ -15,9 +15,9 @@ use platform_str::{OsStr, OsString, Unix};
 use std::alloc::{AllocError, Allocator};
 
 /// Returns the word that every POSIX shell reads as this name: the bytes that
-/// [`write_quoted`](crate::shell::write_quoted) writes (of a text, `quote` of the crates shlex and
-/// shell-words). It makes one request, of the word's length. For which locales and positions it is, says
-/// [`quoted`](crate::shell::quoted).
+/// [`write_quoted`](crate::shell::write_quoted) writes. (The crates shlex and shell-words have
+/// `quote` for texts.) It makes one allocation, of the word's length.
+/// [`quoted`](crate::shell::quoted) documents the locales and positions in which the word is read.
 ///
 /// # Errors
 ///

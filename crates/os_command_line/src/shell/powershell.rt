@@ -60,12 +60,14 @@ pub struct PowerShellQuoted<'a> {
     text: &'a str,
 }
 
-/// A value that prints a name as a single-quoted string of PowerShell: in single quotation marks, in
-/// which each single quotation mark is doubled (about_Quoting_Rules). The typographic marks U+2018 to
-/// U+201B are doubled too, since PowerShell takes each of them for a single quotation mark.
+/// Returns a value that prints a name as a single-quoted string of PowerShell. Within its single
+/// quotation marks each single quotation mark is doubled (about_Quoting_Rules). The typographic
+/// marks U+2018 to U+201B are doubled too, since PowerShell takes each of them for a single
+/// quotation mark.
 ///
-/// It is always in quotation marks: as an argument a bare word may be read as a parameter, a number or
-/// a list. Which rules PowerShell has is taken from its documentation; none was asked.
+/// It is always in quotation marks: as an argument a bare word may be read as a parameter, a number
+/// or a list. The rules are those of PowerShell's documentation, and aren't tested with PowerShell
+/// itself.
 ///
 /// # Errors
 ///
@@ -105,7 +107,7 @@ pub fn quoted_powershell(name: OsStr<'_, Windows>) -> Result<PowerShellQuoted<'_
 ///
 /// # Errors
 ///
-/// As [`quoted_powershell`]; the buffer is then as it was.
+/// As [`quoted_powershell`]; the buffer is then unchanged.
 ///
 /// ```
 /// use os_command_line::shell::write_quoted_powershell;

@@ -14,26 +14,27 @@ use platform_str::{OsStr, Unix};
 /// Returns a value that prints as a word that every POSIX shell reads as this name, for `{}` in a
 /// message. Printing it allocates nothing.
 ///
-/// A name that isn't empty and has only `A-Z a-z 0-9 _ @ + : , . / -` prints as it is, any other in
-/// single quotes, a single quote as `'\''`. Nothing in it is expanded, also not by an interactive
-/// shell. A name can still be read as an option by a program, as `-x` is. (POSIX.1-2024, Shell Command
-/// Language, 2.2.2; the crate shlex has `quote`, of a text.)
+/// A name that isn't empty and has only `A-Z a-z 0-9 _ @ + : , . / -` prints unchanged. Any other
+/// prints in single quotes, with a single quote as `'\''`. Nothing in it is expanded, not even by
+/// an interactive shell. A program can still read a name as an option, as `-x`. (POSIX.1-2024,
+/// Shell Command Language, 2.2.2; the crate shlex has `quote` for texts.)
 ///
 /// **Position.** It is read as the name where it is an argument. First on a line a word such as `if` or
 /// `time` is a reserved word: [`join`](crate::shell::join), [`push_word`](crate::shell::push_word) and
 /// [`write_quoted_first`](crate::shell::write_quoted_first) quote it there.
 ///
-/// **Locales.** The shell may read it in any charset in which tab, newline, space, `"`, `$` and `'` are
-/// part of no longer character, as UTF-8, GBK, Big5, Shift-JIS, the EUCs and each charset of one byte
-/// (`shell::laws::charset_words`). GB18030 is one too, but bash with the GNU C library takes any byte,
-/// a quote too, after a byte from 0x81 on and a digit that begin no character there: in that locale
-/// it reads back no name in quotes with such bytes, not even as its own `${name@Q}` writes it. yash
-/// reads only names that are text in its locale.
+/// **Locales.** The shell may read it in any charset in which tab, newline, space, `"`, `$` and `'`
+/// are part of no longer character. Among these are UTF-8, GBK, Big5, Shift-JIS, the EUCs and each
+/// charset of one byte (`shell::laws::charset_words`). GB18030 is one too, but bash with the GNU C
+/// library reads it differently. After a byte from 0x81 on and a digit that begin no character
+/// there, bash takes any byte with them, even a quote. In that locale it reads back no quoted name
+/// with such bytes, not even as its own `${name@Q}` writes it. yash reads only names that are text
+/// in its locale.
 ///
-/// What is printed is text, so a name that isn't UTF-8 is printed as by [`quoted_line`];
+/// What is printed is text, so a name that isn't UTF-8 is printed as by [`quoted_line`].
 /// [`write_quoted`](crate::shell::write_quoted) and [`quote`](crate::shell::quote) write its bytes.
-/// A newline or an escape character in the name is one in the word, too: for a message or a log line
-/// use [`quoted_line`].
+/// A newline or an escape character in the name is one in the word, too. For a message or a log
+/// line use [`quoted_line`].
 ///
 /// # Errors
 ///
@@ -67,11 +68,11 @@ pub fn quoted<'a>(name: OsStr<'a, Unix>) -> Result<Quoted<'a>, NulError>
 /// Returns a value that prints as a word on one line that bash, zsh, ksh93, mksh and busybox read as
 /// this name. Printing it allocates nothing.
 ///
-/// If the name is UTF-8 and each of its characters stays on the line (`os_quote::stays_on_line`), it
-/// is the word that [`quoted`] prints. Else it is `$'..'` (POSIX.1-2024, 2.2.4): `\\`, `\'`, `\n`, `\t`
-/// and `\r` for these characters, a backslash and three octal digits for each other byte that isn't
-/// text or is of a character that doesn't stay on the line, and all other characters as they are. dash,
-/// posh and yash don't read `$'..'`.
+/// If the name is UTF-8 and each of its characters stays on the line (`os_quote::stays_on_line`),
+/// it is the word that [`quoted`] prints. Else it is `$'..'` (POSIX.1-2024, 2.2.4), in which `\\`,
+/// `\'`, `\n`, `\t` and `\r` are written for these characters. Every other byte of a character that
+/// doesn't stay on the line, or of no character, is a backslash and three octal digits. All other
+/// characters are unchanged. dash, posh and yash don't read `$'..'`.
 ///
 /// No backslash comes after a byte from 0x80 on: the quotes end before it and begin again, as in
 /// `$'é'$'\n'`, since in GBK and Shift-JIS the two may be one character. So it is read as the

@@ -102,7 +102,7 @@ pub(crate) fn after_word(language: Language, text: &[u8]) -> Result<&[u8], (Faul
     }
 }
 
-/// The same, byte by byte.
+/// Returns what [`after_word`] returns, and reads the text byte by byte.
 fn after_steps(language: Language, text: &[u8]) -> Result<&[u8], (FaultKind, &[u8])>
     ensures { MatchResult result
         (λ rest. (word : List ℕ) × (outcome language text.now ≡ Word word rest.now))

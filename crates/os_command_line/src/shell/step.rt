@@ -77,7 +77,7 @@ pub(crate) fn step_at(language: Language, state: State, byte: u8, after: &[u8]) 
     }
 }
 
-/// The same outside quotes.
+/// What a byte outside quotes is.
 #[inline(always)]
 fn outside_step(language: Language, state: State, byte: u8, after: &[u8]) -> Step
     ensures { result ≡ outside_step language state byte after.now }
@@ -95,7 +95,7 @@ fn outside_step(language: Language, state: State, byte: u8, after: &[u8]) -> Ste
     }
 }
 
-/// The same where the byte is no quote, no backslash and no blank.
+/// What a byte outside quotes is that is neither a quote nor a backslash nor a blank.
 #[inline(always)]
 fn bare_step(language: Language, state: State, byte: u8, after: &[u8]) -> Step
     ensures { result ≡ bare_step language state byte after.now }
@@ -109,7 +109,7 @@ fn bare_step(language: Language, state: State, byte: u8, after: &[u8]) -> Step
     }
 }
 
-/// The same of a backslash.
+/// What a backslash outside quotes is.
 #[inline(always)]
 fn escape_step(state: State, after: &[u8]) -> Step
     ensures { result ≡ escape_step state after.now }
@@ -152,7 +152,7 @@ fn double_step(language: Language, byte: u8, after: &[u8]) -> Step
     }
 }
 
-/// The same of a backslash.
+/// What a backslash in double quotes is.
 #[inline(always)]
 fn double_escape_step(after: &[u8]) -> Step
     ensures { result ≡ double_escape_step after.now }
@@ -183,7 +183,7 @@ fn dollar_step(byte: u8, after: &[u8]) -> Step
     }
 }
 
-/// The same of a backslash.
+/// What a backslash in dollar-single-quotes is.
 fn dollar_escape_step(after: &[u8]) -> Step
     ensures { result ≡ dollar_escape_step after.now }
 {
@@ -196,7 +196,8 @@ fn dollar_escape_step(after: &[u8]) -> Step
     }
 }
 
-/// The same where no letter comes after it: this digit and two more, or a fault.
+/// What a backslash in dollar-single-quotes is without a letter after it: this octal digit and two
+/// more, or a fault.
 fn octal_step(first: u8, digits: &[u8]) -> Step
     ensures { result ≡ octal_step first digits.now }
 {

@@ -72,7 +72,7 @@ fn next_byte(
     next_marked(language, state, text)
 }
 
-/// The same where each byte means itself.
+/// Returns the next byte of a word in which each byte means itself, and what comes after it.
 #[inline(always)]
 fn next_bare(state: State, text: &[u8]) -> (Option<u8>, State, &[u8])
     ensures { MatchOption result.0 ((text.now ≡ []) × (result.2.now ≡ []))
@@ -84,7 +84,8 @@ fn next_bare(state: State, text: &[u8]) -> (Option<u8>, State, &[u8])
     }
 }
 
-/// The same of a word that may have quotes.
+/// Returns the next byte of a word that may have quotes, the state after it, and what comes after
+/// it.
 #[inline(always)]
 fn next_marked(language: Language, state: State, text: &[u8]) -> (Option<u8>, State, &[u8])
     ensures { MatchOption result.0
@@ -186,7 +187,7 @@ impl<'a> Word<'a> {
     }
 
     /// Writes the word into a buffer, truncated if the buffer is too short for it, and returns the
-    /// length of the whole word. What the word doesn't reach stays as it is. It doesn't allocate, and
+    /// length of the whole word. The buffer after the word is unchanged. It doesn't allocate, and
     /// with an empty buffer only counts.
     ///
     /// ```

@@ -40,19 +40,19 @@ impl<'a> Model for Words<'a> {
 }
 
 impl<'a> Words<'a> {
-    /// The words of a line as `sh` reads it, where nothing is expanded (POSIX.1-2024, Shell Command
-    /// Language, 2.2 and 2.3; of a text, the crates shlex and shell-words have `split`). Quotes and what
-    /// escapes a byte aren't part of a word.
+    /// Iterates over the words of a line as `sh` reads it, where nothing is expanded (POSIX.1-2024,
+    /// Shell Command Language, 2.2 and 2.3). Quotes, and backslashes that escape a byte, aren't
+    /// part of a word. (The crates shlex and shell-words have `split` for texts.)
     ///
     /// - Words are separated by spaces, tabs and newlines outside quotes.
     /// - In single quotes each byte means itself.
     /// - In double quotes a backslash before `$`, a grave accent, `"` or `\` escapes it; before
     ///   another byte it means itself.
     /// - Outside quotes a backslash escapes the byte after it.
-    /// - A backslash and a newline are left out, but in single quotes, before words are told apart.
+    /// - A backslash and a newline are removed before words are separated, except in single quotes.
     ///
-    /// Variables, commands and patterns aren't expanded: a byte by which some shell would begin one is
-    /// refused or means itself, as `specials` says.
+    /// Variables, commands and patterns aren't expanded: a byte by which some shell would begin one
+    /// is rejected or means itself, as `specials` sets.
     ///
     /// Words are bytes, and a line is read alike in every locale: as a shell reads it in a charset of one
     /// byte (`shell::laws::charsets`), and in UTF-8, where no byte of ASCII is part of a longer character.
@@ -81,14 +81,15 @@ impl<'a> Words<'a> {
         Words::read(Language::new(specials, false), line)
     }
 
-    /// The same, where `$'` outside double quotes begins dollar-single-quotes (2.2.4), which end
-    /// before the next single quote that isn't escaped. A backslash and a newline between the `$` and the
-    /// quote are left out first (2.2.1).
+    /// Iterates over the words of a line as [`Words::new`], but reads `$'..'` too. `$'` outside
+    /// double quotes begins dollar-single-quotes (2.2.4), which end before the next single quote
+    /// that isn't escaped. A backslash and a newline between the `$` and the quote are removed
+    /// first (2.2.1).
     ///
     /// In them a backslash begins an escape: `\\`, `\'`, `\"`, `\a`, `\b`, `\f`, `\n`, `\r`, `\t`,
-    /// `\v`, or three octal digits from `\001` to `\377`. bash, zsh, ksh93, mksh and busybox read these
-    /// alike; what else comes after a backslash they read each in its own way, or some of them as a
-    /// NUL, and it is refused. dash and posh have no such quotes.
+    /// `\v`, or three octal digits from `\001` to `\377`. bash, zsh, ksh93, mksh and busybox read
+    /// these alike. Any other escape is rejected, since these shells read it differently or some of
+    /// them as a NUL. dash and posh have no such quotes.
     ///
     /// ```
     /// use os_command_line::shell::{Specials, Words};

@@ -29,7 +29,7 @@ use wtf8_core::push_truncated;
 ///
 /// # Errors
 ///
-/// [`NulError`] with the index of the first NUL. The buffer is then as it was.
+/// [`NulError`] with the index of the first NUL. The buffer is then unchanged.
 ///
 /// ```
 /// use os_command_line::shell::write_quoted;
@@ -57,7 +57,7 @@ pub fn write_quoted(name: OsStr<'_, Unix>, buffer: &mut [u8]) -> Result<usize, N
 ///
 /// # Errors
 ///
-/// [`NulError`] with the index of the first NUL. The buffer is then as it was.
+/// [`NulError`] with the index of the first NUL. The buffer is then unchanged.
 ///
 /// ```
 /// use os_command_line::shell::write_quoted_first;
@@ -86,7 +86,7 @@ pub fn write_quoted_first(name: OsStr<'_, Unix>, buffer: &mut [u8]) -> Result<us
 ///
 /// # Errors
 ///
-/// [`NulError`] with the index of the first NUL. The buffer is then as it was.
+/// [`NulError`] with the index of the first NUL. The buffer is then unchanged.
 ///
 /// ```
 /// use os_command_line::shell::write_quoted_line;
@@ -108,7 +108,8 @@ pub fn write_quoted_line(name: OsStr<'_, Unix>, buffer: &mut [u8]) -> Result<usi
     Ok(push_in(form, name, buffer))
 }
 
-/// The same in a form.
+/// Writes the word of a name in a form into a buffer, truncated if the buffer is too short, and
+/// returns the length of the whole word.
 pub(crate) fn push_in(form: Form, name: OsStr<'_, Unix>, buffer: &mut [u8]) -> usize
     requires { 4 * length (bytes name) + 3 < 2 ^ 64 }
     ensures { IsTruncated (form_text form (bytes name.entry)) buffer.old buffer.new result }

@@ -13,7 +13,7 @@ use std::marker::Model;
 /// An iterator over the arguments of a command line, each a view of it. After `None` it gives only
 /// `None`.
 ///
-/// It refuses no line: whatever is not closed ends with the line. It holds the rest of the line and
+/// It rejects no line: whatever is not closed ends with the line. It holds the rest of the line and
 /// allocates nothing. The first argument, the program's name, is not among its items:
 /// [`Arguments::program`] gives it.
 #[derive(Drop)]

@@ -7,17 +7,17 @@ ghost use Rattle.os_command_line.specs.WindowsSteps.{BeginsVerbatim, TakesUnit};
 
 use platform_str::{OsStr, Platform, WideUnits, Windows};
 
-/// Whether a program is a batch file by its path, so that Windows starts cmd.exe for it: whether the
-/// path ends in `.bat` or `.cmd`, in either case (std's `Command` on Windows).
+/// Whether a program is a batch file by its path, so that Windows starts cmd.exe for it. Such a
+/// path ends in `.bat` or `.cmd`, in upper or lower case (std's `Command` on Windows).
 ///
-/// Full stops and spaces at the end don't count, since Windows drops them, unless the path is verbatim:
-/// unless it begins with `\\?\` or `\??\`. std asks this of the full path, in which `.` and `..` are
-/// resolved already; ask of that one where the last component may be one of them.
+/// Full stops and spaces at the end don't count, since Windows drops them. They count in a verbatim
+/// path, which begins with `\\?\` or `\??\`. std tests the full path, in which `.` and `..` are
+/// already resolved. Pass that path if the last component may be one of them.
 ///
 /// [`command_line`](crate::windows::command_line) isn't for such a program: cmd.exe reads the line
-/// before the batch file does, by rules of its own. It replaces `%NAME%` by the value of a variable, in
-/// quotation marks too, and nothing quotes the `%`. So an argument in which `%` occurs has no text that
-/// is sure to be read as it, and nothing here writes a line for cmd.exe.
+/// before the batch file does, by rules of its own. It replaces `%NAME%` by the value of a
+/// variable, in quotation marks too, and nothing quotes the `%`. So an argument with a `%` can't be
+/// written in a line that is sure to be read as it. Nothing here writes a line for cmd.exe.
 ///
 /// ```
 /// use os_command_line::windows::needs_cmd;

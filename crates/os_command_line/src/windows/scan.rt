@@ -73,8 +73,8 @@ pub(crate) fn after_argument(text: &[u8]) -> (&[u8], bool)
     (cut.1, is_bare)
 }
 
-/// Reads a quotation mark after so many backslashes, or two marks within a quoted part: whether it is
-/// inside quotation marks then, and what comes after.
+/// Reads a quotation mark after a number of backslashes, or two marks within a quoted part. Returns
+/// whether the text after it is inside quotation marks, and that text.
 #[tactic(auto, using(crate::proofs::lemmas::WindowsScan::quote_steps))]
 #[inline(always)]
 fn after_quote(inside: bool, run: usize, after: &[u8]) -> (bool, &[u8])

@@ -75,15 +75,15 @@ pub fn push_argument<A: Allocator>(
     }
 }
 
-/// The command line of a program with these arguments: its name in quotation marks, and each argument
-/// after a space as [`push_argument`] writes it (std's `Command` on Windows). What a program reads
-/// from it is this name and these arguments.
+/// Returns the command line of a program with these arguments (std's `Command` on Windows). It is
+/// the name in quotation marks, and each argument after a space, as [`push_argument`] writes it. A
+/// program reads this name and these arguments from it.
 ///
 /// # Errors
 ///
-/// `Nul` with the index of the first NUL of the name, or else of the first argument that has one;
-/// `Quote` with the index of the first quotation mark of the name, which can't be written there;
-/// `Memory` if an allocation fails.
+/// - `Nul` with the index of the first NUL of the name, or else of the first argument that has one.
+/// - `Quote` with the index of the first quotation mark of the name, which can't be written there.
+/// - `Memory` if an allocation fails.
 ///
 /// ```
 /// use os_command_line::windows::command_line;
@@ -131,7 +131,7 @@ pub fn command_line<A: Allocator>(
     Ok(line)
 }
 
-/// The first argument after so many others.
+/// Returns the argument at `index`, or `None`.
 fn first_after<'a>(arguments: &[OsStr<'a, Windows>], index: usize) -> Option<OsStr<'a, Windows>>
     ensures first { MatchOption result (drop index (map bytes arguments.now) ≡ [])
         (λ argument. drop index (map bytes arguments.now)
@@ -233,7 +233,7 @@ fn push_units<A: Allocator>(
     Ok(run)
 }
 
-/// Appends a unit after so many backslashes, and returns how many are last now.
+/// Appends a unit after a run of backslashes, and returns the length of the run at the end now.
 #[inline(always)]
 fn push_unit<A: Allocator>(
     line: &mut Vec<u16, A>,
