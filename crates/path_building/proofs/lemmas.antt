@@ -5,11 +5,14 @@ pub mod OneJoin
 pub mod Moves
 pub mod Spelling
 pub mod Resolving
+pub mod Spellings
 pub mod Written
 pub mod AsWritten
+pub mod CleanPrefixes
 pub mod Objects
 pub mod Forms
 pub mod Again
+pub mod OneClean
 pub mod FileNames
 pub mod Bases
 pub mod Checks

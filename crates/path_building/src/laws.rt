@@ -9,7 +9,7 @@ ghost use Rattle.path_building.specs.Join.{IsVerbatimPath, IsDriveAlone, IsRelat
 ghost use Rattle.path_building.specs.Normalized.{IsNormalForm, IsNormalized};
 ghost use Rattle.path_building.specs.Base.{HasNoNul, IsVerbatimAlone};
 ghost use Rattle.path_building.specs.Checked.{IsCheckedJoin, IsBelowBase, BeginsBelow};
-ghost use Rattle.path_building.specs.Cleaned.{CleansTo, IsCleaned};
+ghost use Rattle.path_building.specs.Cleaned.{CleansTo, IsCleaned, DifferInSeparators};
 ghost use Rattle.path_rules.specs.Parent.{IsParent, HasFileName};
 ghost use Rattle.path_rules.specs.declared.rules.Style.TheVariants.{Unix, Windows};
 ghost use Rattle.path_rules.specs.Compare.{HaveAlikeComponents};
@@ -62,6 +62,15 @@ pub fn clean_forms()
 pub fn cleaned_again()
     ensures { (style : whose.Style) → (path : List ℕ) → (answer : List ℕ)
         → IsCleaned style path answer → IsCleaned style answer answer }
+{}
+
+/// Two Windows paths that differ only in which of `/` and `\` separates have one clean path, unless
+/// one of them begins with `\\?\`.
+pub fn one_clean_path()
+    ensures { (path : List ℕ) → (other : List ℕ) → (one : List ℕ) → (two : List ℕ)
+        → DifferInSeparators path other → ¬ (IsVerbatimPath Windows path)
+        → ¬ (IsVerbatimPath Windows other) → IsCleaned Windows path one
+        → IsCleaned Windows other two → one ≡ two }
 {}
 
 /// A path that was joined to a base and checked has the base's components, and after them names
