@@ -16,6 +16,8 @@ pub mod OneClean
 pub mod FileNames
 pub mod Bases
 pub mod Checks
+pub mod Resolved
+pub mod ResolvedItems
 pub mod Below
 pub mod StripJoins
 pub mod Places

@@ -15,7 +15,7 @@ ghost use Rattle.path_building.specs.Cleaned.{or_dot, spelled, IsCleaned};
 
 use crate::writing::{before_start, has_empty_share, push_after, push_spelled, written};
 use path_rules::parts::{Head, Start, head_of, is_verbatim, next_in};
-use path_rules::{Component, Rules, Style, windows_prefix};
+use path_rules::{Component, Components, Rules, Style, windows_prefix};
 use std::alloc::{AllocError, Allocator};
 use std::error::Error;
 use std::fmt;
@@ -239,6 +239,20 @@ pub(crate) fn all_names<'a, A: Allocator>(
     Ok(names)
 }
 
+/// Appends components as they are.
+pub(crate) fn add_all<'a, A: Allocator>(
+    items: &mut Vec<Component<&'a [u8]>, A>,
+    left: Components<'a>,
+) -> Result<(), AllocError>
+    ensures { OnOk result
+        (map item_of items.new.items ≡ map item_of items.old.items ++ left.entry.items) }
+{
+    for item in left {
+        items.push(item)?;
+    }
+    Ok(())
+}
+
 /// The names that are left of the components of a body, where `..` takes the name before it away;
 /// `None` if it has none.
 pub(crate) fn resolved<'a, A: Allocator>(
@@ -278,16 +292,31 @@ pub(crate) fn cleaned<'a, A: Allocator>(
         ≡ cleaned rooted [] (components_in rules body.entry.now)) }
 {
     let mut names = Vec::new(alloc);
+    add_cleaned(&mut names, rules, rooted, body)?;
+    Ok(names)
+}
+
+/// Appends the components of a body to names, as [`cleaned`] reads them.
+pub(crate) fn add_cleaned<'a, A: Allocator>(
+    names: &mut Vec<Component<&'a [u8]>, A>,
+    rules: Rules,
+    rooted: bool,
+    body: &'a [u8],
+) -> Result<(), AllocError>
+    ensures { OnOk result (reverse (map item_of names.new.items)
+        ≡ cleaned rooted (reverse (map item_of names.old.items))
+        (components_in rules body.entry.now)) }
+{
     let mut left = body;
     while let Some((item, rest)) = next_in(rules, left) {
         match item {
             Component::Normal(_) => names.push(item)?,
-            Component::ParentDir => go_up(&mut names, rooted)?,
+            Component::ParentDir => go_up(names, rooted)?,
             _ => {}
         }
         left = rest;
     }
-    Ok(names)
+    Ok(())
 }
 
 /// Takes the last name away, or adds `..` where there is none and no root.
