@@ -11,6 +11,7 @@ pub mod Objects
 pub mod Forms
 pub mod Again
 pub mod FileNames
+pub mod FileStems
 pub mod Bases
 pub mod Checks
 pub mod Below
@@ -19,6 +20,8 @@ pub mod Places
 pub mod Restyles
 pub mod NameJoins
 pub mod Trailing
+pub mod KeptEnds
+pub mod Collects
 pub mod MainSeparators
 pub mod InlineTexts
 pub mod NulFree
