@@ -11,7 +11,6 @@ import tomllib
 from functools import cache
 from typing import NamedTuple
 
-from handed_on import version
 from roff import as_roff, as_shown, page
 from sources import ROOT
 
