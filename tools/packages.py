@@ -1,7 +1,7 @@
 """What those get who have no kit: an archive of the C library, a Python package, and an archive of the programs.
 
 The first two are made of what `tools/c-library` has built in a folder: libosbytes.a, the shared object and its name. The archive
-has the header, man pages that are made of the header's comments, the pkg-config file, docs/C.md and the examples, and
+has the header, man pages that are made of the header's comments, the pkg-config file, c/GUIDE.md and the examples, and
 at its top a README, the changes and the licence. A link of a document that leads to no file of the archive is its
 words alone. The Python package is a wheel of the sources in python/osbytes with the shared object beside them. The
 archive of the programs has them, their man pages and completions, a README and the licence.
@@ -153,7 +153,7 @@ DOCUMENTS = {
     "docs/CHANGES.md": "CHANGES.md",
     "LICENSE.md": "LICENSE.md",
     "NOTICE": "NOTICE",
-    "docs/C.md": "share/doc/osbytes/C.md",
+    "c/GUIDE.md": "share/doc/osbytes/GUIDE.md",
     "c/names.c": "share/doc/osbytes/names.c",
     "c/below.c": "share/doc/osbytes/below.c",
     "c/outside.c": "share/doc/osbytes/outside.c",
