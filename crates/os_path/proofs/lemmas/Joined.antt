@@ -13,7 +13,8 @@ use Rattle.path_rules.specs.Components.{prefixed}
 use Rattle.path_rules.specs.Root.{BeginsWithSeparator}
 use Rattle.path_rules.specs.Prefix.{IsRawPrefix}
 use Rattle.path_building.specs.Join.{NeedsNoSeparator, IsJoin, replacing, resolving, at_root, after}
-use Rattle.path_building.specs.Resolved.{ResolvesTo, nothing, root, here, name, up, stays, below_root}
+use Rattle.path_building.specs.Resolved as resolved
+use Rattle.path_building.specs.Resolved.{ResolvesTo, below_root}
 use Rattle.path_building.specs.Written.{spelling, more_names, joined_names, written}
 use Rattle.path_rules.specs.Parent.{IsParent}
 use Rattle.path_rules.specs.Name.{IsStem}
@@ -101,12 +102,12 @@ module _ (formed : List ℕ → Type 0) (units : List ℕ → List ℕ) (laws : 
 
   -- components resolved, and written
   resolved_formed : {base xs ys : List Item} → ResolvesTo base xs ys → AreFormed formed base → AreFormed formed xs → AreFormed formed ys
-  resolved_formed {base} nothing b f = reversed formed base b
-  resolved_formed (root e) b f = (tt, ((subst (AreFormed formed) e b).0, tt))
-  resolved_formed (here h) b f = resolved_formed h b f.1
-  resolved_formed (name h) b f = (f.0, resolved_formed h b f.1)
-  resolved_formed (up h) b f = (resolved_formed h b f.1).1
-  resolved_formed (stays h n) b f = resolved_formed h b f.1
+  resolved_formed {base} resolved.nothing b f = reversed formed base b
+  resolved_formed (resolved.root e) b f = (tt, ((subst (AreFormed formed) e b).0, tt))
+  resolved_formed (resolved.here h) b f = resolved_formed h b f.1
+  resolved_formed (resolved.name h) b f = (f.0, resolved_formed h b f.1)
+  resolved_formed (resolved.up h) b f = (resolved_formed h b f.1).1
+  resolved_formed (resolved.stays h n) b f = resolved_formed h b f.1
 
   below_formed : (xs : List Item) → AreFormed formed xs → formed (written 0x5C (below_root xs))
   below_formed [] f = nothing_formed
