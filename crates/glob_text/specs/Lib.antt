@@ -9,6 +9,8 @@ pub mod BraceSteps
 pub mod Alternatives
 pub mod Chosen
 pub mod ChoiceSteps
+pub mod Backwards
+pub mod Sizes
 pub mod Parts
 pub mod Meaning
 pub mod Folded

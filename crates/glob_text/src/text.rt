@@ -9,6 +9,7 @@ use crate::fault::{FaultKind, PatternFault};
 use crate::fold::cased;
 use crate::mark::{Mark, marks};
 use crate::part::compile_each;
+use crate::size::is_too_large;
 use crate::symbol::{Symbol, symbols};
 use crate::syntax::Syntax;
 use std::alloc::{AllocError, Allocator};
@@ -26,6 +27,12 @@ fn compile_marks<A: Allocator + Copy>(
 {
     if let Some(fault) = brace_fault(marks) {
         return Ok(Err(fault));
+    }
+    if is_too_large(alloc, marks)? {
+        return Ok(Err(PatternFault {
+            kind: FaultKind::TooManyChoices,
+            index: 0,
+        }));
     }
     let Some(chosen) = choices(alloc, marks)? else {
         return Ok(Err(PatternFault {

@@ -5,6 +5,7 @@ pub mod Classes
 pub mod Cuts
 pub mod Groups
 pub mod LineReadings
+pub mod Nameless
 pub mod OneVerdict
 pub mod Parts
 pub mod Readings

@@ -524,6 +524,10 @@ pub trait PathExt<'a>: Sized + Copy {
     /// `??` after a root are treated as by [`PathExt::normalize`]. A clean path is its own clean form
     /// (`path_building::laws::cleaned_again`).
     ///
+    /// Any other prefix gets one spelling, in which `\` separates: `\\server\share\x` is the clean path
+    /// of itself and of `//server/share/x` (`path_building::laws::one_clean_path`). Only the prefix
+    /// `//?/share` keeps `/`, since Windows reads a path that begins with `\\?\` by other rules.
+    ///
     /// # Errors
     ///
     /// `AllocError` if an allocation fails.

@@ -79,6 +79,19 @@ cleaned_start Root = RootDir ∷ []
 cleaned_start Dot = []
 cleaned_start Nothing = []
 
+-- a path after a verbatim base: which of the base's names are kept, and with what the joined path starts
+abbrev pub kept_names : Start → List Item → List Item
+kept_names Root names = []
+kept_names Dot names = names
+kept_names Nothing names = names
+
+abbrev pub start_below : Start → Start → List Item → Start
+start_below Root start names = Root
+start_below Dot start [] = start
+start_below Dot start (x ∷ xs) = Root
+start_below Nothing start [] = start
+start_below Nothing start (x ∷ xs) = Root
+
 -- the path's components and then these names, as they are written
 pub record IsNamesAfter (w : whose.Style) (path : List ℕ) (names : List Item) (joined : List ℕ) : Type 0 where
   pub items : List Item

@@ -24,7 +24,8 @@ struct Kept {
 /// A path with a prefix is returned unchanged. One with a root alone keeps the base's prefix. Any
 /// other follows the base, after a separator unless the base is empty, ends with one, or is a drive
 /// alone as `C:`. After a base that begins with `\\?\` the path is resolved: `.` is left out, `..`
-/// takes the name before it away, and the path is written with `\` between its components.
+/// takes the name before it away, and the path is written with `\` between its components
+/// ([`crate::laws::resolved_components`]).
 ///
 /// # Errors
 ///

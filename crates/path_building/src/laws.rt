@@ -6,14 +6,16 @@ ghost use Rattle.path_rules.specs.Component.{Item, Normal};
 ghost use Rattle.path_rules.specs.Components.{AreComponents, AreUnixComponents, IsRelative};
 ghost use Rattle.path_building.specs.Normal.{AreNormalOf};
 ghost use Rattle.path_building.specs.Join.{IsVerbatimPath, IsDriveAlone, IsRelativeTo, HaveTheSamePrefix, IsJoin, without_dot};
+ghost use Rattle.path_building.specs.Resolved.{HasResolved};
 ghost use Rattle.path_building.specs.Normalized.{IsNormalForm, IsNormalized};
-ghost use Rattle.path_building.specs.Base.{HasNoNul, IsVerbatimAlone};
+ghost use Rattle.path_building.specs.Base.{HasNoNul, LacksPart, IsVerbatimAlone};
 ghost use Rattle.path_building.specs.Checked.{IsCheckedJoin, IsBelowBase, BeginsBelow};
+ghost use Rattle.path_building.specs.Cleaned.{CleansTo, IsCleaned, DifferInSeparators};
 ghost use Rattle.path_building.specs.Collected.{ArePushed};
-ghost use Rattle.path_building.specs.Cleaned.{CleansTo, IsCleaned};
 ghost use Rattle.path_rules.specs.Parent.{IsParent, HasFileName};
 ghost use Rattle.path_rules.specs.declared.rules.Style.TheVariants.{Unix, Windows};
 ghost use Rattle.path_rules.specs.Compare.{HaveAlikeComponents};
+ghost use Rattle.path_rules.specs.Prefix.{IsPrefixed};
 ghost use Rattle.path_rules.specs.Strip.{IsStripped};
 ghost use Rattle.path_rules.specs.StyleRules.{rules_of_style};
 ghost use Rattle.path_rules.specs.Trailing.{EndsWithSeparator};
@@ -65,6 +67,15 @@ pub fn cleaned_again()
         → IsCleaned style path answer → IsCleaned style answer answer }
 {}
 
+/// Two Windows paths that differ only in which of `/` and `\` separates have one clean path, unless
+/// one of them begins with `\\?\`.
+pub fn one_clean_path()
+    ensures { (path : List ℕ) → (other : List ℕ) → (one : List ℕ) → (two : List ℕ)
+        → DifferInSeparators path other → ¬ (IsVerbatimPath Windows path)
+        → ¬ (IsVerbatimPath Windows other) → IsCleaned Windows path one
+        → IsCleaned Windows other two → one ≡ two }
+{}
+
 /// A path that was joined to a base and checked has the base's components, and after them names
 /// alone: it never leaves the base. Normalized, it has the base's normal form and names after it, and
 /// it has a normal form wherever the base has one. A base that is a prefix alone and begins with
@@ -97,6 +108,16 @@ pub fn join_components()
         → AreComponents style path more → AreComponents style joined (items ++ without_dot more) }
     ensures empty { (style : whose.Style) → (path : List ℕ) → (joined : List ℕ)
         → IsJoin style [] path joined → joined ≡ path }
+{}
+
+/// After a base that begins with `\\?\` and is a whole prefix or has one, a path without a prefix is
+/// resolved: the joined path has the base's components, and after them the path's. `.` is left out,
+/// `..` takes a last name away and nothing else, and a root takes all but the prefix away.
+pub fn resolved_components()
+    ensures { (base : List ℕ) → (path : List ℕ) → (joined : List ℕ)
+        → IsVerbatimPath Windows base → ¬ (LacksPart Windows base)
+        → ¬ (IsPrefixed Windows path) → path ≢ [] → IsJoin Windows base path joined
+        → HasResolved base path joined }
 {}
 
 /// A path with a separator at its end is the path itself if that ends with one, and ends with one

@@ -1,5 +1,5 @@
 //! Normal forms of paths.
-ghost use Rattle.std.specs.Prelude.{◌≡◌, ◌≢◌, ◌++◌, [], ◌↔◌, IsTrue, reverse, map, OnOk, IfOk, IfErr};
+ghost use Rattle.std.specs.Prelude.{◌≡◌, ◌≢◌, ◌++◌, [], ◌↔◌, false, IsTrue, reverse, map, OnOk, IfOk, IfErr};
 ghost use Rattle.std.specs.Option.{option_map};
 ghost use Rattle.path_rules.specs.declared.head.Start.TheVariants.{Root, Dot, Nothing};
 ghost use Rattle.path_rules.specs.declared.rules.Rules.TheVariants.{Verbatim};
@@ -11,11 +11,11 @@ ghost use Rattle.path_building.specs.Written.{IsPathOf};
 ghost use Rattle.path_building.specs.Spelled.{resolve, cleaned, go_up, cleaned_start, AreSpelled, DoublesRoot, MayStart};
 ghost use Rattle.path_rules.specs.Prefix.{begins_verbatim};
 ghost use Rattle.path_building.specs.Normalized.{IsReadAsPrefix, BeginsAsPrefix, IsShielded, IsNormalized, IsNormalizeFault};
-ghost use Rattle.path_building.specs.Cleaned.{or_dot, IsCleaned};
+ghost use Rattle.path_building.specs.Cleaned.{or_dot, spelled, IsCleaned};
 
-use crate::writing::{before_start, has_empty_share, written};
+use crate::writing::{before_start, has_empty_share, push_after, push_spelled, written};
 use path_rules::parts::{Head, Start, head_of, is_verbatim, next_in};
-use path_rules::{Component, Rules, Style, windows_prefix};
+use path_rules::{Component, Components, Rules, Style, windows_prefix};
 use std::alloc::{AllocError, Allocator};
 use std::error::Error;
 use std::fmt;
@@ -124,6 +124,10 @@ pub fn normalize<A: Allocator + Clone>(
 /// name that would be read as a prefix, and the name `??` after a root are treated as by
 /// [`normalize`]. A clean path is its own clean form ([`crate::laws::cleaned_again`]).
 ///
+/// Any other prefix gets one spelling, in which `\` separates: `\\server\share\x` is the clean path of
+/// itself and of `//server/share/x` ([`crate::laws::one_clean_path`]). Only the prefix `//?/share` keeps
+/// `/`, since Windows reads a path that begins with `\\?\` by other rules.
+///
 /// # Errors
 ///
 /// `AllocError` if an allocation fails.
@@ -139,6 +143,8 @@ pub fn normalize<A: Allocator + Clone>(
 /// assert_eq!(rt; clean(alloc, Style::Windows, b"C:/..")?.as_slice(), br"C:\".as_slice());
 /// let path = clean(alloc, Style::Windows, b"/??/c:/x")?;
 /// assert_eq!(rt; path.as_slice(), br"\.\??\c:\x".as_slice());
+/// let path = clean(alloc, Style::Windows, b"//server/share/a/../x")?;
+/// assert_eq!(rt; path.as_slice(), br"\\server\share\x".as_slice());
 /// ```
 pub fn clean<A: Allocator + Clone>(
     alloc: A,
@@ -155,7 +161,35 @@ pub fn clean<A: Allocator + Clone>(
     let names = cleaned(alloc.clone()?, head.rules, is_root(head.start), head.body)?;
     let kept = names.as_slice();
     let start = clean_start(style, head, kept);
-    written_as(alloc, style, path, head, start, kept)
+    spelled_as(alloc, style, path, head, start, kept)
+}
+
+/// The path with this start and these names after its prefix in one spelling.
+fn spelled_as<A: Allocator>(
+    alloc: A,
+    style: Style,
+    path: &[u8],
+    head: Head<'_>,
+    start: Start,
+    names: &[Component<&[u8]>],
+) -> Result<Vec<u8, A>, AllocError>
+    requires parts { IsHead style path.now head }
+    requires other { begins_verbatim head.prefix.now ≡ false }
+    requires spelled { AreSpelled head.rules (map item_of names.now) }
+    requires none { head.rules ≡ Verbatim → head.start ≡ Nothing → map item_of names.now ≡ [] }
+    requires may_start { MayStart style head start (map item_of names.now) }
+    ensures { IfOk result (λ written. IsPathOf style
+        (map spelled (prefix_items head.entry.prefix.now)
+        ++ (start_items start ++ map item_of names.now))
+        written.items) }
+{
+    if head.prefix.is_empty() {
+        return written_as(alloc, style, path, head, start, names);
+    }
+    let mut clean = Vec::with_capacity(alloc, path.len())?;
+    push_spelled(&mut clean, head.prefix)?;
+    push_after(&mut clean, style.main_separator(), start, false, names)?;
+    Ok(clean)
 }
 
 /// The path with this start and these names after its prefix.
@@ -205,6 +239,20 @@ pub(crate) fn all_names<'a, A: Allocator>(
     Ok(names)
 }
 
+/// Appends components as they are.
+pub(crate) fn add_all<'a, A: Allocator>(
+    items: &mut Vec<Component<&'a [u8]>, A>,
+    left: Components<'a>,
+) -> Result<(), AllocError>
+    ensures { OnOk result
+        (map item_of items.new.items ≡ map item_of items.old.items ++ left.entry.items) }
+{
+    for item in left {
+        items.push(item)?;
+    }
+    Ok(())
+}
+
 /// The names that are left of the components of a body, where `..` takes the name before it away;
 /// `None` if it has none.
 pub(crate) fn resolved<'a, A: Allocator>(
@@ -244,16 +292,31 @@ pub(crate) fn cleaned<'a, A: Allocator>(
         ≡ cleaned rooted [] (components_in rules body.entry.now)) }
 {
     let mut names = Vec::new(alloc);
+    add_cleaned(&mut names, rules, rooted, body)?;
+    Ok(names)
+}
+
+/// Appends the components of a body to names, as [`cleaned`] reads them.
+pub(crate) fn add_cleaned<'a, A: Allocator>(
+    names: &mut Vec<Component<&'a [u8]>, A>,
+    rules: Rules,
+    rooted: bool,
+    body: &'a [u8],
+) -> Result<(), AllocError>
+    ensures { OnOk result (reverse (map item_of names.new.items)
+        ≡ cleaned rooted (reverse (map item_of names.old.items))
+        (components_in rules body.entry.now)) }
+{
     let mut left = body;
     while let Some((item, rest)) = next_in(rules, left) {
         match item {
             Component::Normal(_) => names.push(item)?,
-            Component::ParentDir => go_up(&mut names, rooted)?,
+            Component::ParentDir => go_up(names, rooted)?,
             _ => {}
         }
         left = rest;
     }
-    Ok(names)
+    Ok(())
 }
 
 /// Takes the last name away, or adds `..` where there is none and no root.
@@ -351,8 +414,10 @@ pub(crate) fn is_root(start: Start) -> bool
 fn clean_start(style: Style, head: Head<'_>, names: &[Component<&[u8]>]) -> Start
     requires { head.prefix.now ≢ [] → ¬ (head.start ≡ Dot) }
     ensures shield { IsShielded style
-        (or_dot (prefix_items head.entry.prefix.now ++ (cleaned_start head.entry.start ++ map item_of names.now)))
-        (prefix_items head.entry.prefix.now ++ (start_items result ++ map item_of names.now)) }
+        (or_dot (map spelled (prefix_items head.entry.prefix.now)
+        ++ (cleaned_start head.entry.start ++ map item_of names.now)))
+        (map spelled (prefix_items head.entry.prefix.now)
+        ++ (start_items result ++ map item_of names.now)) }
     ensures may { MayStart style head.entry result (map item_of names.now) }
 {
     if !head.prefix.is_empty() {

@@ -11,8 +11,7 @@ ghost use Rattle.path_building.specs.Relative.{IsPlace, AreOnePlace, AreApart, u
 
 use crate::checked::add_names;
 use crate::joining::join;
-use crate::normal::{all_names, begins_as_prefix, cleaned, is_root, written_as};
-use crate::resolving::add_all;
+use crate::normal::{add_all, all_names, begins_as_prefix, cleaned, is_root, written_as};
 use crate::writing::written;
 use path_rules::parts::{Head, Start, are_alike, head_of, is_verbatim};
 use path_rules::{Component, Components, Style, is_absolute};

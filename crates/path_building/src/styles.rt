@@ -5,8 +5,7 @@ ghost use Rattle.path_rules.specs.Component.{Normal};
 ghost use Rattle.path_building.specs.Restyled.{IsHad, AreHad, IsFirstUnlike, IsRestyled, IsStyleFault};
 
 use crate::error_text::write_number;
-use crate::normal::{all_names, is_read_as_prefix};
-use crate::resolving::add_all;
+use crate::normal::{add_all, all_names, is_read_as_prefix};
 use crate::writing::{before_start, written};
 use path_rules::parts::head_of;
 use path_rules::{Component, Components, Style, is_extension_text};

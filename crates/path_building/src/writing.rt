@@ -5,11 +5,12 @@ ghost use Rattle.path_rules.specs.declared.head.Start.TheVariants.{Root};
 ghost use Rattle.path_rules.specs.StyleRules.{main_separator};
 ghost use Rattle.path_rules.specs.PrefixViews.{kind_of};
 ghost use Rattle.path_rules.specs.Views.{item_of};
+ghost use Rattle.path_building.specs.Cleaned.{begins_as_verbatim, separated_by, one_spelling};
 ghost use Rattle.path_building.specs.Written.{spelling, more_names, joined_names, LacksShare, HasEmptyShare, object_dir};
 ghost use Rattle.path_building.specs.Spelled.{root_bytes, start_bytes, after_bytes, ObjectNext};
 
 use path_rules::parts::Start;
-use path_rules::{Component, Prefix, Style, windows_prefix};
+use path_rules::{Component, Prefix, Rules, Style, windows_prefix};
 use std::alloc::{AllocError, Allocator};
 
 /// Writes a path of a prefix, a start and names. It allocates `capacity` bytes, and more if the
@@ -28,9 +29,71 @@ pub(crate) fn written<A: Allocator>(
 {
     let mut path = Vec::with_capacity(alloc, capacity)?;
     path.extend_from_slice(prefix)?;
-    push_start(&mut path, separator, start, doubled, names)?;
-    push_names(&mut path, separator, names)?;
+    push_after(&mut path, separator, start, doubled, names)?;
     Ok(path)
+}
+
+/// Appends what follows a prefix: a start and names.
+pub(crate) fn push_after<A: Allocator>(
+    path: &mut Vec<u8, A>,
+    separator: u8,
+    start: Start,
+    doubled: bool,
+    names: &[Component<&[u8]>],
+) -> Result<(), AllocError>
+    ensures { OnOk result (path.new.items
+        ≡ path.old.items ++ after_bytes separator start doubled (map item_of names.now)) }
+{
+    push_start(path, separator, start, doubled, names)?;
+    push_names(path, separator, names)
+}
+
+/// Appends a prefix in one spelling.
+pub(crate) fn push_spelled<A: Allocator>(
+    path: &mut Vec<u8, A>,
+    prefix: &[u8],
+) -> Result<(), AllocError>
+    ensures { OnOk result (path.new.items ≡ path.old.items ++ one_spelling prefix.now) }
+{
+    let separator = if begins_as_verbatim(prefix) {
+        b'/'
+    } else {
+        b'\\'
+    };
+    push_separated(path, prefix, separator)
+}
+
+/// Appends bytes with a separator in the place of each.
+fn push_separated<A: Allocator>(
+    path: &mut Vec<u8, A>,
+    bytes: &[u8],
+    separator: u8,
+) -> Result<(), AllocError>
+    ensures { OnOk result (path.new.items ≡ path.old.items ++ separated_by separator bytes.now) }
+{
+    for byte in bytes {
+        if Rules::Either.is_separator(*byte) {
+            push_one(path, separator)?;
+        } else {
+            push_one(path, *byte)?;
+        }
+    }
+    Ok(())
+}
+
+/// Whether bytes begin with `\\?\`, but for the spelling of the separators.
+fn begins_as_verbatim(bytes: &[u8]) -> bool
+    ensures { result ≡ begins_as_verbatim bytes.now }
+{
+    match bytes {
+        [a, b, c, d, ..] => {
+            Rules::Either.is_separator(*a)
+                && Rules::Either.is_separator(*b)
+                && *c == b'?'
+                && Rules::Either.is_separator(*d)
+        }
+        _ => false,
+    }
 }
 
 /// Appends a byte.

@@ -254,6 +254,10 @@ positive_in comma (f ∷ fs) current l p = (omega arith, (p.0, p.1))
 positive_in (closes index) [] current l p = (l, p)
 positive_in (closes index) (f ∷ fs) current l p = (let b = second_fits f.outer (f.found ++ current) p.0 in let both = length-append f.found current in omega (arith, b, both, l), p.1)
 
+-- marks whose braces are closed are written out as choices
+pub some_choices : (marks : List Mark) → are_balanced 0 marks ≡ true → (choices : List (List Mark)) × AreChoices marks choices
+some_choices marks e = let f = finish marks [] ([] ∷ []) [] nothing (omega arith) tt e in (f.choices, f.are)
+
 -- the choices that have been found of the marks so far, where those that are left lead to choices
 pub record FoundSoFar (marks : List Mark) (s : State Mark) (left : List Mark) : Type 0 where
   pub before : List Mark
@@ -301,5 +305,5 @@ too_many marks s left h large =
     record {
       choices = f.choices;
       are = subst (λ z. AreChoices z f.choices) (sym h.joined) f.are;
-      many = ⊎_elim (λ l. let k = f.current_fits in omega (arith, l, k)) (λ l. in_frames s.frames f.choices f.frames_fit l) large;
+      many = inl (⊎_elim (λ l. let k = f.current_fits in omega (arith, l, k)) (λ l. in_frames s.frames f.choices f.frames_fit l) large);
     }

@@ -1,5 +1,5 @@
 -- Normal forms and clean forms are their own, also where `.` comes before their first name.
-use Rattle.std.proofs.Common.{◌≡◌, ◌⊎◌, inl, inr, ℕ, Bool, true, false, List, [], ◌∷◌, ◌++◌, reverse, refl, sym, ap, ◌∙◌, subst}
+use Rattle.std.proofs.Common.{◌≡◌, ◌⊎◌, inl, inr, ℕ, Bool, true, false, List, [], ◌∷◌, ◌++◌, map, reverse, refl, sym, ap, ◌∙◌, subst}
 use Rattle.std.proofs.lemmas.List.{reverse-append}
 use Rattle.path_rules.specs.declared.rules.Style.{Style}
 use Rattle.path_rules.specs.Component.{Item, Prefix, RootDir, CurDir, ParentDir, Normal}
@@ -7,8 +7,9 @@ use Rattle.path_building.specs.Normal.{LeadsTo, nowhere, prefix, bare_root, root
 use Rattle.path_rules.specs.Prefix.{begins_verbatim}
 use Rattle.path_building.specs.Normalized.{AreVerbatim, BeginsAsPrefix, IsNormalForm, IsNormalized}
 use Rattle.path_building.specs.Cleaned as clean
-use Rattle.path_building.specs.Cleaned.{CleansTo, StaysAfter, or_dot, IsCleanForm, IsCleaned}
+use Rattle.path_building.specs.Cleaned.{CleansTo, StaysAfter, or_dot, spelled, IsCleanForm, IsCleaned}
 use Rattle.path_building.proofs.lemmas.Normals.{again}
+use Rattle.path_building.proofs.lemmas.Spellings.{all_again, both_spelled}
 
 -- a list that ends in a name has a first item, and what follows it is empty or ends in that name
 data Ends (s : List ℕ) : List Item → Type 0 where
@@ -157,13 +158,13 @@ clean_below (clean.up h) e = after_clean (clean_below h (later e))
 clean_below (clean.at_root h) e = clean_below h e
 clean_below (clean.out h t) (later e) = clean.out (clean_below h e) t
 
-clean_of : (xs : List Item) → CleansTo (reverse xs) (reverse xs) → IsCleanForm (or_dot xs) (or_dot xs)
-clean_of [] k = inr (λ v. v, ([], (clean.here clean.nothing, refl)))
-clean_of (x ∷ xs) k = elim (verbatim_or (x ∷ xs)) as (λ z. IsCleanForm (x ∷ xs) (x ∷ xs)) [ inl v ↦ inl (v, refl) | inr n ↦ inr (n, (x ∷ xs, (k, refl))) ]
+clean_of : (xs : List Item) → map spelled xs ≡ xs → CleansTo (reverse xs) (reverse xs) → IsCleanForm (or_dot xs) (or_dot xs)
+clean_of [] e k = inr (λ v. v, ([], (clean.here clean.nothing, refl)))
+clean_of (x ∷ xs) e k = elim (verbatim_or (x ∷ xs)) as (λ z. IsCleanForm (x ∷ xs) (x ∷ xs)) [ inl v ↦ inl (v, refl) | inr n ↦ inr (n, (x ∷ xs, (k, ap or_dot (sym e)))) ]
 
 form_again : (items form : List Item) → IsCleanForm items form → IsCleanForm form form
 form_again items form (inl h) = inl (subst AreVerbatim (sym h.1) h.0, refl)
-form_again items form (inr h) = subst (λ z. IsCleanForm z z) (sym h.1.1.1) (clean_of h.1.0 (clean_again h.1.1.0))
+form_again items form (inr h) = subst (λ z. IsCleanForm z z) (sym h.1.1.1) (clean_of (map spelled h.1.0) (all_again h.1.0) (both_spelled h.1.0 h.1.0 (clean_again h.1.1.0)))
 
 clean_dotted : (w : Style) (left : List Item) → CleansTo (reverse left) (reverse left) → BeginsAsPrefix w (or_dot left) → CleansTo (reverse (CurDir ∷ or_dot left)) (reverse left)
 clean_dotted w [] k b = absurd b
@@ -186,9 +187,10 @@ not_verbatim w (Normal s ∷ xs) b v = v
 clean_shielded : (w : Style) (items form : List Item) → IsCleanForm items form → BeginsAsPrefix w form → IsCleanForm (CurDir ∷ form) form
 clean_shielded w items form (inl h) b = absurd (not_verbatim w form b (subst AreVerbatim (sym h.1) h.0))
 clean_shielded w items form (inr h) b =
-    let left = h.1.0 in
+    let left = map spelled h.1.0 in
     let e : form ≡ or_dot left = h.1.1.1 in
-    inr (λ v. v, (left, (subst (λ z. CleansTo (reverse (CurDir ∷ z)) (reverse left)) (sym e) (clean_dotted w left (clean_again h.1.1.0) (subst (BeginsAsPrefix w) e b)), e)))
+    let k : CleansTo (reverse left) (reverse left) = both_spelled h.1.0 h.1.0 (clean_again h.1.1.0) in
+    inr (λ v. v, (left, (subst (λ z. CleansTo (reverse (CurDir ∷ z)) (reverse left)) (sym e) (clean_dotted w left k (subst (BeginsAsPrefix w) e b)), e ∙ ap or_dot (sym (all_again h.1.0)))))
 
 pub cleaned_again : (w : Style) (path answer : List ℕ) → IsCleaned w path answer → IsCleaned w answer answer
 cleaned_again w path answer h = elim h.shielded as (λ z. IsCleaned w answer answer) [

@@ -58,7 +58,7 @@ module _ (r : Rules) (c : ℕ) where
   bare_once Nothing (ParentDir ∷ xs) sp = refl
   bare_once Nothing (Normal s ∷ xs) sp = refl
 
-  after_once : (b : ℕ) (p : List ℕ) (st : Start) (names : List Item) → AreSpelled r names → (b ∷ p) ++ after_bytes c st false names ≡ written c (Prefix (b ∷ p) ∷ (start_items st ++ names))
+  pub after_once : (b : ℕ) (p : List ℕ) (st : Start) (names : List Item) → AreSpelled r names → (b ∷ p) ++ after_bytes c st false names ≡ written c (Prefix (b ∷ p) ∷ (start_items st ++ names))
   after_once b p Root [] sp = refl
   after_once b p Root (x ∷ xs) sp = refl
   after_once b p Dot [] sp = refl

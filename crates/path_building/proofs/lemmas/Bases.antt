@@ -101,7 +101,7 @@ fits_root (Device n) v h = let never : rules.Either ≡ rules.Verbatim = v in cc
 fits_root (Unc n m) v h = let never : rules.Either ≡ rules.Verbatim = v in cc
 fits_root (Disk l) v h = let never : rules.Either ≡ rules.Verbatim = v in cc
 
-before_root : (s : List ℕ) (kind : Kind) → IsPrefixOf s kind [] → rules_of kind ≡ rules.Verbatim → HasAllParts kind → IsPrefixOf (s ++ 0x5C ∷ []) kind (0x5C ∷ [])
+pub before_root : (s : List ℕ) (kind : Kind) → IsPrefixOf s kind [] → rules_of kind ≡ rules.Verbatim → HasAllParts kind → IsPrefixOf (s ++ 0x5C ∷ []) kind (0x5C ∷ [])
 before_root s kind h v p =
     let m = prefix_moves s kind [] (0x5C ∷ []) (fits_root kind v p) h in
     let same : m.before ≡ s = sym (append-nil m.before) ∙ sym m.joined in
@@ -160,7 +160,7 @@ all_or (Device n) = by n
 all_or (Unc s n) = inl tt
 all_or (Disk l) = inl tt
 
-all_parts : (s : List ℕ) (kind : Kind) (rest : List ℕ) → IsPrefixOf s kind rest → ¬ (LacksPart style.Windows s) → HasAllParts kind
+pub all_parts : (s : List ℕ) (kind : Kind) (rest : List ℕ) → IsPrefixOf s kind rest → ¬ (LacksPart style.Windows s) → HasAllParts kind
 all_parts s kind rest h n = elim (all_or kind) [ inl a ↦ a | inr k ↦ absurd (whole_prefix s kind rest h n k) ]
 
 pub root_items : (s : List ℕ) → ¬ (LacksPart style.Windows s) → IsVerbatimAlone style.Windows s → AreComponents style.Windows (s ++ 0x5C ∷ []) (Prefix s ∷ RootDir ∷ [])

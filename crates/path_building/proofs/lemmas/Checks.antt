@@ -197,7 +197,7 @@ verbatim_spelled : (xs : List Item) → AreSpelled rules.Either xs → AreSpelle
 verbatim_spelled [] h = tt
 verbatim_spelled (x ∷ xs) h = (record { plain = verbatim_plain (spelling x) h.0.plain; names = verbatim_named (spelling x) x h.0.names }, verbatim_spelled xs h.1)
 
-kind_spelled : (kind : Kind) (xs : List Item) → AreSpelled rules.Either xs → AreSpelled (rules_of kind) xs
+pub kind_spelled : (kind : Kind) (xs : List Item) → AreSpelled rules.Either xs → AreSpelled (rules_of kind) xs
 kind_spelled (Verbatim n) xs h = verbatim_spelled xs h
 kind_spelled (VerbatimUnc s n) xs h = verbatim_spelled xs h
 kind_spelled (VerbatimDisk l) xs h = verbatim_spelled xs h

@@ -20,7 +20,7 @@ use Rattle.path_rules.specs.HeadParts.{IsHead, bare_head, prefixed_head}
 use Rattle.path_building.specs.Normal.{LeadsTo, nowhere, prefix, bare_root, root, start, AreNormalOf}
 use Rattle.path_building.specs.Normalized.{AreVerbatim, BeginsAsPrefix, IsShielded, IsNormalized, HasNoNormalForm}
 use Rattle.path_building.specs.Cleaned as clean
-use Rattle.path_building.specs.Cleaned.{CleansTo, or_dot, IsCleaned}
+use Rattle.path_building.specs.Cleaned.{CleansTo, or_dot, spelled, IsCleaned}
 use Rattle.path_building.specs.Written.{IsPathOf}
 use Rattle.path_building.specs.Spelled.{resolve, cleaned, cleaned_start, AreSpelled}
 use Rattle.path_rules.proofs.lemmas.AfterPrefix.{some_of}
@@ -28,6 +28,7 @@ use Rattle.path_rules.proofs.lemmas.OneList.{one_components}
 use Rattle.path_rules.proofs.lemmas.Parents.{no_dot}
 use Rattle.path_building.proofs.lemmas.Resolving.{onto, onto_is, from_reverse, IsTopForm, Grounded, resolve_leads, resolve_none, resolve_spelled, Stays, cleaned_cleans, cleaned_spelled}
 use Rattle.path_building.proofs.lemmas.Spelling.{body_spelled}
+use Rattle.path_building.proofs.lemmas.Spellings.{items_spelled}
 
 reverse_items : (p : List ℕ) (st : Start) (xs : List Item) → reverse (prefix_items p ++ (start_items st ++ xs)) ≡ reverse xs ++ reverse (prefix_items p ++ start_items st)
 reverse_items p st xs = ap reverse (sym (append_assoc (prefix_items p) (start_items st) xs)) ∙ reverse-append (prefix_items p ++ start_items st) xs
@@ -71,7 +72,7 @@ pub verbatim_yes : (p : List ℕ) (xs : List Item) → begins_verbatim p ≡ tru
 verbatim_yes [] xs e = cc
 verbatim_yes (b ∷ p) xs e = e
 
-verbatim_no : (r : Rules) (p : List ℕ) (st : Start) (xs : List Item) → begins_verbatim p ≡ false → AreSpelled r xs → ¬ (AreVerbatim (prefix_items p ++ (start_items st ++ xs)))
+pub verbatim_no : (r : Rules) (p : List ℕ) (st : Start) (xs : List Item) → begins_verbatim p ≡ false → AreSpelled r xs → ¬ (AreVerbatim (prefix_items p ++ (start_items st ++ xs)))
 verbatim_no r [] Root xs e sp h = h
 verbatim_no r [] Dot xs e sp h = h
 verbatim_no r [] Nothing [] e sp h = h
@@ -89,13 +90,13 @@ begins_none w (b ∷ p) st xs n h = h
 pub shielded_after : (w : whose.Style) (p : List ℕ) (st : Start) (xs : List Item) → p ≢ [] → IsShielded w (prefix_items p ++ (start_items st ++ xs)) (prefix_items p ++ (start_items st ++ xs))
 shielded_after w p st xs n = inr (begins_none w p st xs n, refl)
 
-pub clean_after : (w : whose.Style) (p : List ℕ) (st : Start) (xs : List Item) → p ≢ [] → st ≢ Dot → IsShielded w (or_dot (prefix_items p ++ (cleaned_start st ++ xs))) (prefix_items p ++ (start_items st ++ xs))
+pub clean_after : (w : whose.Style) (p : List ℕ) (st : Start) (xs : List Item) → p ≢ [] → st ≢ Dot → IsShielded w (or_dot (map spelled (prefix_items p) ++ (cleaned_start st ++ xs))) (map spelled (prefix_items p) ++ (start_items st ++ xs))
 clean_after w [] st xs n m = absurd (n refl)
 clean_after w (b ∷ p) Root xs n m = inr (λ h. h, refl)
 clean_after w (b ∷ p) Dot xs n m = absurd (m refl)
 clean_after w (b ∷ p) Nothing xs n m = inr (λ h. h, refl)
 
-pub clean_bare : (w : whose.Style) (p : List ℕ) (st new : Start) (xs : List Item) → p ≡ [] → (st ≡ Root → ⊥) → IsShielded w (or_dot xs) (start_items new ++ xs) → IsShielded w (or_dot (prefix_items p ++ (cleaned_start st ++ xs))) (prefix_items p ++ (start_items new ++ xs))
+pub clean_bare : (w : whose.Style) (p : List ℕ) (st new : Start) (xs : List Item) → p ≡ [] → (st ≡ Root → ⊥) → IsShielded w (or_dot xs) (start_items new ++ xs) → IsShielded w (or_dot (map spelled (prefix_items p) ++ (cleaned_start st ++ xs))) (map spelled (prefix_items p) ++ (start_items new ++ xs))
 clean_bare w [] Root new xs e n h = absurd (n refl)
 clean_bare w [] Dot new xs e n h = h
 clean_bare w [] Nothing new xs e n h = h
@@ -257,19 +258,19 @@ module _ (w : whose.Style) (path : List ℕ) (head : Head) (are : AreComponents 
         let q = cleaned_cleans r rb rooted (clean_stays rooted p st down back) [] xs done (body_spelled r head.body.now) tt (clean_top p st (no_dot_after w path head h)) in
         subst (λ z. CleansTo z (reverse (prefix_items p ++ (cleaned_start st ++ names)))) (onto_is xs done ∙ sym (reverse_items p st xs)) (subst (CleansTo (onto xs done)) (sym (ap (λ z. z ++ rb) e) ∙ sym (reverse_clean p st names)) q)
 
-    pub cleaned_clean : (shown : List Item) (answer : List ℕ) → begins_verbatim head.prefix.now ≡ false → IsShielded w (or_dot (prefix_items head.prefix.now ++ (cleaned_start head.start ++ names))) shown → IsPathOf w shown answer → IsCleaned w path answer
+    pub cleaned_names_spelled : AreSpelled head.rules names
+    cleaned_names_spelled = from_reverse head.rules names (subst (AreSpelled head.rules) (sym e) (cleaned_spelled head.rules [] rooted [] (components_in head.rules head.body.now) (body_spelled head.rules head.body.now) tt))
+
+    pub cleaned_clean : (shown : List Item) (answer : List ℕ) → begins_verbatim head.prefix.now ≡ false → IsShielded w (or_dot (map spelled (prefix_items head.prefix.now) ++ (cleaned_start head.start ++ names))) shown → IsPathOf w shown answer → IsCleaned w path answer
     cleaned_clean shown answer v shield answers = record {
       items = items_of head;
-      clean = or_dot (prefix_items head.prefix.now ++ (cleaned_start head.start ++ names));
+      clean = or_dot (map spelled (prefix_items head.prefix.now) ++ (cleaned_start head.start ++ names));
       shown = shown;
       are = are;
-      form = inr (other_verbatim v, (prefix_items head.prefix.now ++ (cleaned_start head.start ++ names), (cleaned_leads, refl)));
+      form = inr (other_verbatim v, (prefix_items head.prefix.now ++ (cleaned_start head.start ++ names), (cleaned_leads, ap or_dot (sym (items_spelled head.rules head.prefix.now head.start names cleaned_names_spelled)))));
       shielded = shield;
       answers = answers;
     }
-
-    pub cleaned_names_spelled : AreSpelled head.rules names
-    cleaned_names_spelled = from_reverse head.rules names (subst (AreSpelled head.rules) (sym e) (cleaned_spelled head.rules [] rooted [] (components_in head.rules head.body.now) (body_spelled head.rules head.body.now) tt))
 
     pub cleaned_none : components_in head.rules head.body.now ≡ [] → names ≡ []
     cleaned_none n =

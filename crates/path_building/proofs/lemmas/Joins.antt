@@ -13,7 +13,6 @@ use Rattle.path_rules.specs.declared.head.Start.TheVariants.{Root}
 use Rattle.path_rules.specs.Separators.{separates}
 use Rattle.path_rules.specs.StyleRules.{rules_of_style, main_separator}
 use Rattle.path_rules.specs.Component.{Item, Prefix, Normal, dot, components_in}
-use Rattle.path_building.specs.Resolved.{unless_name, without_name}
 use Rattle.path_rules.specs.Heads.{start_items}
 use Rattle.path_rules.specs.Prefix.{Kind, Verbatim, VerbatimUnc, VerbatimDisk, Device, Unc, Disk, IsPrefixOf, rules_of, IsPrefixed, IsRawPrefix}
 use Rattle.path_rules.specs.Components.{plain_components, implied_root, root_of, after_root, AreComponents, prefixed, bare}
@@ -227,28 +226,6 @@ join_kept w base path kept sep e p h root b = after p (cases path h) (record { b
     cases [] k = inl refl
     cases (b ∷ s) k = inr (λ v. k (v, λ n. cc))
 
--- a list of components, by its last
-pub without_a_name : (xs : List Item) (s : List ℕ) → without_name (xs ++ Normal s ∷ []) ≡ xs
-without_a_name [] s = refl
-without_a_name (x ∷ []) s = refl
-without_a_name (x ∷ y ∷ xs) s = ap (λ z. x ∷ z) (without_a_name (y ∷ xs) s)
-
-pub without_other : (xs : List Item) (x : Item) → unless_name x ≡ x ∷ [] → without_name (xs ++ x ∷ []) ≡ xs ++ x ∷ []
-without_other [] x e = e
-without_other (y ∷ []) x e = ap (λ z. y ∷ z) e
-without_other (y ∷ z ∷ xs) x e = ap (λ t. y ∷ t) (without_other (z ∷ xs) x e)
-
-module _ {X : Type 0} (view : X → Item) where
-  pub pop_a_name : (xs ys : List X) (x : X) (s : List ℕ) → xs ≡ ys ++ x ∷ [] → view x ≡ Normal s → map view ys ≡ without_name (map view xs)
-  pop_a_name xs ys x s e f =
-      sym
-      (ap (λ z. without_name (map view z)) e ∙ ap without_name (map-append view ys (x ∷ [])) ∙ ap (λ z. without_name (map view ys ++ z ∷ [])) f ∙ without_a_name (map view ys) s)
-
-  pub pop_other : (xs ys zs : List X) (x : X) → xs ≡ ys ++ x ∷ [] → zs ≡ ys ++ x ∷ [] → unless_name (view x) ≡ view x ∷ [] → map view zs ≡ without_name (map view xs)
-  pop_other xs ys zs x e g f =
-      ap (map view) g ∙ map-append view ys (x ∷ [])
-      ∙ sym (ap (λ z. without_name (map view z)) e ∙ ap without_name (map-append view ys (x ∷ [])) ∙ without_other (map view ys) (view x) f)
-
 -- what a test refutes
 pub refuted : (P : Type 0) (b : Bool) → (IsTrue b ↔ P) → b ≡ false → ¬ P
 refuted P b h e p = let yes : b ≡ true = h.1 p in let never : true ≡ false = sym yes ∙ e in cc
@@ -258,10 +235,7 @@ module _ {X E : Type 0} (P Q : X → Type 0) (give : (x : X) → P x → Q x) wh
   if_ok (Ok x) h = give x h
   if_ok (Err e) h = h
 
--- a component that is no name
-pub other_name : (x : Component (Bor (List ℕ))) → ((name : Bor (List ℕ)) → x ≡ component.Normal name → ⊥) → unless_name (item_of x) ≡ item_of x ∷ []
-other_name (component.Prefix s) h = refl
-other_name component.RootDir h = refl
-other_name component.CurDir h = refl
-other_name component.ParentDir h = refl
-other_name (component.Normal s) h = absurd (h s refl)
+-- a base is verbatim on Windows alone
+pub on_windows : (w : whose.Style) (base path : List ℕ) → IsVerbatimPath w base → ¬ (IsPrefixed w path) → IsVerbatimPath style.Windows base × ¬ (IsPrefixed style.Windows path)
+on_windows style.Unix base path v n = absurd v
+on_windows style.Windows base path v n = (v, n)

@@ -1,14 +1,16 @@
 -- What a path joined to a base is: one path.
-use Rattle.std.proofs.Common.{◌≡◌, ◌≢◌, ◌⊎◌, inl, inr, ℕ, List, [], ◌++◌, sym, ap, ◌∙◌}
-use Rattle.std.proofs.lemmas.List.{append_cancel_right}
+use Rattle.std.proofs.Common.{◌≡◌, ◌≢◌, ◌⊎◌, inl, inr, ℕ, List, [], ◌++◌, reverse, sym, ap, ◌∙◌, subst}
+use Rattle.std.proofs.lemmas.List.{append_cancel_right, reverse-reverse}
 use Rattle.path_rules.specs.declared.rules.Style as whose
 use Rattle.path_rules.specs.declared.rules.Style.TheVariants as style
 use Rattle.path_rules.specs.StyleRules.{rules_of_style}
 use Rattle.path_rules.specs.Prefix.{IsPrefixed, IsRawPrefix}
 use Rattle.path_rules.specs.Root.{BeginsWithSeparator}
 use Rattle.path_rules.proofs.lemmas.OneList.{one_prefix, one_components}
-use Rattle.path_building.specs.Resolved.{IsResolved, with_items, written_all}
+use Rattle.path_building.specs.Resolved.{ResolvesTo, below_root, IsResolved}
+use Rattle.path_building.specs.Written.{written}
 use Rattle.path_building.specs.Join.{IsJoin, IsVerbatimPath, IsBetween, replacing, resolving, at_root, after}
+use Rattle.path_building.proofs.lemmas.Resolved.{one_resolved}
 
 prefixed : (w : whose.Style) (base path joined : List ℕ) → IsJoin w base path joined → IsPrefixed w path → joined ≡ path
 prefixed w base path joined (replacing p e) h = e
@@ -39,8 +41,13 @@ between_same w base one other (inr h) (inr k) = h.1 ∙ sym k.1
 
 resolved_same : (base path one other : List ℕ) → IsResolved base path one → IsResolved base path other → one ≡ other
 resolved_same base path one other h k =
-    h.is ∙ ap (λ x. written_all (with_items x h.items)) (one_components style.Windows base h.base_items k.base_items h.base_are k.base_are)
-    ∙ ap (λ x. written_all (with_items k.base_items x)) (one_components style.Windows path h.items k.items h.are k.are) ∙ sym k.is
+    let f = h.resolved in
+    let g = k.resolved in
+    let bases = one_components style.Windows base f.base_items g.base_items f.base_are g.base_are in
+    let items = one_components style.Windows path f.items g.items f.are g.are in
+    let form : ResolvesTo g.base_items (reverse g.items) (reverse h.left) = subst (λ z. ResolvesTo g.base_items (reverse z) (reverse h.left)) items (subst (λ z. ResolvesTo z (reverse f.items) (reverse h.left)) bases f.form) in
+    let left : h.left ≡ k.left = sym (reverse-reverse h.left) ∙ ap reverse (one_resolved form g.form) ∙ reverse-reverse k.left in
+    h.is ∙ ap (λ z. written 0x5C (below_root z)) left ∙ sym k.is
 
 neither : (path : List ℕ) {V : Type 0} → path ≢ [] → V → (path ≡ []) ⊎ (¬ V) → ⊥
 neither path some v (inl e) = some e

@@ -127,7 +127,7 @@ fits_nothing (Device n) rest = tt
 fits_nothing (Unc n m) rest = tt
 fits_nothing (Disk l) rest = tt
 
-no_root : (kind : Kind) (rest : List ℕ) → root_of kind rest ≡ Nothing → implied_root kind ≡ Nothing
+pub no_root : (kind : Kind) (rest : List ℕ) → root_of kind rest ≡ Nothing → implied_root kind ≡ Nothing
 no_root kind [] e = e
 no_root kind (b ∷ rest) e = cases (separates rules.Either b) e
   where
@@ -172,7 +172,7 @@ tail_of (Disk l) rest doubled (inl edge) share Nothing e (x ∷ xs) h none = dri
 tail_of kind rest doubled (inr (l, is)) share Nothing e (x ∷ xs) h none =
     subst (λ z. Tail z rest Nothing (joined_names 0x5C (x ∷ xs)) (x ∷ xs)) (sym is) (drive_tail l rest x xs (subst (λ z. AreSpelled (rules_of z) (x ∷ xs)) is h))
 
-prefixed_written : (s raw : List ℕ) (kind : Kind) (rest : List ℕ) (doubled : Bool) (names : List Item) → s ≡ raw ++ rest → IsPrefixOf s kind rest → (LacksShare kind → doubled ≡ true) → AreSpelled (rules_of kind) names → (rules_of kind ≡ rules.Verbatim → root_of kind rest ≡ Nothing → names ≡ []) → ArePrefixed (raw ++ after_bytes 0x5C (root_of kind rest) doubled names) (Prefix raw ∷ (start_items (root_of kind rest) ++ names))
+pub prefixed_written : (s raw : List ℕ) (kind : Kind) (rest : List ℕ) (doubled : Bool) (names : List Item) → s ≡ raw ++ rest → IsPrefixOf s kind rest → (LacksShare kind → doubled ≡ true) → AreSpelled (rules_of kind) names → (rules_of kind ≡ rules.Verbatim → root_of kind rest ≡ Nothing → names ≡ []) → ArePrefixed (raw ++ after_bytes 0x5C (root_of kind rest) doubled names) (Prefix raw ∷ (start_items (root_of kind rest) ++ names))
 prefixed_written s raw kind rest doubled names j h share sp none =
     let st = root_of kind rest in
     let t = after_bytes 0x5C st doubled names in

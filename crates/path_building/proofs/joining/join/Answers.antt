@@ -1,8 +1,14 @@
 use Rattle.std.proofs.Common.{◌≡◌, ◌++◌, take, ap, sym, ◌∙◌, subst, append_assoc}
 use Rattle.path_building.specs.Join.{IsJoin, resolving}
 use Rattle.path_building.specs.Resolved.{IsResolved}
-use Rattle.path_building.proofs.lemmas.Joins.{if_ok}
+use Rattle.path_building.proofs.lemmas.Joins.{if_ok, on_windows}
 use Rattle.path_building.proofs.joining.join.Goals as goal
+
+pub resolve-requires-clause-verbatim : goal.resolve-requires-clause-verbatim
+resolve-requires-clause-verbatim g c = (on_windows c.args.style c.args.base.now c.args.path.now c.in_default.ensures.1.0 c.in_default.ensures.0).0
+
+pub resolve-requires-clause-bare : goal.resolve-requires-clause-bare
+resolve-requires-clause-bare g c = (on_windows c.args.style c.args.base.now c.args.path.now c.in_default.ensures.1.0 c.in_default.ensures.0).1
 
 pub returns-in_default : goal.returns-in_default
 returns-in_default g c =

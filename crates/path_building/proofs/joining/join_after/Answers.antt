@@ -2,6 +2,7 @@ use Rattle.std.proofs.Common.{◌≡◌, ◌≤◌, ◌++◌, take, sym, ap, ◌
 use Rattle.std.proofs.lemmas.List.{take-take}
 use Rattle.path_building.specs.Join.{IsVerbatimPath, IsJoin, resolving}
 use Rattle.path_building.specs.Resolved.{IsResolved}
+use Rattle.path_building.proofs.lemmas.Joins.{on_windows}
 use Rattle.path_building.proofs.joining.join_after.Goals as goal
 
 pub returns-in_ok-set_end-in-Some-clause-ok : goal.returns-in_ok-set_end-in-Some-clause-ok
@@ -26,3 +27,9 @@ returns-in_ok-vec-in-None-clause-ok g c =
     let base : c.split_at.result.0.now ≡ take c.args.len all = c.split_at.ensures.front ∙ ap (take c.args.len) c.as_slice.ensures.value in
     resolving c.in-None.ensures.0 (subst (IsVerbatimPath w) base c.in-None.ensures.1.0) c.in-None.ensures.1.1
     (subst (λ x. IsResolved x path c.in_ok-vec-in-None.field-0.items) base c.in_ok-vec-in-None.ensures)
+
+pub resolve-requires-clause-verbatim : goal.resolve-requires-clause-verbatim
+resolve-requires-clause-verbatim g c = (on_windows c.args.style c.split_at.result.0.now c.args.path.now c.in-None.ensures.1.0 c.in-None.ensures.0).0
+
+pub resolve-requires-clause-bare : goal.resolve-requires-clause-bare
+resolve-requires-clause-bare g c = (on_windows c.args.style c.split_at.result.0.now c.args.path.now c.in-None.ensures.1.0 c.in-None.ensures.0).1
