@@ -32,12 +32,17 @@ def unpacked(file: Path, room: Path) -> Path:
     return room / file.name.removesuffix(".tar.gz")
 
 
+def dead_links(top: Path) -> list[str]:
+    """Returns the links of documents in a folder that lead to no file of it."""
+    found = []
+    for document in top.rglob("*.md"):
+        links = re.findall(r"\[[^\]]*\]\(([^)#\s]+)", document.read_text(encoding="utf-8"))
+        found += [f"{document}: {link}" for link in links if ":" not in link and not (document.parent / link).exists()]
+    return found
+
+
 def check_links(top: Path) -> None:
     """Fails where a link of a document of an archive leads to no file of it, or a document is missing at its top."""
     wanted = ["README.md", "CHANGES.md", *(name for name in ("LICENSE.md", "NOTICE") if (ROOT / name).exists())]
-    missing = [name for name in wanted if not (top / name).exists()]
-    for document in top.rglob("*.md"):
-        links = re.findall(r"\[[^\]]*\]\(([^)#\s]+)", document.read_text(encoding="utf-8"))
-        missing += [f"{document}: {link}" for link in links if ":" not in link and not (document.parent / link).exists()]
-    if missing:
+    if missing := [name for name in wanted if not (top / name).exists()] + dead_links(top):
         raise Failure(f"the archive lacks {', '.join(missing)}")

@@ -1,7 +1,7 @@
 """The man page and the completions of each program, of its table in docs/programs.
 
 A table has the program's commands, its options with the commands that take them, and examples with what they print.
-An operand is a word in capitals: PLATFORM is one of three, a file's name is completed, and any other is free.
+An operand is a word in capitals: PLATFORM and TO are one of three, a file's name is completed, and any other is free.
 """
 
 from __future__ import annotations
@@ -11,12 +11,13 @@ import tomllib
 from functools import cache
 from typing import NamedTuple
 
-from handed_on import version
 from roff import as_roff, as_shown, page
 from sources import ROOT
 
 PROGRAMS = ("names", "paths", "osbytes")
 PLATFORMS = "unix windows wasm"
+# Operands that are platforms.
+OF_PLATFORMS = ("PLATFORM", "TO")
 # Operands and values that are names of files.
 FILES = ("FILE", "BASE", "DIR=FILE", "DIR")
 STATUSES = {
@@ -199,7 +200,7 @@ def in_bash(of: Program) -> str:
     places = []
     for at, kind in sorted({(at, kind) for it in of.commands for at, kind in enumerate(it.kinds, 1)}):
         named = "|".join(f"{it.name}:{at}" for it in of.commands if it.kinds[at - 1 : at] == [kind])
-        if kind == "PLATFORM":
+        if kind in OF_PLATFORMS:
             places.append(f"                {named}) words='{PLATFORMS}' ;;")
         elif kind in FILES:
             places.append(f"                {named}) compopt -o default 2>/dev/null; return ;;")
@@ -264,7 +265,7 @@ def zsh_option(option: Option) -> str:
 
 def zsh_operand(at: int, kind: str) -> str:
     """Returns the specification of an operand of a command for _arguments."""
-    by = f"({PLATFORMS})" if kind == "PLATFORM" else "_files" if kind in FILES else ""
+    by = f"({PLATFORMS})" if kind in OF_PLATFORMS else "_files" if kind in FILES else ""
     return f"'{at}:{kind}:{by}'"
 
 
@@ -312,8 +313,8 @@ def in_fish(of: Program) -> str:
     """Returns the completions of a program for fish."""
     lines = [f"# fish completion of {of.name}(1)", f"complete -c {of.name} -f"]
     lines += [f"complete -c {of.name} -n __fish_use_subcommand -a {it.name} -d {quoted(it.short)}" for it in of.commands]
-    one = [it.name for it in of.commands if it.kinds.count("PLATFORM") == 1]
-    more = [it.name for it in of.commands if it.kinds.count("PLATFORM") > 1]
+    counts = {it.name: sum(kind in OF_PLATFORMS for kind in it.kinds) for it in of.commands}
+    one, more = ([name for name, count in counts.items() if (count > 1) == is_more] for is_more in (False, True))
     files = [it.name for it in of.commands if any(kind in FILES for kind in it.kinds)]
     seen = "__fish_seen_subcommand_from"
     lines.append(f"complete -c {of.name} -n '{seen} {' '.join(one)}; and not {seen} {PLATFORMS}' -a '{PLATFORMS}'")
