@@ -1,8 +1,9 @@
 //! Letters without case.
-ghost use Rattle.std.specs.Prelude.{◌↔◌, map, IfOk, IsTrue, OnOk};
+ghost use Rattle.std.specs.Prelude.{◌≡◌, ◌↔◌, map, IfOk, IsTrue, OnOk};
 ghost use Rattle.glob_text.specs.Marks.{mark_of};
 ghost use Rattle.glob_text.specs.Folded.{IsAlone, IsFoldedLetter, IsFolded, AreFolded, AreCased};
 ghost use Rattle.glob_text.specs.FoldSteps.{AddsAlike, IsFirstPair};
+ghost use Rattle.wildcards.specs.Ranges.{lies_in};
 
 use crate::class_text::Members;
 use crate::mark::Mark;
@@ -33,7 +34,14 @@ fn is_alone(letter: u32) -> bool
     true
 }
 
-/// Appends the letters that differ from one of the range in case alone.
+/// Whether a letter is in a range.
+fn is_within(range: Range, letter: u32) -> bool
+    ensures { result ≡ lies_in range letter }
+{
+    range.first <= letter && letter <= range.last
+}
+
+/// Appends the letters that differ from one of the range in case alone and aren't in the range.
 fn push_alike<A: Allocator>(range: Range, folded: &mut Vec<Range, A>) -> Result<(), AllocError>
     ensures { OnOk result (AddsAlike range folded.old.items folded.new.items) }
 {
@@ -44,11 +52,14 @@ fn push_alike<A: Allocator>(range: Range, folded: &mut Vec<Range, A>) -> Result<
         if letter > range.last {
             return Ok(());
         }
+        at += 1;
+        if is_within(range, other) {
+            continue;
+        }
         folded.push(Range {
             first: other,
             last: other,
         })?;
-        at += 1;
     }
     Ok(())
 }

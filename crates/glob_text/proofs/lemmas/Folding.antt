@@ -127,11 +127,11 @@ lies_alone a c e = let h = and_parts (leb a c) (leb c a) e in omega (arith, leb-
 lies_itself : (a : ℕ) → lies_in (range a a) a ≡ true
 lies_itself a = and_from (leb a a) (leb a a) (le-leb a a (omega arith)) (le-leb a a (omega arith))
 
--- the letters that differ from one of the range in case alone, of the pairs before this index
+-- the letters that differ from one of the range in case alone and aren't in it, of the pairs before this index
 pub record IsAddedSoFar (r : Range) (old now : List Range) (at : ℕ) : Type 0 where
   pub kept : (c : ℕ) → is_in old c ≡ true → is_in now c ≡ true
   pub sound : (c : ℕ) → is_in now c ≡ true → (is_in old c ≡ true) ⊎ HasAlike (r ∷ []) c
-  pub to_come : (m c : ℕ) → lies_in r m ≡ true → m ≢ c → simple_fold m ≡ simple_fold c → (is_in now c ≡ true) ⊎ IsPairFrom at m c
+  pub to_come : (m c : ℕ) → lies_in r m ≡ true → lies_in r c ≡ false → m ≢ c → simple_fold m ≡ simple_fold c → (is_in now c ≡ true) ⊎ IsPairFrom at m c
   pub above : (k : ℕ) (d : ℕ × ℕ) → at ≤ k → k < length fold_pairs → r.first ≤ (get_or fold_pairs k d).0
 
 module _ (meaning : IsFoldPairs fold_pairs) (r : Range) (old : List Range) where
@@ -139,7 +139,7 @@ module _ (meaning : IsFoldPairs fold_pairs) (r : Range) (old : List Range) where
   none_added at h = record {
     kept = λ c e. e;
     sound = λ c e. inl e;
-    to_come = λ m c lies apart alike. inr (in_pair meaning r.first at m c h (leb-true r.first m (and_parts (leb r.first m) (leb m r.last) lies).0) apart alike);
+    to_come = λ m c lies out apart alike. inr (in_pair meaning r.first at m c h (leb-true r.first m (and_parts (leb r.first m) (leb m r.last) lies).0) apart alike);
     above = λ k d f l. h.others k d f l;
   }
 
@@ -147,7 +147,7 @@ module _ (meaning : IsFoldPairs fold_pairs) (r : Range) (old : List Range) where
   one_added now more at p h l e below i = subst (λ z. IsAddedSoFar r old z (at + 1)) (sym i) (record {
     kept = λ c k. more_left now (range p.1 p.1) c (h.kept c k);
     sound = λ c k. ⊎_elim (λ before. h.sound c before) (λ here. inr (p.0, (member, (alike_at meaning at p l e).1 ∙ ap simple_fold (lies_alone p.1 c here)))) (more_cases now (range p.1 p.1) c k);
-    to_come = λ m c lies apart alike. ⊎_elim (λ before. inl (more_left now (range p.1 p.1) c before)) (λ k. by_place m c k (in_order (at + 1) k.place)) (h.to_come m c lies apart alike);
+    to_come = λ m c lies out apart alike. ⊎_elim (λ before. inl (more_left now (range p.1 p.1) c before)) (λ k. by_place m c k (in_order (at + 1) k.place)) (h.to_come m c lies out apart alike);
     above = λ k d f m. h.above k d (omega (arith, f)) m;
   })
     where
@@ -170,21 +170,39 @@ module _ (meaning : IsFoldPairs fold_pairs) (r : Range) (old : List Range) where
   all_added now at h l = record {
     kept = h.kept;
     sound = h.sound;
-    complete = λ m c lies apart alike. ⊎_elim (λ k. k) (λ k. let a = k.from in let b = k.within in absurd (omega (arith, a, b, l))) (h.to_come m c lies apart alike);
+    complete = λ m c lies out apart alike. ⊎_elim (λ k. k) (λ k. let a = k.from in let b = k.within in absurd (omega (arith, a, b, l))) (h.to_come m c lies out apart alike);
   }
+
+  pub none_more : (now : List Range) (at : ℕ) (p : ℕ × ℕ) → IsAddedSoFar r old now at → at < length fold_pairs → p ≡ get_or fold_pairs at p → lies_in r p.1 ≡ true → IsAddedSoFar r old now (at + 1)
+  none_more now at p h l e inside = record {
+    kept = h.kept;
+    sound = h.sound;
+    to_come = λ m c lies out apart alike. ⊎_elim inl (λ k. by_place m c k out (in_order (at + 1) k.place)) (h.to_come m c lies out apart alike);
+    above = λ k d f m. h.above k d (omega (arith, f)) m;
+  }
+    where
+      by_place : (m c : ℕ) (k : IsPairFrom at m c) → lies_in r c ≡ false → (at + 1 ≤ k.place) ⊎ (k.place < at + 1) → (is_in now c ≡ true) ⊎ IsPairFrom (at + 1) m c
+      by_place m c k out (inl f) = inr (record { place = k.place; from = f; within = k.within; pair = k.pair })
+      by_place m c k out (inr f) =
+          let from = k.from in
+          let here : at ≡ k.place = omega (arith, f, from) in
+          let pair : p ≡ (m, c) = e ∙ get_or_default fold_pairs at p (m, c) l ∙ ap (λ z. get_or fold_pairs z (m, c)) here ∙ k.pair in
+          let other : p.1 ≡ c = ap (λ q. q.1) pair in
+          let never : false ≡ true = sym out ∙ sym (ap (lies_in r) other) ∙ inside in
+          absurd cc
 
   pub added_below : (now : List Range) (at : ℕ) (p : ℕ × ℕ) → IsAddedSoFar r old now at → at < length fold_pairs → p ≡ get_or fold_pairs at p → r.last < p.0 → AddsAlike r old now
   added_below now at p h l e past = record {
     kept = h.kept;
     sound = h.sound;
-    complete = λ m c lies apart alike. ⊎_elim (λ k. k)
+    complete = λ m c lies out apart alike. ⊎_elim (λ k. k)
         (λ k.
         let rises = pairs_rise at k.place (m, c) k.from k.within in
         let first = ap (λ q. q.0) k.pair in
         let same = ap (λ q. q.0) (e ∙ get_or_default fold_pairs at p (m, c) l) in
         let last = leb-true m r.last (and_parts (leb r.first m) (leb m r.last) lies).1 in
         absurd (omega (arith, rises, first, same, last, past)))
-        (h.to_come m c lies apart alike);
+        (h.to_come m c lies out apart alike);
   }
 
 -- how far the ranges have been folded: the letters that are alike one of them are there, or alike one that is left
@@ -209,10 +227,14 @@ one_folded ranges folded more r left h a = record {
       (a.sound c e);
   kept = λ c e. a.kept c (h.kept c e);
   to_come = λ m c e apart alike. ⊎_elim (λ before. inl (a.kept c before))
-      (λ k. ⊎_elim (λ lies. inl (a.complete m c lies apart alike)) inr (or_cases (lies_in r m) (is_in left m) k))
+      (λ k. ⊎_elim (λ lies. inl (by_range m c lies apart alike (lies_in r c) refl)) inr (or_cases (lies_in r m) (is_in left m) k))
       (h.to_come m c e apart alike);
   within = λ m e. h.within m (or_right (lies_in r m) (is_in left m) e);
 }
+  where
+    by_range : (m c : ℕ) → lies_in r m ≡ true → m ≢ c → simple_fold m ≡ simple_fold c → (b : Bool) → lies_in r c ≡ b → is_in more c ≡ true
+    by_range m c lies apart alike true e = a.kept c (h.kept c (h.within c (or_left (lies_in r c) (is_in left c) e)))
+    by_range m c lies apart alike false e = a.complete m c lies e apart alike
 
 pub all_folded : (ranges folded left : List Range) → IsFoldedSoFar ranges folded left → left ≡ [] → AreFolded ranges folded
 all_folded ranges folded left h none = record {
