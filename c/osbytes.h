@@ -468,6 +468,7 @@ OSB_NODISCARD osb_status osb_path_normalize(osb_platform platform, const char *a
                                             char *out, size_t room, size_t *count);
 /* Writes the path cleaned, as Go's filepath.Clean and Python's normpath do: also without a `.` at the start
  * and a `..` at a root, and each other `..` without a name before it stays. The empty path is `.`.
+ * A share and a drive are written with \, but //?/share with /. A path that begins with \\?\ is kept.
  * OSB_OK, OSB_NO_ROOM, OSB_NO_MEMORY, OSB_BAD_PLATFORM. */
 OSB_NODISCARD osb_status osb_path_clean(osb_platform platform, const char *at, size_t len,
                                         char *out, size_t room, size_t *count);

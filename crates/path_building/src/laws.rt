@@ -6,7 +6,7 @@ ghost use Rattle.path_rules.specs.Component.{Item, Normal};
 ghost use Rattle.path_rules.specs.Components.{AreComponents, AreUnixComponents, IsRelative};
 ghost use Rattle.path_building.specs.Normal.{AreNormalOf};
 ghost use Rattle.path_building.specs.Join.{IsVerbatimPath, IsDriveAlone, IsRelativeTo, HaveTheSamePrefix, IsJoin, without_dot};
-ghost use Rattle.path_building.specs.Resolved.{HasResolved};
+ghost use Rattle.path_building.specs.Resolved.{AreResolved, HasResolved};
 ghost use Rattle.path_building.specs.Normalized.{IsNormalForm, IsNormalized};
 ghost use Rattle.path_building.specs.Base.{HasNoNul, LacksPart, IsVerbatimAlone};
 ghost use Rattle.path_building.specs.Checked.{IsCheckedJoin, IsBelowBase, BeginsBelow};
@@ -112,12 +112,15 @@ pub fn join_components()
 
 /// After a base that begins with `\\?\` and is a whole prefix or has one, a path without a prefix is
 /// resolved: the joined path has the base's components, and after them the path's. `.` is left out,
-/// `..` takes a last name away and nothing else, and a root takes all but the prefix away.
+/// `..` takes a last name away and nothing else, and a root takes all but the prefix away. Both
+/// paths are resolved to one list of components.
 pub fn resolved_components()
-    ensures { (base : List ℕ) → (path : List ℕ) → (joined : List ℕ)
+    ensures items { (base : List ℕ) → (path : List ℕ) → (joined : List ℕ)
         → IsVerbatimPath Windows base → ¬ (LacksPart Windows base)
         → ¬ (IsPrefixed Windows path) → path ≢ [] → IsJoin Windows base path joined
         → HasResolved base path joined }
+    ensures one { (base : List ℕ) → (path : List ℕ) → (one : List Item) → (other : List Item)
+        → AreResolved base path one → AreResolved base path other → one ≡ other }
 {}
 
 /// A path with a separator at its end is the path itself if that ends with one, and ends with one

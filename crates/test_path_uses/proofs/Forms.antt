@@ -1,12 +1,12 @@
 -- A form of a path is one path, and its own.
-use Rattle.std.proofs.Common.{◌≡◌, codes, inl, inr, ℕ, List, sym, ap, ◌∙◌, subst, reverse}
+use Rattle.std.proofs.Common.{◌≡◌, codes, inl, inr, ℕ, List, map, sym, ap, ◌∙◌, subst, reverse}
 use Rattle.std.proofs.lemmas.List.{reverse-reverse}
 use Rattle.path_rules.specs.declared.rules.Style as whose
 use Rattle.path_rules.specs.declared.rules.Style.TheVariants as style
 use Rattle.path_rules.specs.Component.{Item}
 use Rattle.path_building.specs.Normal.{AreNormalOf}
 use Rattle.path_building.specs.Normalized.{IsNormalForm, IsNormalized, IsShielded}
-use Rattle.path_building.specs.Cleaned.{CleansTo, IsCleanForm, IsCleaned, or_dot}
+use Rattle.path_building.specs.Cleaned.{CleansTo, IsCleanForm, IsCleaned, or_dot, spelled}
 use Rattle.path_building.specs.Written.{IsWritten}
 use Rattle.test_path_uses.specs.declared.form.Form.{Form}
 use Rattle.test_path_uses.specs.declared.form.Form.TheVariants as which
@@ -40,7 +40,7 @@ module _ (list : OneList) (clean : (items one other : List Item) → CleansTo it
   clean_same items one other (inr h) (inl k) = absurd (h.0 k.0)
   clean_same items one other (inr h) (inr k) =
       let left : h.1.0 ≡ k.1.0 = sym (reverse-reverse h.1.0) ∙ ap reverse (clean (reverse items) (reverse h.1.0) (reverse k.1.0) h.1.1.0 k.1.1.0) ∙ reverse-reverse k.1.0 in
-      h.1.1.1 ∙ ap or_dot left ∙ sym k.1.1.1
+      h.1.1.1 ∙ ap (λ z. or_dot (map spelled z)) left ∙ sym k.1.1.1
 
   pub cleaned : (w : whose.Style) (path one other : List ℕ) → IsCleaned w path one → IsCleaned w path other → one ≡ other
   cleaned w path one other h k =

@@ -2,6 +2,7 @@ pub mod Both
 pub mod Checks
 pub mod Writings
 pub mod Forms
+pub mod VerbatimJoins
 pub mod HiddenBelow
 pub mod Joins
 pub mod Names

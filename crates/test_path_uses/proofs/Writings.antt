@@ -1,10 +1,14 @@
 -- How paths of known components are written.
 use Rattle.std.proofs.Common.{◌≡◌, ◌≢◌, inl, inr, ℕ, true, false, List, [], ◌∷◌, ◌++◌, codes, refl, sym, ◌∙◌, subst}
+use Rattle.std.specs.List.{All, AllByRecursion}
+use Rattle.std.proofs.lemmas.List.Elements.{All-from_recursion}
 use Rattle.path_rules.specs.declared.rules.Style as whose
 use Rattle.path_rules.specs.declared.rules.Style.TheVariants as style
 use Rattle.path_rules.specs.Component.{Item, Prefix, RootDir, CurDir, ParentDir, Normal}
 use Rattle.path_rules.specs.Components.{AreComponents, prefixed, bare}
-use Rattle.path_rules.specs.Prefix.{Disk, IsPrefixOf}
+use Rattle.path_rules.specs.declared.rules.Rules.TheVariants as rules
+use Rattle.path_rules.specs.Separators.{separates}
+use Rattle.path_rules.specs.Prefix.{Kind, Unc, Disk, IsPrefixOf}
 use Rattle.path_building.specs.Normal.{AreNormalOf, bare_root, root, name, up}
 use Rattle.path_building.specs.Normalized.{IsNormalized}
 use Rattle.path_building.specs.Cleaned as clean
@@ -61,6 +65,76 @@ clean_form = record {
   form = inr (λ v. let never : false ≡ true = v in cc, (after, (clean.name (clean.up (clean.name clean.root)), refl)));
   shielded = inr (λ b. b, refl);
   answers = after_are;
+}
+
+-- `//s/h/a/../x`, its prefix, and its clean form
+share_plain : (s : List ℕ) → AllByRecursion (λ b. separates rules.Either b ≡ false) s → All (λ b. separates rules.Either b ≡ false) s
+share_plain s h = All-from_recursion (λ b. separates rules.Either b ≡ false) s h
+
+slashed_share : IsPrefixOf (codes "//s/h/a/../x") (Unc (codes "s") (codes "h")) (codes "/a/../x")
+slashed_share = record {
+  server = codes "s";
+  separator = 0x2F;
+  more = codes "h/a/../x";
+  share = codes "h";
+  is = refl;
+  first = record { joined = refl; plain = share_plain (codes "s") (refl, tt); edge = refl };
+  second = record { joined = refl; plain = share_plain (codes "h") (refl, tt); edge = refl };
+  some_server = λ e. cc;
+  some_share = λ e. cc;
+}
+
+clean_share : IsPrefixOf (codes "\\\\s\\h\\x") (Unc (codes "s") (codes "h")) (codes "\\x")
+clean_share = record {
+  server = codes "s";
+  separator = 0x5C;
+  more = codes "h\\x";
+  share = codes "h";
+  is = refl;
+  first = record { joined = refl; plain = share_plain (codes "s") (refl, tt); edge = refl };
+  second = record { joined = refl; plain = share_plain (codes "h") (refl, tt); edge = refl };
+  some_server = λ e. cc;
+  some_share = λ e. cc;
+}
+
+abbrev share_before : List Item
+share_before = Prefix (codes "//s/h") ∷ RootDir ∷ Normal (codes "a") ∷ ParentDir ∷ Normal (codes "x") ∷ []
+
+abbrev share_after : List Item
+share_after = Prefix (codes "\\\\s\\h") ∷ RootDir ∷ Normal (codes "x") ∷ []
+
+-- each path has one prefix
+abbrev pub OnePrefix : Type 0
+OnePrefix = (s : List ℕ) (a b : Kind) (x y : List ℕ) → IsPrefixOf s a x → IsPrefixOf s b y → (a ≡ b) × (x ≡ y)
+
+whole_share : OnePrefix → ¬ (HasEmptyShare (codes "\\\\s\\h"))
+whole_share one h = subst LacksShare (one (codes "\\\\s\\h") h.0 (Unc (codes "s") (codes "h")) h.1.0 [] h.1.1.0 alone).0 h.1.1.1
+  where
+    alone : IsPrefixOf (codes "\\\\s\\h") (Unc (codes "s") (codes "h")) []
+    alone = record {
+      server = codes "s";
+      separator = 0x5C;
+      more = codes "h";
+      share = codes "h";
+      is = refl;
+      first = record { joined = refl; plain = share_plain (codes "s") (refl, tt); edge = refl };
+      second = record { joined = refl; plain = share_plain (codes "h") (refl, tt); edge = tt };
+      some_server = λ e. cc;
+      some_share = λ e. cc;
+    }
+
+pub share_form : OnePrefix → IsCleaned style.Windows (codes "//s/h/a/../x") (codes "\\\\s\\h\\x")
+share_form one = record {
+  items = share_before;
+  clean = share_after;
+  shown = share_after;
+  are = prefixed (record { kind = Unc (codes "s") (codes "h"); raw = codes "//s/h"; rest = codes "/a/../x"; joined = refl; prefix = slashed_share; are = refl });
+  form = inr (λ v. let never : false ≡ true = v in cc, (Prefix (codes "//s/h") ∷ RootDir ∷ Normal (codes "x") ∷ [], (clean.name (clean.up (clean.name clean.root)), refl)));
+  shielded = inr (λ b. b, refl);
+  answers = (
+    prefixed (record { kind = Unc (codes "s") (codes "h"); raw = codes "\\\\s\\h"; rest = codes "\\x"; joined = refl; prefix = clean_share; are = refl }),
+    inr (λ o. o, inr (whole_share one, refl)),
+  );
 }
 
 -- `C:/a` and `b/c` below it

@@ -1,18 +1,20 @@
 //! Paths joined: which components the joined path has.
-ghost use Rattle.std.specs.Prelude.{◌≡◌, ◌≢◌, ◌++◌, ◌∷◌, [], ℕ, List, IfOk, IfSome};
+ghost use Rattle.std.specs.Prelude.{◌≡◌, ◌≢◌, ◌++◌, ◌∷◌, [], ℕ, List, codes, IfOk, IfSome};
 ghost use Rattle.platform_str.specs.Strings.{bytes, path_bytes, path_vec_of};
 ghost use Rattle.path_rules.specs.declared.rules.Style.TheVariants as whose;
 ghost use Rattle.path_rules.specs.StyleRules.{rules_of_style};
 ghost use Rattle.path_rules.specs.Root.{BeginsWithSeparator};
-ghost use Rattle.path_rules.specs.Component.{Item, Normal};
+ghost use Rattle.path_rules.specs.Component.{Item, Prefix, RootDir, Normal};
 ghost use Rattle.path_rules.specs.Components.{AreComponents, AreUnixComponents};
 ghost use Rattle.path_rules.specs.Compare.{HaveAlikeComponents};
 ghost use Rattle.path_rules.specs.Prefix.{IsPrefixed, IsRawPrefix};
+ghost use Rattle.path_building.specs.Base.{LacksPart};
+ghost use Rattle.path_building.specs.Resolved.{HasResolved};
 ghost use Rattle.path_building.specs.Join.{IsVerbatimPath, IsRelativeTo, HaveTheSamePrefix, without_dot};
 
 use os_path::{PathExt, PathStyle};
 use path_building::laws;
-use platform_str::{OsStr, Path, PathBuf, Unix};
+use platform_str::{OsStr, Path, PathBuf, Unix, Windows};
 use std::alloc::{AllocError, Allocator};
 
 /// A path joined to a base. The result has the components of both, where the path is relative, the
@@ -59,6 +61,37 @@ pub fn joined_on_unix<A: Allocator + Copy>(
 {
     laws::join_components();
     base.join(alloc, path)
+}
+
+/// A path joined to one that begins with `\\?\`: the components of both, resolved.
+pub fn resolved<A: Allocator + Copy>(
+    alloc: A,
+    base: Path<'_, Windows>,
+    path: Path<'_, Windows>,
+) -> Result<PathBuf<Windows, A>, AllocError>
+    ensures { IfOk result (λ joined. IsVerbatimPath whose.Windows (path_bytes base.entry)
+        → ¬ (LacksPart whose.Windows (path_bytes base.entry))
+        → ¬ (IsPrefixed whose.Windows (path_bytes path.entry)) → path_bytes path.entry ≢ []
+        → HasResolved (path_bytes base.entry) (path_bytes path.entry) (path_vec_of joined).items) }
+{
+    laws::resolved_components();
+    base.join(alloc, path)
+}
+
+/// `..\b\.` joined to `\\?\C:\a`: the prefix, its root and `b`.
+pub fn resolved_up<A: Allocator + Copy>(
+    alloc: A,
+    base: Path<'_, Windows>,
+    path: Path<'_, Windows>,
+) -> Result<PathBuf<Windows, A>, AllocError>
+    ensures { IfOk result (λ joined. path_bytes base.entry ≡ codes "\\\\?\\C:\\a"
+        → path_bytes path.entry ≡ codes "..\\b\\."
+        → AreComponents whose.Windows (path_vec_of joined).items
+        (Prefix (codes "\\\\?\\C:") ∷ RootDir ∷ Normal (codes "b") ∷ [])) }
+{
+    path_rules::laws::one_list();
+    laws::resolved_components();
+    resolved(alloc, base, path)
 }
 
 /// The parent of a path of Unix joined with its last name: the path's components.

@@ -1,17 +1,20 @@
 //! Normal forms and clean forms of paths, which are their own.
 ghost use Rattle.std.specs.Prelude.{◌≡◌, ◌↔◌, ℕ, List, IsTrue, IfOk, IfSome};
 ghost use Rattle.platform_str.specs.Strings.{path_bytes, path_vec_of};
+ghost use Rattle.path_rules.specs.declared.rules.Style.TheVariants as whose;
 ghost use Rattle.path_rules.specs.Component.{Item};
 ghost use Rattle.path_rules.specs.Components.{AreComponents};
 ghost use Rattle.path_building.specs.Normalized.{IsNormalForm};
+ghost use Rattle.path_building.specs.Cleaned.{DifferInSeparators};
+ghost use Rattle.path_building.specs.Join.{IsVerbatimPath};
 ghost use Rattle.test_path_uses.specs.Forms.{IsForm};
 
 use crate::form::Form;
 use os_path::{NormalizeError, PathExt, PathStyle};
 use path_building::laws as building;
 use path_rules::laws;
-use platform_str::{Path, PathBuf};
-use std::alloc::Allocator;
+use platform_str::{Path, PathBuf, Windows};
+use std::alloc::{AllocError, Allocator};
 
 /// A path in a form.
 pub(crate) fn in_form<'a, E: PathStyle + 'a, A: Allocator + Copy>(
@@ -60,6 +63,24 @@ pub fn formed_twice<'a, E: PathStyle + 'a, A: Allocator + Copy>(
     let once = in_form(alloc, form, path)?;
     let twice = in_form(alloc, form, once.as_path())?;
     Ok((once, twice))
+}
+
+/// Two Windows paths that differ only in which of `/` and `\` separates, cleaned: the same bytes,
+/// unless one of them begins with `\\?\`.
+pub fn cleaned_alike<A: Allocator + Copy>(
+    alloc: A,
+    path: Path<'_, Windows>,
+    other: Path<'_, Windows>,
+) -> Result<(PathBuf<Windows, A>, PathBuf<Windows, A>), AllocError>
+    ensures { IfOk result (λ both. DifferInSeparators (path_bytes path.entry) (path_bytes other.entry)
+        → ¬ (IsVerbatimPath whose.Windows (path_bytes path.entry))
+        → ¬ (IsVerbatimPath whose.Windows (path_bytes other.entry))
+        → (path_vec_of both.0).items ≡ (path_vec_of both.1).items) }
+{
+    building::one_clean_path();
+    let one = path.clean(alloc)?;
+    let two = other.clean(alloc)?;
+    Ok((one, two))
 }
 
 /// Whether a path has a normal form; `None` where memory is refused.

@@ -30,6 +30,18 @@ pub fn form_of_slashes<A: Allocator + Copy>(
     formed(alloc, form, path)
 }
 
+/// `//s/h/a/../x` cleaned is `\\s\h\x`.
+pub fn clean_share<A: Allocator + Copy>(
+    alloc: A,
+    path: Path<'_, Windows>,
+) -> Result<PathBuf<Windows, A>, NormalizeError>
+    ensures { IfOk result (λ made. path_bytes path.entry ≡ codes "//s/h/a/../x"
+        → (path_vec_of made).items ≡ codes "\\\\s\\h\\x") }
+{
+    laws::one_list();
+    formed(alloc, Form::Clean, path)
+}
+
 /// `b/c` below `C:/a` is `C:\a\b\c`.
 pub fn below_slashes<A: Allocator + Copy>(
     alloc: A,

@@ -13,7 +13,9 @@ use Rattle.path_rules.specs.Components.{prefixed}
 use Rattle.path_rules.specs.Root.{BeginsWithSeparator}
 use Rattle.path_rules.specs.Prefix.{IsRawPrefix}
 use Rattle.path_building.specs.Join.{NeedsNoSeparator, IsJoin, replacing, resolving, at_root, after}
-use Rattle.path_building.specs.Resolved.{without_name, first_and_root, with_item, with_items, written, written_next, written_all}
+use Rattle.path_building.specs.Resolved as resolved
+use Rattle.path_building.specs.Resolved.{ResolvesTo, below_root}
+use Rattle.path_building.specs.Written.{spelling, more_names, joined_names, written}
 use Rattle.path_rules.specs.Parent.{IsParent}
 use Rattle.path_rules.specs.Name.{IsStem}
 use Rattle.path_building.specs.FileName.{IsNamed, IsFileNameAt, IsExtensionSet, IsExtensionAdded, dotted}
@@ -23,7 +25,8 @@ use Rattle.path_rules.proofs.lemmas.Edges.{drive_bytes}
 use Rattle.os_path.specs.Formed.{IsFormed, AreFormed}
 use Rattle.os_path.proofs.lemmas.Parts.{IsCutAtAscii}
 use Rattle.os_path.proofs.lemmas.Cuts.{before_formed}
-use Rattle.os_path.proofs.lemmas.Whole.{all_formed, joined_formed}
+use Rattle.os_path.proofs.lemmas.NormalParts.{reversed, from_reversed}
+use Rattle.os_path.proofs.lemmas.Whole.{all_formed}
 
 -- an ASCII byte is a text, and so is none
 pub one_text : (c : ℕ) → c < 0x80 → IsUtf8 (c ∷ [])
@@ -81,71 +84,46 @@ module _ (formed : List ℕ → Type 0) (units : List ℕ → List ℕ) (laws : 
       let rest : formed u = (laws.prefixes (c ∷ []) u (laws.texts (c ∷ []) (one_text c low)) (subst formed e fp)).0 in
       subst (λ y. formed (kept ++ y)) (sym e) (around kept u c low fk rest)
 
-  -- components written one after the other
-  item_formed : (x : Item) → IsFormed formed x → formed (written x)
-  item_formed (Prefix s) f = f
-  item_formed RootDir f = laws.texts (0x5C ∷ []) (one_text 0x5C (lit< tt))
-  item_formed CurDir f = laws.texts (0x2E ∷ []) (one_text 0x2E (lit< tt))
-  item_formed ParentDir f = laws.texts (0x2E ∷ 0x2E ∷ []) dots_text
-  item_formed (Normal s) f = f
+  -- names with an ASCII byte between them
+  spelled_formed : (x : Item) → IsFormed formed x → formed (spelling x)
+  spelled_formed (Prefix s) f = nothing_formed
+  spelled_formed RootDir f = nothing_formed
+  spelled_formed CurDir f = laws.texts (0x2E ∷ []) (one_text 0x2E (lit< tt))
+  spelled_formed ParentDir f = laws.texts (0x2E ∷ 0x2E ∷ []) dots_text
+  spelled_formed (Normal s) f = f
 
-  at_last_root : (x : Item) (ys : List Item) → formed (written x) → formed (written_all (RootDir ∷ ys)) → formed (written x ++ ([] ++ written_all (RootDir ∷ ys)))
-  at_last_root x ys fx f = before_first (written x) (written_all (RootDir ∷ ys)) (written_next RootDir ys ++ written_all ys) 0x5C (lit< tt) refl fx f
+  more_formed : (c : ℕ) → c < 0x80 → (s : List ℕ) (xs : List Item) → formed s → AreFormed formed xs → formed (s ++ more_names c xs)
+  more_formed c low s [] fs f = subst formed (sym (append-nil s)) fs
+  more_formed c low s (x ∷ xs) fs f = around s (spelling x ++ more_names c xs) c low fs (more_formed c low (spelling x) xs (spelled_formed x f.0) f.1)
 
-  next_formed : (x : Item) (ys : List Item) → formed (written x) → formed (written_all ys) → formed (written x ++ (written_next x ys ++ written_all ys))
-  next_formed x [] fx f = subst formed (sym (append-nil (written x))) fx
-  next_formed RootDir (y ∷ ys) fx f = around [] (written_all (y ∷ ys)) 0x5C (lit< tt) nothing_formed f
-  next_formed (Prefix s) (RootDir ∷ ys) fx f = at_last_root (Prefix s) ys fx f
-  next_formed CurDir (RootDir ∷ ys) fx f = at_last_root CurDir ys fx f
-  next_formed ParentDir (RootDir ∷ ys) fx f = at_last_root ParentDir ys fx f
-  next_formed (Normal s) (RootDir ∷ ys) fx f = at_last_root (Normal s) ys fx f
-  next_formed (Prefix s) (Prefix t ∷ ys) fx f = around s (written_all (Prefix t ∷ ys)) 0x5C (lit< tt) fx f
-  next_formed (Prefix s) (CurDir ∷ ys) fx f = around s (written_all (CurDir ∷ ys)) 0x5C (lit< tt) fx f
-  next_formed (Prefix s) (ParentDir ∷ ys) fx f = around s (written_all (ParentDir ∷ ys)) 0x5C (lit< tt) fx f
-  next_formed (Prefix s) (Normal t ∷ ys) fx f = around s (written_all (Normal t ∷ ys)) 0x5C (lit< tt) fx f
-  next_formed CurDir (Prefix t ∷ ys) fx f = around (written CurDir) (written_all (Prefix t ∷ ys)) 0x5C (lit< tt) fx f
-  next_formed CurDir (CurDir ∷ ys) fx f = around (written CurDir) (written_all (CurDir ∷ ys)) 0x5C (lit< tt) fx f
-  next_formed CurDir (ParentDir ∷ ys) fx f = around (written CurDir) (written_all (ParentDir ∷ ys)) 0x5C (lit< tt) fx f
-  next_formed CurDir (Normal t ∷ ys) fx f = around (written CurDir) (written_all (Normal t ∷ ys)) 0x5C (lit< tt) fx f
-  next_formed ParentDir (Prefix t ∷ ys) fx f = around (written ParentDir) (written_all (Prefix t ∷ ys)) 0x5C (lit< tt) fx f
-  next_formed ParentDir (CurDir ∷ ys) fx f = around (written ParentDir) (written_all (CurDir ∷ ys)) 0x5C (lit< tt) fx f
-  next_formed ParentDir (ParentDir ∷ ys) fx f = around (written ParentDir) (written_all (ParentDir ∷ ys)) 0x5C (lit< tt) fx f
-  next_formed ParentDir (Normal t ∷ ys) fx f = around (written ParentDir) (written_all (Normal t ∷ ys)) 0x5C (lit< tt) fx f
-  next_formed (Normal s) (Prefix t ∷ ys) fx f = around s (written_all (Prefix t ∷ ys)) 0x5C (lit< tt) fx f
-  next_formed (Normal s) (CurDir ∷ ys) fx f = around s (written_all (CurDir ∷ ys)) 0x5C (lit< tt) fx f
-  next_formed (Normal s) (ParentDir ∷ ys) fx f = around s (written_all (ParentDir ∷ ys)) 0x5C (lit< tt) fx f
-  next_formed (Normal s) (Normal t ∷ ys) fx f = around s (written_all (Normal t ∷ ys)) 0x5C (lit< tt) fx f
+  pub names_formed : (c : ℕ) → c < 0x80 → (xs : List Item) → AreFormed formed xs → formed (joined_names c xs)
+  names_formed c low [] f = nothing_formed
+  names_formed c low (x ∷ xs) f = more_formed c low (spelling x) xs (spelled_formed x f.0) f.1
 
-  all_written : (xs : List Item) → AreFormed formed xs → formed (written_all xs)
-  all_written [] f = nothing_formed
-  all_written (x ∷ xs) f = next_formed x xs (item_formed x f.0) (all_written xs f.1)
+  -- components resolved, and written
+  resolved_formed : {base xs ys : List Item} → ResolvesTo base xs ys → AreFormed formed base → AreFormed formed xs → AreFormed formed ys
+  resolved_formed {base} resolved.nothing b f = reversed formed base b
+  resolved_formed (resolved.root e) b f = (tt, ((subst (AreFormed formed) e b).0, tt))
+  resolved_formed (resolved.here h) b f = resolved_formed h b f.1
+  resolved_formed (resolved.name h) b f = (f.0, resolved_formed h b f.1)
+  resolved_formed (resolved.up h) b f = (resolved_formed h b f.1).1
+  resolved_formed (resolved.stays h n) b f = resolved_formed h b f.1
 
-  -- components resolved
-  no_name_formed : (xs : List Item) → AreFormed formed xs → AreFormed formed (without_name xs)
-  no_name_formed [] f = tt
-  no_name_formed (Prefix s ∷ []) f = f
-  no_name_formed (RootDir ∷ []) f = f
-  no_name_formed (CurDir ∷ []) f = f
-  no_name_formed (ParentDir ∷ []) f = f
-  no_name_formed (Normal s ∷ []) f = tt
-  no_name_formed (x ∷ y ∷ xs) f = (f.0, no_name_formed (y ∷ xs) f.1)
-
-  root_formed : (xs : List Item) → AreFormed formed xs → AreFormed formed (first_and_root xs)
-  root_formed [] f = (tt, tt)
-  root_formed (x ∷ xs) f = (f.0, (tt, tt))
+  below_formed : (xs : List Item) → AreFormed formed xs → formed (written 0x5C (below_root xs))
+  below_formed [] f = nothing_formed
+  below_formed (Prefix s ∷ []) f = subst formed (sym (append-nil s)) f.0
+  below_formed (Prefix s ∷ Prefix t ∷ xs) f = more_formed 0x5C (lit< tt) s xs f.0 f.1.1
+  below_formed (Prefix s ∷ RootDir ∷ xs) f = around s (joined_names 0x5C xs) 0x5C (lit< tt) f.0 (names_formed 0x5C (lit< tt) xs f.1.1)
+  below_formed (Prefix s ∷ CurDir ∷ xs) f = around s (more_names 0x5C xs) 0x2E (lit< tt) f.0 (more_formed 0x5C (lit< tt) [] xs nothing_formed f.1.1)
+  below_formed (Prefix s ∷ ParentDir ∷ xs) f =
+      around s (0x2E ∷ more_names 0x5C xs) 0x2E (lit< tt) f.0 (around [] (more_names 0x5C xs) 0x2E (lit< tt) nothing_formed (more_formed 0x5C (lit< tt) [] xs nothing_formed f.1.1))
+  below_formed (Prefix s ∷ Normal t ∷ xs) f = around s (joined_names 0x5C (Normal t ∷ xs)) 0x5C (lit< tt) f.0 (names_formed 0x5C (lit< tt) (Normal t ∷ xs) f.1)
+  below_formed (RootDir ∷ xs) f = around [] (joined_names 0x5C xs) 0x5C (lit< tt) nothing_formed (names_formed 0x5C (lit< tt) xs f.1)
+  below_formed (CurDir ∷ xs) f = names_formed 0x5C (lit< tt) (CurDir ∷ xs) f
+  below_formed (ParentDir ∷ xs) f = names_formed 0x5C (lit< tt) (ParentDir ∷ xs) f
+  below_formed (Normal s ∷ xs) f = names_formed 0x5C (lit< tt) (Normal s ∷ xs) f
 
   module _ (cut : IsCutAtAscii formed) where
-    one_formed : (xs : List Item) (y : Item) → AreFormed formed xs → IsFormed formed y → AreFormed formed (with_item xs y)
-    one_formed xs (Prefix s) f g = joined_formed formed cut xs (Prefix s ∷ []) f (g, tt)
-    one_formed xs RootDir f g = root_formed xs f
-    one_formed xs CurDir f g = f
-    one_formed xs ParentDir f g = no_name_formed xs f
-    one_formed xs (Normal s) f g = joined_formed formed cut xs (Normal s ∷ []) f (g, tt)
-
-    more_formed : (xs ys : List Item) → AreFormed formed xs → AreFormed formed ys → AreFormed formed (with_items xs ys)
-    more_formed xs [] f g = f
-    more_formed xs (y ∷ ys) f g = more_formed (with_item xs y) ys (one_formed xs y f g.0) g.1
-
     -- what a path keeps of its prefix
     raw_formed : (w : whose.Style) (base raw : List ℕ) → IsRawPrefix w base raw → formed base → formed raw
     raw_formed style.Unix base raw e f = subst formed (sym e) nothing_formed
@@ -171,7 +149,10 @@ module _ (formed : List ℕ → Type 0) (units : List ℕ → List ℕ) (laws : 
     pub join_formed : (w : whose.Style) (base path joined : List ℕ) → IsJoin w base path joined → formed base → formed path → formed joined
     join_formed w base path joined (replacing p e) fb fp = subst formed (sym e) fp
     join_formed w base path joined (resolving p v s r) fb fp =
-        subst formed (sym r.is) (all_written (with_items r.base_items r.items) (more_formed r.base_items r.items (all_formed formed cut style.Windows base r.base_items r.base_are fb) (all_formed formed cut style.Windows path r.items r.are fp)))
+        let h = r.resolved in
+        let base_formed = all_formed formed cut style.Windows base h.base_items h.base_are fb in
+        let items_formed = reversed formed h.items (all_formed formed cut style.Windows path h.items h.are fp) in
+        subst formed (sym r.is) (below_formed r.left (from_reversed formed r.left (resolved_formed h.form base_formed items_formed)))
     join_formed w base path joined (at_root p v i) fb fp = subst formed (sym i.is) (root_joined (rules_of_style w) i.raw path i.root (raw_formed w base i.raw i.prefix fb) fp)
     join_formed w base path joined (after p v i) fb fp = subst formed (sym i.is) (cases i.written)
       where

@@ -1,19 +1,23 @@
 -- What is left of well-formed components is well formed.
-use Rattle.std.proofs.Common.{inl, inr, ℕ, List, [], ◌∷◌, reverse, take, drop, sym, ◌∙◌, subst, append-nil}
+use Rattle.std.proofs.Common.{◌≡◌, inl, inr, ◌<◌, ℕ, Bool, true, false, if◌then◌else◌, List, [], ◌∷◌, ◌++◌, map, reverse, take, drop, refl, sym, ◌∙◌, subst, append_assoc, append-nil, lit<}
 use Rattle.std.proofs.lemmas.List.{reverse-reverse}
 use Rattle.wtf8_core.specs.Boundary.{IsBoundary}
 use Rattle.wtf8_core.specs.OccurrenceLaws.{OccurrenceLaws}
 use Rattle.path_rules.specs.declared.rules.Style.{Style}
 use Rattle.path_rules.specs.Components.{AreComponents}
-use Rattle.path_rules.specs.Component.{Item}
+use Rattle.path_rules.specs.declared.rules.Rules.TheVariants as rules
+use Rattle.path_rules.specs.Separators.{separates}
+use Rattle.path_rules.specs.Component.{Item, Prefix, RootDir, CurDir, ParentDir, Normal}
+use Rattle.path_rules.proofs.lemmas.Ascii.{ascii_separators}
 use Rattle.path_building.specs.Normal.{LeadsTo, nowhere, prefix, bare_root, root, start, here, name, up}
 use Rattle.path_building.specs.Normalized.{IsShielded, IsNormalForm, IsNormalized}
 use Rattle.path_building.specs.Cleaned as clean
-use Rattle.path_building.specs.Cleaned.{CleansTo, or_dot, IsCleanForm, IsCleaned}
+use Rattle.path_building.specs.Cleaned.{CleansTo, or_dot, begins_as_verbatim, separated_by, one_spelling, spelled, IsCleanForm, IsCleaned}
 use Rattle.path_building.proofs.lemmas.Resolving.{onto, onto_is}
 use Rattle.os_path.specs.Formed.{AreFormed}
 use Rattle.os_path.proofs.lemmas.Cuts.{cuts}
-use Rattle.os_path.proofs.lemmas.FromParts.{joins, from_items}
+use Rattle.os_path.proofs.lemmas.FromParts.{JoinsAtAscii, joins, from_items}
+use Rattle.os_path.proofs.lemmas.Parts.{IsCutAtAscii}
 use Rattle.os_path.proofs.lemmas.Whole.{all_formed}
 
 module _ (formed : List ℕ → Type 0) where
@@ -56,9 +60,34 @@ module _ (formed : List ℕ → Type 0) where
   or_dot_formed [] f = (tt, tt)
   or_dot_formed (x ∷ xs) f = f
 
-  clean_formed : (items form : List Item) → IsCleanForm items form → AreFormed formed items → AreFormed formed form
-  clean_formed items form (inl h) f = subst (AreFormed formed) (sym h.1) f
-  clean_formed items form (inr h) f = subst (AreFormed formed) (sym h.1.1.1) (or_dot_formed h.1.0 (from_reversed h.1.0 (clean_left h.1.1.0 (reversed items f))))
+  -- an ASCII byte in the place of each separator
+  separated_formed : IsCutAtAscii formed → JoinsAtAscii formed → (c : ℕ) → c < 0x80 → (s first : List ℕ) → formed (first ++ s) → formed (first ++ separated_by c s)
+  separated_formed cut join c low [] first f = f
+  separated_formed cut join c low (b ∷ s) first f = cases (separates rules.Either b) refl (separated_formed cut join c low s (first ++ b ∷ [])) (separated_formed cut join c low s [])
+    where
+      cases : (v : Bool) → separates rules.Either b ≡ v → (formed ((first ++ b ∷ []) ++ s) → formed ((first ++ b ∷ []) ++ separated_by c s)) → (formed s → formed (separated_by c s)) → formed (first ++ (if v then c else b) ∷ separated_by c s)
+      cases true e more next = let both = cut first s b (ascii_separators rules.Either b e) f in join first (separated_by c s) c low both.before (next both.after)
+      cases false e more next = subst formed (append_assoc first (b ∷ []) (separated_by c s)) (more (subst formed (sym (append_assoc first (b ∷ []) s)) f))
+
+  spelling_formed : IsCutAtAscii formed → JoinsAtAscii formed → (s : List ℕ) → formed s → formed (one_spelling s)
+  spelling_formed cut join s f = by (begins_as_verbatim s)
+    where
+      by : (v : Bool) → formed (separated_by (if v then 0x2F else 0x5C) s)
+      by true = separated_formed cut join 0x2F (lit< tt) s [] f
+      by false = separated_formed cut join 0x5C (lit< tt) s [] f
+
+  spelled_formed : ((s : List ℕ) → formed s → formed (one_spelling s)) → (xs : List Item) → AreFormed formed xs → AreFormed formed (map spelled xs)
+  spelled_formed spell [] f = tt
+  spelled_formed spell (Prefix s ∷ xs) f = (spell s f.0, spelled_formed spell xs f.1)
+  spelled_formed spell (RootDir ∷ xs) f = (tt, spelled_formed spell xs f.1)
+  spelled_formed spell (CurDir ∷ xs) f = (tt, spelled_formed spell xs f.1)
+  spelled_formed spell (ParentDir ∷ xs) f = (tt, spelled_formed spell xs f.1)
+  spelled_formed spell (Normal s ∷ xs) f = (f.0, spelled_formed spell xs f.1)
+
+  clean_formed : ((s : List ℕ) → formed s → formed (one_spelling s)) → (items form : List Item) → IsCleanForm items form → AreFormed formed items → AreFormed formed form
+  clean_formed spell items form (inl h) f = subst (AreFormed formed) (sym h.1) f
+  clean_formed spell items form (inr h) f =
+      subst (AreFormed formed) (sym h.1.1.1) (or_dot_formed (map spelled h.1.0) (spelled_formed spell h.1.0 (from_reversed h.1.0 (clean_left h.1.1.0 (reversed items f)))))
 
   shielded_formed : (w : Style) (xs shown : List Item) → IsShielded w xs shown → AreFormed formed xs → AreFormed formed shown
   shielded_formed w xs shown (inl h) f = subst (AreFormed formed) (sym h.1) (tt, f)
@@ -77,4 +106,4 @@ module _ (formed : List ℕ → Type 0) (units : List ℕ → List ℕ) (laws : 
 
   pub cleaned_formed : (w : Style) (path answer : List ℕ) → IsCleaned w path answer → formed path → formed answer
   cleaned_formed w path answer h f =
-      of_path w answer h.shown h.answers.0 (shielded_formed formed w h.clean h.shown h.shielded (clean_formed formed h.items h.clean h.form (of_items w path h.items h.are f)))
+      of_path w answer h.shown h.answers.0 (shielded_formed formed w h.clean h.shown h.shielded (clean_formed formed (spelling_formed formed (cuts formed cut_prefix cut_suffix) (joins formed units laws)) h.items h.clean h.form (of_items w path h.items h.are f)))

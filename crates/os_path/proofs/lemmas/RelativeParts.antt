@@ -6,13 +6,13 @@ use Rattle.path_rules.specs.declared.rules.Style.{Style}
 use Rattle.path_rules.specs.declared.rules.Style.TheVariants as style
 use Rattle.path_rules.specs.StyleRules.{main_separator}
 use Rattle.path_rules.specs.Component.{Item, Prefix, RootDir, CurDir, ParentDir, Normal}
-use Rattle.path_building.specs.Written.{spelling, more_names, joined_names, IsWrittenOut, IsWritten}
+use Rattle.path_building.specs.Written.{joined_names, IsWrittenOut, IsWritten}
 use Rattle.path_building.specs.Relative.{AreApart, up_from, BeginsAtTop, AreWritten, IsWhole, IsCandidate}
 use Rattle.path_building.proofs.lemmas.Places.{below_top, bare_names, object_none}
 use Rattle.os_path.specs.Formed.{IsFormed, AreFormed}
 use Rattle.os_path.proofs.lemmas.Cuts.{cuts}
 use Rattle.os_path.proofs.lemmas.Whole.{joined_formed}
-use Rattle.os_path.proofs.lemmas.Joined.{one_text, dots_text, around, nothing_formed}
+use Rattle.os_path.proofs.lemmas.Joined.{names_formed}
 use Rattle.os_path.proofs.lemmas.NormalParts.{clean_left, reversed, from_reversed, of_items, of_path}
 
 ascii : (w : Style) → main_separator w < 0x80
@@ -31,28 +31,13 @@ module _ (formed : List ℕ → Type 0) where
   ups_formed (x ∷ xs) = (tt, ups_formed xs)
 
 module _ (formed : List ℕ → Type 0) (units : List ℕ → List ℕ) (laws : OccurrenceLaws formed units) where
-  spelled_formed : (x : Item) → IsFormed formed x → formed (spelling x)
-  spelled_formed (Prefix s) f = nothing_formed formed units laws
-  spelled_formed RootDir f = nothing_formed formed units laws
-  spelled_formed CurDir f = laws.texts (0x2E ∷ []) (one_text 0x2E (lit< tt))
-  spelled_formed ParentDir f = laws.texts (0x2E ∷ 0x2E ∷ []) dots_text
-  spelled_formed (Normal s) f = f
-
-  more_formed : (c : ℕ) → c < 0x80 → (s : List ℕ) (xs : List Item) → formed s → AreFormed formed xs → formed (s ++ more_names c xs)
-  more_formed c low s [] fs f = subst formed (sym (append-nil s)) fs
-  more_formed c low s (x ∷ xs) fs f = around formed units laws s (spelling x ++ more_names c xs) c low fs (more_formed c low (spelling x) xs (spelled_formed x f.0) f.1)
-
-  pub names_formed : (c : ℕ) → c < 0x80 → (xs : List Item) → AreFormed formed xs → formed (joined_names c xs)
-  names_formed c low [] f = nothing_formed formed units laws
-  names_formed c low (x ∷ xs) f = more_formed c low (spelling x) xs (spelled_formed x f.0) f.1
-
   written_formed : (w : Style) (names : List Item) (r : List ℕ) → ¬ (BeginsAtTop names) → IsWritten w names r → AreFormed formed names → formed r
   written_formed w names r n h f =
       let c = main_separator w in
       let is = bare_names c names n in
       let out : IsWrittenOut w names r = elim h [ inl a ↦ absurd (object_none w names n a.0) | inr a ↦ a.1 ] in
       let bytes : r ≡ joined_names c names = elim out as (λ z. r ≡ joined_names c names) [ inl a ↦ a.1 ∙ is.1 | inr a ↦ a.1 ∙ is.0 ] in
-      subst formed (sym bytes) (names_formed c (ascii w) names f)
+      subst formed (sym bytes) (names_formed formed units laws c (ascii w) names f)
 
   shown_formed : (w : Style) (names : List Item) (r : List ℕ) → ¬ (BeginsAtTop names) → AreWritten w names r → AreFormed formed names → formed r
   shown_formed w names r n h f = elim h.1.0 as (λ z. formed r) [

@@ -7,7 +7,8 @@ use Rattle.path_rules.specs.StyleRules.{rules_of_style}
 use Rattle.path_rules.specs.Prefix.{IsPrefixed, IsRawPrefix}
 use Rattle.path_rules.specs.Root.{BeginsWithSeparator}
 use Rattle.path_rules.proofs.lemmas.OneList.{one_prefix, one_components}
-use Rattle.path_building.specs.Resolved.{ResolvesTo, below_root, IsResolved}
+use Rattle.path_rules.specs.Component.{Item}
+use Rattle.path_building.specs.Resolved.{ResolvesTo, below_root, AreResolved, IsResolved}
 use Rattle.path_building.specs.Written.{written}
 use Rattle.path_building.specs.Join.{IsJoin, IsVerbatimPath, IsBetween, replacing, resolving, at_root, after}
 use Rattle.path_building.proofs.lemmas.Resolved.{one_resolved}
@@ -39,15 +40,15 @@ between_same w base one other (inl h) (inr k) = absurd (k.0 h.0)
 between_same w base one other (inr h) (inl k) = absurd (h.0 k.0)
 between_same w base one other (inr h) (inr k) = h.1 ∙ sym k.1
 
-resolved_same : (base path one other : List ℕ) → IsResolved base path one → IsResolved base path other → one ≡ other
-resolved_same base path one other h k =
-    let f = h.resolved in
-    let g = k.resolved in
+pub left_same : (base path : List ℕ) (one other : List Item) → AreResolved base path one → AreResolved base path other → one ≡ other
+left_same base path one other f g =
     let bases = one_components style.Windows base f.base_items g.base_items f.base_are g.base_are in
     let items = one_components style.Windows path f.items g.items f.are g.are in
-    let form : ResolvesTo g.base_items (reverse g.items) (reverse h.left) = subst (λ z. ResolvesTo g.base_items (reverse z) (reverse h.left)) items (subst (λ z. ResolvesTo z (reverse f.items) (reverse h.left)) bases f.form) in
-    let left : h.left ≡ k.left = sym (reverse-reverse h.left) ∙ ap reverse (one_resolved form g.form) ∙ reverse-reverse k.left in
-    h.is ∙ ap (λ z. written 0x5C (below_root z)) left ∙ sym k.is
+    let form : ResolvesTo g.base_items (reverse g.items) (reverse one) = subst (λ z. ResolvesTo g.base_items (reverse z) (reverse one)) items (subst (λ z. ResolvesTo z (reverse f.items) (reverse one)) bases f.form) in
+    sym (reverse-reverse one) ∙ ap reverse (one_resolved form g.form) ∙ reverse-reverse other
+
+resolved_same : (base path one other : List ℕ) → IsResolved base path one → IsResolved base path other → one ≡ other
+resolved_same base path one other h k = h.is ∙ ap (λ z. written 0x5C (below_root z)) (left_same base path h.left k.left h.resolved k.resolved) ∙ sym k.is
 
 neither : (path : List ℕ) {V : Type 0} → path ≢ [] → V → (path ≡ []) ⊎ (¬ V) → ⊥
 neither path some v (inl e) = some e
