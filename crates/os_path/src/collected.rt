@@ -16,7 +16,7 @@ use std::alloc::{AllocError, Allocator};
 ///
 /// A root is the separator that is written, `/` or `\`. A prefix is as it is written. The components
 /// of a Unix path give a path with these components (`path_building::laws::collected`). On Windows,
-/// as in std, a name that by itself begins with a prefix replaces what comes before it, and after
+/// as in std, a name that begins with a prefix, as `C:`, replaces what comes before it, and after
 /// `\\?\` a `..` takes the name before it away.
 ///
 /// # Errors
