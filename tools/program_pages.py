@@ -162,8 +162,9 @@ def synopsis(of: Program) -> str:
 
 def example_in_roff(example: Example) -> str:
     """Returns an example in roff: what it is for, its commands and what they print."""
-    first, *more = example.run.splitlines()
-    shown = "\n".join([f"$ {first}", *(f"$ {it}" for it in more), example.prints.rstrip("\n")])
+    lines = example.run.splitlines()
+    prompts = ["$", *(">" if it.endswith("|") else "$" for it in lines)]
+    shown = "\n".join([*(f"{prompt} {it}" for prompt, it in zip(prompts, lines)), example.prints.rstrip("\n")])
     return f".PP\n{in_roff(example.text)}\n.PP\n.RS 4\n{as_shown(shown)}\n.RE"
 
 
