@@ -21,7 +21,7 @@ IsOption (Short c) = Unit {0}
 IsOption (ShortBytes rest) = Unit {0}
 IsOption (Value value) = ⊥
 
--- of a program whose options are spelled so, and some of which take a value:
+-- for a program with options that are spelled so, where some take a value:
 module _ {O : Type 0} (spelled : O → Kind → Type 0) (has_value : O → Bool) where
   -- an operand, an option, or an option and its value are read
   abbrev pub Takes : Reading → Given O → Reading → Type 0
