@@ -63,7 +63,7 @@ pub(crate) fn push_spelled<A: Allocator>(
     push_separated(path, prefix, separator)
 }
 
-/// Appends bytes with a separator in the place of each.
+/// Appends bytes, with this separator instead of each that they have.
 fn push_separated<A: Allocator>(
     path: &mut Vec<u8, A>,
     bytes: &[u8],
