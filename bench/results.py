@@ -6,8 +6,10 @@ import re
 import statistics
 from typing import Iterator, NamedTuple
 
-TITLE = re.compile(r"### ((?:Hard )?\w+)")
+TITLE = re.compile(r"### ((?:Hard )?\w+)(?:.* beside (\w+))?")
 TIME = re.compile(r"[\d.]+$")
+OVER = re.compile(r"Ours/(.+)")
+CRATE = "os_str_bytes"
 
 
 class Line(NamedTuple):
@@ -62,6 +64,25 @@ def lines_of(text: str) -> Iterator[Line]:
         if len(cells) >= 7 and TIME.match(cells[2]):
             call, of, ours, crate, _, std, *_ = cells
             yield Line(family, f"{call}: {of}", ratio(ours, crate), ratio(ours, std))
+
+
+def peers_of(text: str) -> dict[str, dict[str, Ratios]]:
+    """Returns the ratios over each peer, by families: the crate, std, and each other that a title or a column names."""
+    peers: dict[str, dict[str, Ratios]] = {}
+    family, beside, head = "", CRATE, [""]
+    for row in text.splitlines():
+        if title := TITLE.match(row):
+            family, beside = title[1], title[2] or CRATE
+        cells = [cell.strip() for cell in row.split("|")[1:-1]]
+        if cells[:1] == ["Call"]:
+            head = cells
+        elif len(cells) >= 7 and TIME.match(cells[2]):
+            for column, theirs in zip(head[4::2], cells[3::2]):
+                if theirs:
+                    peer = beside if column == "Ours/crate" else OVER.fullmatch(column)[1]
+                    of_family = peers.setdefault(peer, {}).setdefault(family, Ratios([]))
+                    of_family.found.append(Found(float(cells[2]) / float(theirs), f"{cells[0]}: {cells[1]}"))
+    return peers
 
 
 def families_of(text: str) -> dict[str, tuple[Ratios, Ratios]]:

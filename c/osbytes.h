@@ -526,7 +526,7 @@ typedef enum osb_glob_fault_kind {
     OSB_GLOB_DANGLING_ESCAPE = 4,
     OSB_GLOB_UNCLOSED_BRACE = 5, /* that of the outermost { that isn't closed */
     OSB_GLOB_UNOPENED_BRACE = 6,
-    OSB_GLOB_TOO_MANY = 7        /* the alternatives are more than 1024 patterns; 0 */
+    OSB_GLOB_TOO_MANY = 7        /* the alternatives are more than 1024 patterns, or too long together; 0 */
 } osb_glob_fault_kind;
 
 /* The first pattern that has a fault: its number, and the kind and the byte index of its first fault. */

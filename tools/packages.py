@@ -1,9 +1,10 @@
-"""The C library as files for those who have no kit: an archive of it, and a Python package.
+"""What those get who have no kit: an archive of the C library, a Python package, and an archive of the programs.
 
-Both are made of what `tools/c-library` has built in a folder: libosbytes.a, the shared object and its name. The archive
-has the header, man pages that are made of the header's comments, the pkg-config file, docs/C.md and the examples, and
+The first two are made of what `tools/c-library` has built in a folder: libosbytes.a, the shared object and its name. The archive
+has the header, man pages that are made of the header's comments, the pkg-config file, c/GUIDE.md and the examples, and
 at its top a README, the changes and the licence. A link of a document that leads to no file of the archive is its
-words alone. The Python package is a wheel of the sources in python/osbytes with the shared object beside them.
+words alone. The Python package is a wheel of the sources in python/osbytes with the shared object beside them. The
+archive of the programs has them, their man pages and completions, a README and the licence.
 """
 
 from __future__ import annotations
@@ -18,7 +19,10 @@ import tarfile
 from pathlib import Path
 from typing import NamedTuple
 
-from handed_on import version
+from compiling import built
+from handed_on import Refusal, sum_of, version
+from program_pages import PROGRAMS, files_of
+from roff import as_roff, as_shown, page
 from sources import ROOT
 
 sys.path.insert(0, str(ROOT / "python"))
@@ -54,30 +58,12 @@ def words_of(comment: str) -> str:
     return "\n".join(lines).strip()
 
 
-def as_roff(text: str) -> str:
-    """Returns a text as roff shows it as it is."""
-    escaped = text.replace("\\", "\\e").replace("-", "\\-")
-    lines = (f"\\&{line}" if line.startswith((".", "'")) else line for line in escaped.splitlines())
-    return re.sub(r"\n\n+", "\n.PP\n", "\n".join(lines))
-
-
 def first_words(said: str) -> str:
     """Returns what a comment says first, as a line of names has it: up to a colon or the end of a sentence."""
     first = re.split(r"(?<=[.:;])\s", " ".join(said.split()), maxsplit=1)[0].rstrip(".:;")
     if len(first) > 100:
         first = first[: first.rfind(",", 0, 100)] if "," in first[:100] else first
     return first[:1].lower() + first[1:]
-
-
-def as_shown(text: str) -> str:
-    """Returns lines as roff shows them line for line."""
-    return ".nf\n" + as_roff(text).replace("\n.PP\n", "\n\n") + "\n.fi"
-
-
-def page(name: str, parts: dict[str, str]) -> str:
-    """Returns a man page of these sections, whose texts are roff."""
-    head = f'.TH {name.upper()} 3 "" "osbytes {version()}" "osbytes"'
-    return "\n".join([head, *(f".SH {title}\n{text}" for title, text in parts.items() if text)]) + "\n"
 
 
 def statuses(header: str) -> dict[str, str]:
@@ -128,7 +114,7 @@ def man_pages() -> dict[str, str]:
         calls = [call[0].removeprefix(marked).replace("\n" + " " * len(marked), "\n") for call in CALL.finditer(block["calls"])]
         for call in CALL.finditer(block["calls"]):
             name, synopsis = call["name"], "\n".join(calls)
-            pages[name] = page(name, {
+            pages[name] = page(name, 3, {
                 "NAME": f"{name} \\- {as_roff(first_words(said))}",
                 "SYNOPSIS": as_shown(f"#include <osbytes.h>\n\n{synopsis}"),
                 "DESCRIPTION": as_roff(said),
@@ -141,7 +127,7 @@ def man_pages() -> dict[str, str]:
     if missing := calls - pages.keys():
         raise ValueError(f"no comment stands before {', '.join(sorted(missing))}")
     named = ",\n".join(f".BR {name} (3)" for name in sorted(pages))
-    library = page("osbytes", {
+    library = page("osbytes", 3, {
         "NAME": f"osbytes \\- {as_roff(first_words(opening))}",
         "SYNOPSIS": as_shown("#include <osbytes.h>\n\ncc ... -losbytes"),
         "DESCRIPTION": as_shown(opening),
@@ -167,7 +153,7 @@ DOCUMENTS = {
     "docs/CHANGES.md": "CHANGES.md",
     "LICENSE.md": "LICENSE.md",
     "NOTICE": "NOTICE",
-    "docs/C.md": "share/doc/osbytes/C.md",
+    "c/GUIDE.md": "share/doc/osbytes/GUIDE.md",
     "c/names.c": "share/doc/osbytes/names.c",
     "c/below.c": "share/doc/osbytes/below.c",
     "c/outside.c": "share/doc/osbytes/outside.c",
@@ -178,33 +164,39 @@ DOCUMENTS = {
 }
 
 
-def with_links(text: str, document: str) -> str:
-    """Returns a document whose links lead to files of the archive; of any other only the words are left."""
+def with_links(text: str, document: str, places: dict[str, str]) -> str:
+    """Returns a document whose links lead to files of an archive with these; of any other only the words are left."""
     here = posixpath.dirname(document)
 
     def linked(link: re.Match[str]) -> str:
         if ":" in link[2]:
             return link[0]
-        leads_to = DOCUMENTS.get(posixpath.normpath(posixpath.join(here, link[2])))
+        leads_to = places.get(posixpath.normpath(posixpath.join(here, link[2])))
         if leads_to is None or not (ROOT / posixpath.normpath(posixpath.join(here, link[2]))).exists():
             return link[1]
-        return f"[{link[1]}]({posixpath.relpath(leads_to, posixpath.dirname(DOCUMENTS[document]) or '.')}{link[3] or ''})"
+        return f"[{link[1]}]({posixpath.relpath(leads_to, posixpath.dirname(places[document]) or '.')}{link[3] or ''})"
 
     return LINK.sub(linked, text)
 
 
-def documents() -> dict[str, Entry]:
-    """Returns the documents and the examples that are there, by where they are in the archive."""
-    there = {path: to for path, to in DOCUMENTS.items() if (ROOT / path).exists()}
+def documents(places: dict[str, str]) -> dict[str, Entry]:
+    """Returns those of the documents and examples that are there, by where they are in an archive."""
+    there = {path: to for path, to in places.items() if (ROOT / path).exists()}
     texts = {path: (ROOT / path).read_text(encoding="utf-8") for path in there}
-    return {to: Entry((with_links(texts[path], path) if path.endswith(".md") else texts[path]).encode()) for path, to in there.items()}
+    return {to: Entry((with_links(texts[path], path, places) if path.endswith(".md") else texts[path]).encode()) for path, to in there.items()}
+
+
+def with_sums(entries: dict[str, Entry], place: str) -> dict[str, Entry]:
+    """Returns the files of an archive, and at a place in it one with their sums."""
+    sums = "".join(f"{hashlib.sha256(entry.content).hexdigest()}  {path}\n" for path, entry in entries.items() if not entry.link)
+    return {**entries, place: Entry(sums.encode())}
 
 
 def library_entries(built: Path) -> dict[str, Entry]:
     """Returns what the archive has of a library that is built in a folder, by paths in it."""
     soname = f"libosbytes.so.{version().rsplit('.', 1)[0]}"
     entries = {
-        **documents(),
+        **documents(DOCUMENTS),
         "lib/libosbytes.a": Entry((built / "libosbytes.a").read_bytes()),
         f"lib/{soname}": Entry((built / soname).read_bytes(), 0o755),
         "lib/libosbytes.so": Entry(b"", 0o777, soname),
@@ -212,25 +204,26 @@ def library_entries(built: Path) -> dict[str, Entry]:
     }
     for name, text in man_pages().items():
         entries[f"share/man/man3/{name}.3"] = Entry(text.encode())
-    sums = "".join(
-        f"{hashlib.sha256(entry.content).hexdigest()}  {path}\n" for path, entry in entries.items() if not entry.link
-    )
-    return {**entries, "share/doc/osbytes/SHA256SUMS": Entry(sums.encode())}
+    return with_sums(entries, "share/doc/osbytes/SHA256SUMS")
 
 
-def make_archive(built: Path, folder: Path, processor: str) -> Path:
-    """Makes the archive of a library that is built in a folder."""
-    top = f"libosbytes-{version()}-linux-{processor}"
+def pack_entries(folder: Path, top: str, entries: dict[str, Entry]) -> Path:
+    """Makes an archive of these files in a folder, and returns it."""
     file = folder / f"{top}.tar.gz"
     with file.open("wb") as made, gzip.GzipFile("", "wb", 9, made, 0) as packed:
-        with tarfile.open(fileobj=packed, mode="w") as entries:
-            for path, entry in library_entries(built).items():
+        with tarfile.open(fileobj=packed, mode="w") as members:
+            for path, entry in entries.items():
                 member = tarfile.TarInfo(f"{top}/{path}")
                 member.size, member.mode = len(entry.content), entry.mode
                 if entry.link:
                     member.type, member.linkname = tarfile.SYMTYPE, entry.link
-                entries.addfile(member, io.BytesIO(entry.content))
+                members.addfile(member, io.BytesIO(entry.content))
     return file
+
+
+def make_archive(built: Path, folder: Path, processor: str) -> Path:
+    """Makes the archive of a library that is built in a folder."""
+    return pack_entries(folder, f"libosbytes-{version()}-linux-{processor}", library_entries(built))
 
 
 def make_wheel(built: Path, folder: Path, processor: str) -> Path:
@@ -246,3 +239,50 @@ def make_packages(built: Path, folder: Path) -> list[Path]:
     made = [make(room, folder, processor) for processor, room in there.items() for make in (make_archive, make_wheel)]
     libraries = [(processor, room / "libosbytes.so") for processor, room in there.items()]
     return [*made, build_backend.make_sdist(folder, libraries)] if libraries else made
+
+
+# The documents of the archive of the programs, where these are, and what the README of the archive says of glibc.
+PROGRAM_DOCUMENTS = {
+    "docs/programs/README.md": "README.md",
+    "docs/CHANGES.md": "CHANGES.md",
+    "LICENSE.md": "LICENSE.md",
+    "NOTICE": "NOTICE",
+}
+PROGRAM_PLACES = {name: built(name) for name in PROGRAMS}
+# Where tools/program-archive leaves the sums of the programs that it has used.
+TRIED_PROGRAMS = ROOT / "out" / "programs"
+NEEDS_GLIBC = re.compile(r"glibc (\d+)\.(\d+)")
+GLIBC = re.compile(rb"\0GLIBC_(\d+)\.(\d+)(?:\.\d+)?(?=\0)")
+NEEDED = re.compile(rb"(?<=\0)lib[\w.+-]+\.so(?:\.\d+)*(?=\0)")
+
+
+def sums_of_programs(places: dict[str, Path]) -> list[str]:
+    """Returns a line for each program that is there: its sum and its name."""
+    return [f"{sum_of(place)}  {name}" for name, place in places.items() if place.exists()]
+
+
+def refuse_newer(name: str, content: bytes) -> None:
+    """Stops where a program needs another library than glibc's, or a newer glibc than the README of the archive says."""
+    said = NEEDS_GLIBC.search((ROOT / "docs/programs/README.md").read_text(encoding="utf-8"))
+    newest = max(((int(it[1]), int(it[2])) for it in GLIBC.finditer(content)), default=None)
+    if newest is None or set(NEEDED.findall(content)) != {b"libc.so.6"}:
+        raise Refusal(f"{name} is not a program that needs libc.so.6 alone")
+    if newest != (int(said[1]), int(said[2])):
+        raise Refusal(f"{name} needs glibc {newest[0]}.{newest[1]}, and docs/programs/README.md says {said[0]}")
+
+
+def program_entries(programs: dict[str, bytes]) -> dict[str, Entry]:
+    """Returns what the archive of the programs has, by paths in it."""
+    entries = {**documents(PROGRAM_DOCUMENTS), **{f"bin/{name}": Entry(content, 0o755) for name, content in programs.items()}}
+    for name in PROGRAMS:
+        entries |= {f"share/{path}": Entry(text.encode()) for path, text in files_of(name).items()}
+    return with_sums(entries, "share/doc/osbytes-programs/SHA256SUMS")
+
+
+def make_programs(places: dict[str, Path], folder: Path, is_proved: bool = True) -> Path:
+    """Makes the archive of the programs, which are at these places, for Linux on x86-64."""
+    programs = {name: place.read_bytes() for name, place in places.items()}
+    if is_proved:
+        for name, content in programs.items():
+            refuse_newer(name, content)
+    return pack_entries(folder, f"osbytes-programs-{version()}-linux-x86_64", program_entries(programs))

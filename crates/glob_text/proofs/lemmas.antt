@@ -1,4 +1,5 @@
 pub mod Advancing
+pub mod Backwards
 pub mod Braces
 pub mod Choices
 pub mod Compiled
@@ -8,4 +9,7 @@ pub mod EscapedMeaning
 pub mod Folding
 pub mod Mapped
 pub mod Meanings
+pub mod Names
+pub mod Pieces
 pub mod Readings
+pub mod Sizes

@@ -1,5 +1,6 @@
--- The list of written-out patterns: the patterns without alternatives that a pattern with alternatives means (docs/DIFFERENCES.md has what bash does differently).
-use Rattle.std.specs.Prelude.{◌≡◌, ◌<◌, ℕ, Bool, true, false, not, List, [], ◌∷◌, ◌++◌, map, length}
+-- The patterns without alternatives that a pattern with alternatives is written out as.
+-- The order is that of bash ("Brace Expansion"). In bash `{a}` and `{}` stay as they are, `{1..3}` is a sequence, and braces in a class are alternatives.
+use Rattle.std.specs.Prelude.{◌≡◌, ◌⊎◌, ◌+◌, ◌<◌, ◌≤◌, ℕ, Bool, true, false, not, List, [], ◌∷◌, ◌++◌, map, length}
 use Rattle.std.specs.List.{flat_map}
 use Rattle.glob_text.specs.Marks.{Mark, literal, any, star, one_of, opens, comma, closes}
 
@@ -7,7 +8,25 @@ use Rattle.glob_text.specs.Marks.{Mark, literal, any, star, one_of, opens, comma
 abbrev pub most_choices : ℕ
 most_choices = 1024
 
+-- the largest number of marks that several of them may have together
+abbrev pub most_marks : ℕ
+most_marks = 65536
+
 module _ {X : Type 0} where
+  -- how many marks the choices have together
+  abbrev pub mark_count : List (List X) → ℕ
+  mark_count [] = 0
+  mark_count (c ∷ cs) = length c + mark_count cs
+
+  -- they are too many, or they are several and have too many marks together
+  abbrev pub AreTooLarge : List (List X) → Type 0
+  AreTooLarge cs = (most_choices < length cs) ⊎ ((1 < length cs) × (most_marks < mark_count cs))
+
+  -- they are few enough, and several have few enough marks together
+  pub record AreWithinLimits (cs : List (List X)) : Type 0 where
+    pub choices : length cs ≤ most_choices
+    pub marks : 1 < length cs → mark_count cs ≤ most_marks
+
   -- each list, with one more element
   abbrev pub each : List (List X) → X → List (List X)
   each cs x = map (λ c. c ++ x ∷ []) cs
@@ -45,8 +64,8 @@ pub data StandFor : Level → List Mark → List (List Mark) → Type 0 where
 abbrev pub AreChoices : List Mark → List (List Mark) → Type 0
 AreChoices marks cs = StandFor (sequence false) marks cs
 
--- the pattern is written out as too many choices
+-- the pattern is written out as choices that are too large
 pub record AreTooMany (marks : List Mark) : Type 0 where
   pub choices : List (List Mark)
   pub are : AreChoices marks choices
-  pub many : most_choices < length choices
+  pub many : AreTooLarge choices

@@ -9,9 +9,12 @@ pub mod BraceSteps
 pub mod Alternatives
 pub mod Chosen
 pub mod ChoiceSteps
+pub mod Backwards
+pub mod Sizes
 pub mod Parts
 pub mod Meaning
 pub mod Folded
+pub mod FoldSteps
 pub mod PartSteps
 pub mod Texts
 pub mod Escape

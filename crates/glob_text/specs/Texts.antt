@@ -5,14 +5,14 @@ use Rattle.glob_text.specs.declared.fault.PatternFault.{PatternFault}
 use Rattle.glob_text.specs.declared.fault.FaultKind.TheVariants.{TooManyChoices}
 use Rattle.glob_text.specs.declared.symbol.Symbol.{Symbol}
 use Rattle.glob_text.specs.declared.syntax.Syntax.{Syntax}
-use Rattle.glob_text.specs.Alternatives.{AreChoices, AreTooMany}
+use Rattle.glob_text.specs.Alternatives.{AreChoices, AreTooMany, AreWithinLimits}
 use Rattle.glob_text.specs.Braces.{IsBraceFault}
 use Rattle.glob_text.specs.Folded.{AreCased}
 use Rattle.glob_text.specs.Marks.{Mark, AreMarks, IsMarkFault}
 use Rattle.glob_text.specs.Parts.{AreCompiled}
 use Rattle.glob_text.specs.Symbols.{AreSymbols}
 
--- marks stand for more patterns than they may
+-- marks are written out as more than they may be
 pub record IsTooManyFault (marks : List Mark) (fault : PatternFault) : Type 0 where
   pub are : AreTooMany marks
   pub fault_is : fault ≡ record { kind = TooManyChoices; index = 0 }
@@ -38,6 +38,7 @@ module _ {A : Type 0} where
   pub record AreChoicesOf (o : Syntax) (marks : List Mark) (choices : List (Choice A)) : Type 0 where
     pub written_out : List (List Mark)
     pub are : AreChoices marks written_out
+    pub limits : AreWithinLimits written_out
     pub compiled : AreCompiled o.separators written_out choices
 
   -- that of symbols

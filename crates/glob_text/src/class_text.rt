@@ -1,7 +1,7 @@
 //! Classes as they are written in a pattern.
-ghost use Rattle.std.specs.Prelude.{◌≡◌, ◌++◌, ◌<◌, ◌≤◌, false, length, None, Some, MatchOption, MatchResult, IfOk, IfSome};
+ghost use Rattle.std.specs.Prelude.{◌≡◌, ◌++◌, ◌<◌, ◌≤◌, true, false, length, None, Some, MatchOption, MatchResult, IfOk, IfSome};
 ghost use Rattle.glob_text.specs.ClassText.{is_plain, letter_at, ends_name, named_text, closes, range_at, member_at, negation, IsClass, IsClassFault};
-ghost use Rattle.glob_text.specs.ClassSteps.{member_ranges, reading_of, LeavesLess};
+ghost use Rattle.glob_text.specs.ClassSteps.{first_end, member_ranges, reading_of, IsEndBefore, IsFirstEnd, LeavesLess};
 
 use crate::fault::{FaultKind, PatternFault};
 use crate::name::{Name, known_name};
@@ -117,30 +117,72 @@ fn split_letter(quotes: bool, text: &[Symbol]) -> Option<(ClassLetter, &[Symbol]
     ))
 }
 
-/// Whether the first `]` comes right after a `:`.
-fn ends_name(text: &[Symbol]) -> bool
-    ensures { result ≡ ends_name false text.entry.now }
+/// Where the first `]` of a text is.
+#[derive(Clone, Copy)]
+struct NameEnd {
+    // The number of symbols from it on, which is 0 where there is none.
+    left: usize,
+    // Whether a `:` comes right before it.
+    after_colon: bool,
+}
+
+/// Where the first `]` of a text is.
+fn first_end(text: &[Symbol]) -> NameEnd
+    ensures { result ≡ first_end false text.entry.now }
 {
     let mut left = text;
     let mut after_colon = false;
     while let Some((symbol, rest)) = left.split_first() {
         if symbol.letter == 0x5D {
-            return after_colon;
+            return NameEnd {
+                left: left.len(),
+                after_colon,
+            };
         }
         after_colon = symbol.letter == 0x3A;
         left = rest;
     }
-    false
+    NameEnd {
+        left: 0,
+        after_colon: false,
+    }
 }
 
-/// What comes after `[:`, where a name is closed there.
-fn named_text(first: ClassLetter, rest: &[Symbol]) -> Option<&[Symbol]>
+impl NameEnd {
+    /// Where the first `]` is of a text that ends the text that this is of. It is sought again only
+    /// where the text begins behind it. So each `]` of a class is sought once.
+    fn of(self, text: &[Symbol]) -> NameEnd
+        requires { IsEndBefore text.now self }
+        ensures { IsFirstEnd text.now result }
+    {
+        if text.len() < self.left {
+            first_end(text)
+        } else {
+            self
+        }
+    }
+
+    /// Whether the first `]` of the text comes right after a `:` of it.
+    fn ends_name(self, text: &[Symbol]) -> bool
+        requires { IsFirstEnd text.now self }
+        ensures { result ≡ ends_name false text.now }
+    {
+        self.left < text.len() && self.after_colon
+    }
+}
+
+/// What comes after `[:`, where a name is closed there. The first `]` of the rest is at `end`.
+fn named_text(end: NameEnd, first: ClassLetter, rest: &[Symbol]) -> Option<&[Symbol]>
+    requires { is_plain first 0x5B ≡ true → IsFirstEnd rest.now end }
     ensures text { MatchOption result (named_text first rest.now ≡ None)
         (λ text. named_text first rest.now ≡ Some text.now) }
     ensures shorter { IfSome result (λ text. length text.now < length rest.now) }
 {
     let (second, text) = rest.split_first()?;
-    if first.is_plain(0x5B) && second.letter == 0x3A && ends_name(text) {
+    if !first.is_plain(0x5B) || second.letter != 0x3A {
+        return None;
+    }
+    if end.ends_name(text) {
         Some(text)
     } else {
         None
@@ -172,7 +214,14 @@ fn range_at<'a>(
 }
 
 /// What comes next in a class whose `[` has this index.
-fn next_member<'a>(quotes: bool, index: usize, before: Before, text: &'a [Symbol]) -> Next<'a>
+fn next_member<'a>(
+    quotes: bool,
+    index: usize,
+    before: Before,
+    end: NameEnd,
+    text: &'a [Symbol],
+) -> Next<'a>
+    requires { IsFirstEnd text.now end }
     ensures reading { reading_of result ≡ member_at quotes index before text.now }
     ensures shorter { LeavesLess text.now result }
 {
@@ -199,7 +248,7 @@ fn next_member<'a>(quotes: bool, index: usize, before: Before, text: &'a [Symbol
         return Next::Member(Member::Letters(range), Before::Nothing, more);
     }
     let letter = first.symbol.letter;
-    let Some(name) = named_text(first, rest) else {
+    let Some(name) = named_text(end, first, rest) else {
         let range = Range {
             first: letter,
             last: letter,
@@ -247,8 +296,10 @@ pub(crate) fn read_class<'a, A: Allocator>(
     let mut ranges = Vec::new(alloc);
     let mut before = Before::First;
     let mut left = body;
+    let mut end = first_end(body);
     loop {
-        match next_member(quotes, index, before, left) {
+        end = end.of(left);
+        match next_member(quotes, index, before, end, left) {
             Next::Broken(fault) => return Ok(Err(fault)),
             Next::Closed(rest) => return Ok(Ok((Members { negated, ranges }, rest))),
             Next::Member(member, after, rest) => {

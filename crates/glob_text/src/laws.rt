@@ -1,9 +1,10 @@
 //! Laws of the text of patterns. Each is the contract of a function that does nothing.
-ghost use Rattle.std.specs.Prelude.{◌↔◌, ◌<◌, ◌∷◌, ◌++◌, List, ℕ};
+ghost use Rattle.std.specs.Prelude.{◌≡◌, ◌↔◌, ◌<◌, ◌∷◌, ◌++◌, List, ℕ};
 ghost use Rattle.wildcards.specs.declared.options.Options.{Options};
 ghost use Rattle.wildcards.specs.declared.pattern.Choice.{Choice};
 ghost use Rattle.wildcards.specs.Sets.{MatchesChoice};
 ghost use Rattle.glob_text.specs.declared.syntax.Syntax.{Syntax};
+ghost use Rattle.glob_text.specs.Alternatives.{AreChoices};
 ghost use Rattle.glob_text.specs.Escape.{escaped, IsPatternOf};
 ghost use Rattle.glob_text.specs.Marks.{Mark, is_quoting};
 ghost use Rattle.glob_text.specs.Meaning.{MatchesWrittenOut};
@@ -27,4 +28,10 @@ pub fn escaped_alone<L: Letters>()
         → L.formed (s ++ b ∷ t)) → (o : Syntax) → (own : List ℕ) → L.formed own
         → L.formed (escaped (is_quoting o) own)
         × IsPatternOf L.formed L.letters o (escaped (is_quoting o) own) (L.letters own) }
+{}
+
+/// A pattern is written out as one list of choices. So each limit on them either holds or doesn't.
+pub fn written_once()
+    ensures { (marks : List Mark) → (choices : List (List Mark)) → (others : List (List Mark))
+        → AreChoices marks choices → AreChoices marks others → choices ≡ others }
 {}

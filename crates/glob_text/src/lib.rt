@@ -11,6 +11,7 @@ pub mod laws;
 mod mark;
 mod name;
 mod part;
+mod size;
 mod symbol;
 mod syntax;
 mod text;

@@ -3,7 +3,7 @@ ghost use Rattle.std.specs.Prelude.{◌≡◌, ◌++◌, ◌<◌, ◌+◌, map, 
 ghost use Rattle.glob_text.specs.Marks.{mark_of};
 ghost use Rattle.glob_text.specs.Chosen.{mark_at, marks_at, choices_of};
 ghost use Rattle.glob_text.specs.Parts.{is_separator, is_star, is_doubled, ends_part, ends_deep, is_deep, group, IsPieceOf, IsPart, IsCompiled, AreCompiled};
-ghost use Rattle.glob_text.specs.PartSteps.{rest_of, rest_size};
+ghost use Rattle.glob_text.specs.PartSteps.{rest_of, rest_size, ArePieces, IsPieceAt, IsPieceClone};
 
 use crate::choices::Chosen;
 use crate::mark::Mark;
@@ -108,18 +108,44 @@ fn is_doubled_at<A: Allocator>(marks: &[Mark<A>], index: usize) -> bool
     }
 }
 
-/// What the mark of an index is in the compiled pattern.
-fn piece_at<A: Allocator + Copy>(
+/// What each mark is in the compiled pattern.
+fn pieces_of<A: Allocator + Copy>(
     alloc: A,
     marks: &[Mark<A>],
+) -> Result<Vec<Piece<Item<A>>, A>, AllocError>
+    ensures { IfOk result (λ pieces. ArePieces (map mark_of marks.entry.now) pieces.items) }
+{
+    let mut pieces = Vec::with_capacity(alloc, marks.len())?;
+    let mut left = marks;
+    while let Some((mark, rest)) = left.split_first() {
+        let piece = mark.piece(alloc)?;
+        pieces.push(piece)?;
+        left = rest;
+    }
+    Ok(pieces)
+}
+
+/// Clones a piece. Its class shares its memory with the clone.
+fn clone_piece<A: Allocator>(piece: &Piece<Item<A>>) -> Result<Piece<Item<A>>, AllocError>
+    ensures { IfOk result (λ clone. IsPieceClone piece.now clone) }
+{
+    match piece {
+        Piece::Many => Ok(Piece::Many),
+        Piece::One(item) => Ok(Piece::One(item.clone()?)),
+    }
+}
+
+/// What the mark of an index is in the compiled pattern, by the pieces of all marks.
+fn piece_at<A: Allocator>(
+    pieces: &[Piece<Item<A>>],
     index: usize,
 ) -> Result<Piece<Item<A>>, AllocError>
-    ensures { IfOk result (λ piece. IsPieceOf (mark_at (map mark_of marks.now) index) piece) }
+    ensures { IfOk result (λ piece. IsPieceAt pieces.now index piece) }
 {
-    match marks.get(index) {
-        Some(mark) => mark.piece(alloc),
-        None => Ok(Piece::One(Item::Any)),
+    if index < pieces.len() {
+        return clone_piece(&pieces[index]);
     }
+    Ok(Piece::One(Item::Any))
 }
 
 /// Whether a part ends here.
@@ -157,24 +183,26 @@ fn read_part<'t, A: Allocator + Copy>(
     alloc: A,
     separators: Separators,
     marks: &[Mark<A>],
+    pieces: &[Piece<Item<A>>],
     text: &'t [usize],
 ) -> Result<(Part<A>, Option<&'t [usize]>), AllocError>
+    requires { ArePieces (map mark_of marks.now) pieces.now }
     ensures part { IfOk result (λ p. IsPart separators
         (marks_at (map mark_of marks.now) text.entry.now) p.0.pieces.items
         (rest_of (map mark_of marks.now) p.1)) }
     ensures shorter { IfOk result (λ p. rest_size p.1 < length text.entry.now + 1) }
 {
-    let mut pieces = Vec::new(alloc);
+    let mut own = Vec::new(alloc);
     let mut left = text;
     while let Some((index, rest)) = left.split_first() {
         if is_separator_at(separators, marks, *index) {
-            return Ok((Part::new(alloc, pieces)?, Some(rest)));
+            return Ok((Part::new(alloc, own)?, Some(rest)));
         }
-        let piece = piece_at(alloc, marks, *index)?;
-        pieces.push(piece)?;
+        let piece = piece_at(pieces, *index)?;
+        own.push(piece)?;
         left = rest;
     }
-    Ok((Part::new(alloc, pieces)?, None))
+    Ok((Part::new(alloc, own)?, None))
 }
 
 /// Appends a part to a pattern: `**` before a separator takes any number of components, and else
@@ -205,8 +233,10 @@ fn compile<A: Allocator + Copy>(
     alloc: A,
     separators: Separators,
     marks: &[Mark<A>],
+    pieces: &[Piece<Item<A>>],
     chosen: &[usize],
 ) -> Result<Vec<Piece<Part<A>>, A>, AllocError>
+    requires { ArePieces (map mark_of marks.now) pieces.now }
     ensures { IfOk result (λ pattern. IsCompiled separators
         (marks_at (map mark_of marks.now) chosen.now) pattern.items) }
 {
@@ -214,7 +244,7 @@ fn compile<A: Allocator + Copy>(
     let mut left = Some(chosen);
     while let Some(text) = left {
         let deep = is_deep(separators, marks, text);
-        let (part, after) = read_part(alloc, separators, marks, text)?;
+        let (part, after) = read_part(alloc, separators, marks, pieces, text)?;
         push_group(&mut pattern, part, deep, after.is_some())?;
         left = after;
     }
@@ -231,10 +261,11 @@ pub(crate) fn compile_each<A: Allocator + Copy>(
     ensures { IfOk result (λ compiled. AreCompiled separators
         (choices_of (map mark_of marks.now) choices.entry.now) compiled.items) }
 {
+    let all = pieces_of(alloc, marks)?;
     let mut compiled = Vec::new(alloc);
     let mut left = choices;
     while let Some((choice, rest)) = left.split_first() {
-        let pieces = compile(alloc, separators, marks, &choice.marks)?;
+        let pieces = compile(alloc, separators, marks, all.as_slice(), &choice.marks)?;
         compiled.push(Choice { pieces })?;
         left = rest;
     }

@@ -9,6 +9,7 @@ use crate::fault::{FaultKind, PatternFault};
 use crate::fold::cased;
 use crate::mark::{Mark, marks};
 use crate::part::compile_each;
+use crate::size::is_too_large;
 use crate::symbol::{Symbol, symbols};
 use crate::syntax::Syntax;
 use std::alloc::{AllocError, Allocator};
@@ -27,12 +28,13 @@ fn compile_marks<A: Allocator + Copy>(
     if let Some(fault) = brace_fault(marks) {
         return Ok(Err(fault));
     }
-    let Some(chosen) = choices(alloc, marks)? else {
+    if is_too_large(alloc, marks)? {
         return Ok(Err(PatternFault {
             kind: FaultKind::TooManyChoices,
             index: 0,
         }));
-    };
+    }
+    let chosen = choices(alloc, marks)?;
     let compiled = compile_each(alloc, syntax.separators, marks, &chosen)?;
     Ok(Ok(compiled))
 }
@@ -58,8 +60,12 @@ fn compile_symbols<A: Allocator + Copy>(
 }
 
 /// Compiles the text of a pattern, whose bytes are read by `L`, or returns its fault. That is the
-/// first fault of a backslash or a class, else that of a brace, else that the pattern is written
-/// out as too many patterns.
+/// first fault of a backslash or a class, or else that of a brace. If there is neither, the fault is
+/// that the pattern is written out as more than 1,024 patterns, or as several that have more than
+/// 65,536 marks together. A mark is a letter, a wildcard or a class.
+///
+/// What is written out is counted first, in time and memory in proportion to the text. So
+/// compiling takes memory in proportion to the bytes of the text and at most 65,536 marks.
 ///
 /// # Errors
 ///

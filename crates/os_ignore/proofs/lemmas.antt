@@ -5,8 +5,11 @@ pub mod Classes
 pub mod Cuts
 pub mod Groups
 pub mod LineReadings
+pub mod Nameless
 pub mod OneVerdict
 pub mod Parts
 pub mod Readings
 pub mod Rests
+pub mod Tags
+pub mod Tagged
 pub mod Verdicts

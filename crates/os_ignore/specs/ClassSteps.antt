@@ -1,5 +1,5 @@
 -- What the reader of a class returns, and the ranges that it compiles members to: only private contracts name this.
-use Rattle.std.specs.Prelude.{ℕ, ◌<◌, length, List, [], ◌∷◌}
+use Rattle.std.specs.Prelude.{◌≡◌, ℕ, ◌<◌, ◌≤◌, false, nat_eq, cond, length, List, [], ◌∷◌, ◌++◌}
 use Rattle.wildcards.specs.declared.range.Range.{Range}
 use Rattle.os_ignore.specs.declared.class.Name.{Name}
 use Rattle.os_ignore.specs.declared.class.Name.TheVariants.{Alnum, Alpha, Blank, Cntrl, Digit, Graph, Lower, Print, Punct, Space, Upper, Xdigit}
@@ -8,7 +8,7 @@ use Rattle.os_ignore.specs.declared.class.Member.TheVariants as written
 use Rattle.os_ignore.specs.declared.letter.Letter.{Letter}
 use Rattle.os_ignore.specs.declared.class_text.Next.{Next}
 use Rattle.os_ignore.specs.declared.class_text.Next.TheVariants as next
-use Rattle.os_ignore.specs.ClassText.{Reading, broken, closed, member}
+use Rattle.os_ignore.specs.ClassText.{Reading, broken, closed, member, ends_name}
 
 -- the result as the definitions have it
 abbrev pub reading_of : Next → Reading
@@ -21,6 +21,19 @@ abbrev pub LeavesLess : List Letter → Next → Type 0
 LeavesLess text next.Broken = Unit {0}
 LeavesLess text (next.Closed rest) = length rest.now < length text
 LeavesLess text (next.Member m before rest) = length rest.now < length text
+
+-- the letters from the first `]` on
+abbrev pub from_bracket : List Letter → List Letter
+from_bracket [] = []
+from_bracket (l ∷ ls) = cond (nat_eq l.byte 0x5D) (l ∷ ls) (from_bracket ls)
+
+-- in no suffix of n letters or more the first `]` ends a name
+abbrev pub AreNameless : ℕ → List Letter → Type 0
+AreNameless n letters = (front ys : List Letter) → letters ≡ front ++ ys → n ≤ length ys → ends_name false ys ≡ false
+
+-- nor in one that comes after two letters, as those of `[:`
+abbrev pub AreNamelessWithin : ℕ → List Letter → Type 0
+AreNamelessWithin n letters = (front ys : List Letter) → letters ≡ front ++ ys → 1 < length front → n ≤ length ys → ends_name false ys ≡ false
 
 -- the letters from the first to the last
 abbrev pub range : ℕ → ℕ → Range

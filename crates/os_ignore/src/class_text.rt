@@ -1,7 +1,7 @@
 //! Classes as they are written in a line.
-ghost use Rattle.std.specs.Prelude.{◌≡◌, ◌<◌, ◌≤◌, false, length, None, Some, MatchOption, IfOk, IfSome};
+ghost use Rattle.std.specs.Prelude.{◌≡◌, ◌∷◌, ◌<◌, ◌≤◌, false, true, length, None, Some, MatchOption, IfOk, IfSome};
 ghost use Rattle.os_ignore.specs.ClassText.{all_names, name_text, after_text, known_name, ends_name, named_text, closes, range_at, member_at, negation, IsClass, IsBrokenClass};
-ghost use Rattle.os_ignore.specs.ClassSteps.{reading_of, LeavesLess};
+ghost use Rattle.os_ignore.specs.ClassSteps.{from_bracket, AreNameless, AreNamelessWithin, reading_of, LeavesLess};
 
 use crate::class::{Member, Name};
 use crate::letter::Letter;
@@ -100,30 +100,60 @@ fn known_name<'a>(names: &[Name], letters: &'a [Letter]) -> Option<(Name, &'a [L
     None
 }
 
-/// Whether the first `]` isn't quoted, and comes after a `:`.
-fn ends_name(letters: &[Letter]) -> bool
-    ensures { result ≡ ends_name false letters.entry.now }
+/// The letters from the first `]` on; `None` if that isn't quoted and follows a `:`, so that it ends a
+/// name.
+fn nameless_end(letters: &[Letter]) -> Option<&[Letter]>
+    ensures { MatchOption result (ends_name false letters.entry.now ≡ true)
+        (λ end. (ends_name false letters.entry.now ≡ false)
+        × (end.now ≡ from_bracket letters.entry.now)) }
 {
     let mut left = letters;
     let mut after_colon = false;
     while let Some((letter, rest)) = left.split_first() {
         if letter.byte == b']' {
-            return after_colon && !letter.quoted;
+            if after_colon && !letter.quoted {
+                return None;
+            }
+            return Some(left);
         }
         after_colon = letter.byte == b':';
         left = rest;
     }
-    false
+    Some(left)
+}
+
+/// Whether the first `]` isn't quoted and follows a `:`. No suffix of at least `nameless` letters
+/// begins with a name. So each `]` is searched for once.
+fn ends_name(letters: &[Letter], nameless: &mut usize) -> bool
+    requires { AreNameless nameless.old letters.now }
+    ensures value { result ≡ ends_name false letters.now }
+    ensures nameless { AreNameless nameless.new letters.now }
+{
+    if letters.len() >= *nameless {
+        return false;
+    }
+    match nameless_end(letters) {
+        Some(end) => {
+            *nameless = end.len();
+            false
+        }
+        None => true,
+    }
 }
 
 /// What comes after `[:`, where a name is closed there.
-fn named_text(first: Letter, rest: &[Letter]) -> Option<&[Letter]>
+fn named_text<'a>(first: Letter, rest: &'a [Letter], nameless: &mut usize) -> Option<&'a [Letter]>
+    requires { AreNamelessWithin nameless.old (first ∷ rest.now) }
     ensures text { MatchOption result (named_text first rest.now ≡ None)
         (λ text. named_text first rest.now ≡ Some text.now) }
     ensures shorter { IfSome result (λ text. length text.now < length rest.now) }
+    ensures nameless { AreNamelessWithin nameless.new (first ∷ rest.now) }
 {
     let (second, text) = rest.split_first()?;
-    if first.is_plain(b'[') && second.is_plain(b':') && ends_name(text) {
+    if !first.is_plain(b'[') || !second.is_plain(b':') {
+        return None;
+    }
+    if ends_name(text, nameless) {
         Some(text)
     } else {
         None
@@ -148,9 +178,11 @@ fn range_at<'a>(before: Before, first: Letter, rest: &'a [Letter]) -> Option<(u8
 }
 
 /// What comes next in a class.
-fn next_member<'a>(before: Before, text: &'a [Letter]) -> Next<'a>
+fn next_member<'a>(before: Before, text: &'a [Letter], nameless: &mut usize) -> Next<'a>
+    requires { AreNamelessWithin nameless.old text.now }
     ensures reading { reading_of result ≡ member_at before text.now }
     ensures shorter { LeavesLess text.now result }
+    ensures nameless { AreNamelessWithin nameless.new text.now }
 {
     let Some((first, rest)) = text.split_first() else {
         return Next::Broken;
@@ -161,7 +193,7 @@ fn next_member<'a>(before: Before, text: &'a [Letter]) -> Next<'a>
     if let Some((from, to, more)) = range_at(before, *first, rest) {
         return Next::Member(Member::Range(from, to), Before::Nothing, more);
     }
-    let Some(name) = named_text(*first, rest) else {
+    let Some(name) = named_text(*first, rest, nameless) else {
         return Next::Member(Member::Single(first.byte), Before::Byte(first.byte), rest);
     };
     let names = [
@@ -212,8 +244,9 @@ pub(crate) fn read_class<'a, A: Allocator + Copy>(
     let mut ranges = Vec::new(alloc);
     let mut before = Before::First;
     let mut left = body;
+    let mut nameless = body.len() + 1;
     loop {
-        match next_member(before, left) {
+        match next_member(before, left, &mut nameless) {
             Next::Broken => return Ok(None),
             Next::Closed(rest) => return Ok(Some((Class::new(alloc, negated, ranges)?, rest))),
             Next::Member(member, after, rest) => {

@@ -12,3 +12,6 @@ pub mod RelativeParts
 pub mod Simple
 pub mod Divided
 pub mod ReadCalls
+pub mod StemParts
+pub mod EndedParts
+pub mod Collects

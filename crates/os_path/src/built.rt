@@ -4,6 +4,7 @@ ghost use Rattle.platform_str.specs.Strings.{bytes, path_bytes, path_vec_of};
 ghost use Rattle.path_building.specs.Join.{IsJoin};
 ghost use Rattle.path_building.specs.Trailing.{IsWithTrailingSep};
 ghost use Rattle.path_building.specs.FileName.{IsNamed, IsExtensionSet, IsExtensionAdded};
+ghost use Rattle.path_building.specs.FileStem.{IsStemSet};
 ghost use Rattle.path_rules.specs.Name.{IsExtensionText};
 
 use crate::style::PathStyle;
@@ -56,6 +57,24 @@ pub(crate) fn with_file_name<E: PathStyle, A: Allocator + Clone>(
         name.as_encoded_bytes(),
     )?;
     Ok(PathBuf::from(OsString::from_encoded_bytes_unchecked(named)))
+}
+
+/// A path with another stem of its last name.
+pub(crate) fn with_file_stem<E: PathStyle, A: Allocator + Clone>(
+    alloc: A,
+    path: OsStr<'_, E>,
+    stem: OsStr<'_, E>,
+) -> Result<PathBuf<E, A>, AllocError>
+    ensures { IfOk result (λ made. IsStemSet E.follows (bytes path.entry) (bytes stem.entry)
+        (path_vec_of made).items) }
+{
+    let made = path_building::with_file_stem(
+        alloc,
+        E::style(),
+        path.as_encoded_bytes(),
+        stem.as_encoded_bytes(),
+    )?;
+    Ok(PathBuf::from(OsString::from_encoded_bytes_unchecked(made)))
 }
 
 /// A path with another extension of its last name.

@@ -6,7 +6,8 @@ ghost use Rattle.path_rules.specs.Component.{Item};
 ghost use Rattle.path_rules.specs.Views.{item_of};
 ghost use Rattle.os_path.specs.Formed.{IsFormed};
 ghost use Rattle.os_path.specs.Prefixes.{os_kind_of};
-ghost use Rattle.os_path.specs.Strings.{string_of, IsPrefixKind, HasNoPrefixKind};
+ghost use Rattle.path_building.specs.Collected.{string_of};
+ghost use Rattle.os_path.specs.Strings.{IsPrefixKind, HasNoPrefixKind};
 ghost use Rattle.os_path.specs.Views.{os_item_of};
 
 use crate::components::formed_component;

@@ -3,6 +3,7 @@ ghost use Rattle.std.specs.Prelude.{List, ℕ, ◌≡◌, ◌↔◌, IsTrue, Mat
 ghost use Rattle.platform_str.specs.Strings.{bytes, path_bytes, path_vec_of};
 ghost use Rattle.path_building.specs.Join.{IsJoin};
 ghost use Rattle.path_building.specs.FileName.{IsNamed, IsExtensionSet, IsExtensionAdded};
+ghost use Rattle.path_building.specs.FileStem.{IsStemSet};
 ghost use Rattle.path_building.specs.Trailing.{IsWithTrailingSep};
 ghost use Rattle.path_rules.specs.Name.{IsExtensionText};
 ghost use Rattle.path_rules.specs.Components.{AreComponents};
@@ -17,6 +18,7 @@ ghost use Rattle.path_rules.specs.Trailing.{EndsWithSeparator, TrimsTrailing};
 ghost use Rattle.path_building.specs.Normalized.{IsNormalized, IsNormalizeFault};
 ghost use Rattle.path_building.specs.Cleaned.{IsCleaned};
 ghost use Rattle.path_building.specs.Checked.{IsCheckedJoin, IsBelowBase, IsJoinFault};
+ghost use Rattle.path_building.specs.CheckedEnd.{IsCheckedJoinEnded};
 ghost use Rattle.path_building.specs.Relative.{IsRelativeFrom};
 ghost use Rattle.path_building.specs.Restyled.{IsRestyled};
 ghost use Rattle.os_path.specs.Converted.{IsConvertFault};
@@ -24,7 +26,7 @@ ghost use Rattle.std.specs.Option.{option_map};
 ghost use Rattle.os_path.specs.Prefixes.{os_kind_of, HasPrefix, HasNoPrefix};
 ghost use Rattle.os_path.specs.Compared.{IsOrder};
 ghost use Rattle.os_path.specs.Reserved.{IsReservedPath};
-ghost use Rattle.os_path.specs.Strings.{string_of};
+ghost use Rattle.path_building.specs.Collected.{string_of};
 ghost use Rattle.os_path.specs.Names.{HasFileStem, HasFilePrefix, HasExtension, LacksExtension};
 
 use crate::ancestors::Ancestors;
@@ -675,6 +677,40 @@ pub trait PathExt<'a>: Sized + Copy {
         checked::join_checked(alloc, base, path.as_os_str())
     }
 
+    /// Returns a path below this one, as [`PathExt::join_checked`] does, and keeps a separator at the
+    /// end of the other path, for the directories of an archive (own call). The separator is written
+    /// as [`PathExt::with_trailing_sep`] writes it.
+    ///
+    /// # Errors
+    ///
+    /// The error that [`PathExt::join_checked`] returns.
+    ///
+    /// ```
+    /// use os_path::{JoinError, PathExt, path};
+    /// use platform_str::{OsStr, Unix};
+    ///
+    /// let base = path::<Unix>("/srv");
+    /// let ended = base.join_checked_keeping_sep(alloc, path("a/./b//"))?;
+    /// assert!(rt; ended.as_os_str() == OsStr::new("/srv/a/b/"));
+    /// let error = base.join_checked_keeping_sep(alloc, path("../")).err();
+    /// assert!(rt; error == Some(JoinError::Leaves));
+    /// ```
+    final fn join_checked_keeping_sep<A: Allocator + Clone>(
+        self,
+        alloc: A,
+        path: Path<'_, Self::Platform>,
+    ) -> Result<PathBuf<Self::Platform, A>, JoinError>
+        ensures ok { IfOk result (λ ended. IsCheckedJoinEnded Self.Platform.follows
+            (bytes_of self) (path_bytes path.entry) (path_vec_of ended).items) }
+        ensures below { IfOk result (λ ended. IsBelowBase Self.Platform.follows
+            (bytes_of self) (path_vec_of ended).items) }
+        ensures err { IfErr result
+            (λ error. IsJoinFault Self.Platform.follows (bytes_of self) (path_bytes path.entry) error) }
+    {
+        let base = OsStr::from_encoded_bytes_unchecked(self.path_bytes());
+        checked::join_checked_keeping_sep(alloc, base, path.as_os_str())
+    }
+
     /// Returns the path relative to a base, in new memory (the crate pathdiff's `diff_paths`). The
     /// base joined with the result leads to the same file as the path.
     ///
@@ -776,6 +812,40 @@ pub trait PathExt<'a>: Sized + Copy {
     {
         let path = OsStr::from_encoded_bytes_unchecked(self.path_bytes());
         built::with_file_name(alloc, path, name)
+    }
+
+    /// Returns the path with another stem of its last name, in new memory (CPython's
+    /// `PurePath.with_stem`; std has none). The new stem and the extension that the last name has
+    /// are one name. It replaces the last name as [`PathExt::with_file_name`] replaces it. A path
+    /// that doesn't end in a name is returned as it is.
+    ///
+    /// Any stem is accepted. An empty one leaves the dot and the extension, or no name where there
+    /// is no extension. A separator in the stem separates components. A stem that begins with a root
+    /// or a prefix replaces more than the last name, as in [`PathExt::join`].
+    ///
+    /// # Errors
+    ///
+    /// `AllocError` if an allocation fails.
+    ///
+    /// ```
+    /// use os_path::{PathExt, path};
+    /// use platform_str::{OsStr, Unix};
+    ///
+    /// let changed = path::<Unix>("a/b.tar.gz").with_file_stem(alloc, OsStr::new("c"))?;
+    /// assert!(rt; changed.as_os_str() == OsStr::new("a/c.gz"));
+    /// let kept = path::<Unix>("a/..").with_file_stem(alloc, OsStr::new("c"))?;
+    /// assert!(rt; kept.as_os_str() == OsStr::new("a/.."));
+    /// ```
+    final fn with_file_stem<A: Allocator + Clone>(
+        self,
+        alloc: A,
+        stem: OsStr<'_, Self::Platform>,
+    ) -> Result<PathBuf<Self::Platform, A>, AllocError>
+        ensures { IfOk result (λ made. IsStemSet Self.Platform.follows (bytes_of self)
+            (bytes stem.entry) (path_vec_of made).items) }
+    {
+        let path = OsStr::from_encoded_bytes_unchecked(self.path_bytes());
+        built::with_file_stem(alloc, path, stem)
     }
 
     /// The path with another extension of its last name, in new memory (std's

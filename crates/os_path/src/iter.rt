@@ -2,7 +2,7 @@
 ghost use Rattle.std.specs.Prelude.{◌≡◌, map};
 ghost use Rattle.std.specs.Iterator.{item_count, YieldsFirstBy, YieldsLastBy};
 ghost use Rattle.platform_str.specs.Strings.{bytes};
-ghost use Rattle.os_path.specs.Strings.{string_of};
+ghost use Rattle.path_building.specs.Collected.{string_of};
 
 use crate::component_ext::as_string;
 use crate::components::Components;
@@ -20,7 +20,7 @@ pub struct Iter<'a, E: PathStyle + 'a> {
 
 impl<'a, E: PathStyle> Model for Iter<'a, E> {
     ghost use Rattle.std.specs.Prelude.{List, ℕ, map};
-    ghost use Rattle.os_path.specs.Strings.{string_of};
+    ghost use Rattle.path_building.specs.Collected.{string_of};
 
     ghost Value = { List (List ℕ) };
 

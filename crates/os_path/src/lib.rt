@@ -8,10 +8,11 @@
 //!
 //! Each part of a path that a call returns is a string of the path's platform, so no half of a
 //! surrogate pair is ever joined to another. Calls that build a path take an allocator and return a
-//! `Result`. [`push`], [`pop`], [`set_file_name`], [`set_extension`] and [`add_extension`] change
-//! an owned path in place. No other call allocates. An extension that is set has no separator
-//! (`path_rules::is_extension_text` tests it); no other call has a precondition. A path may have a
-//! NUL, at which a system would end it; [`PathExt::join_checked`] alone rejects it.
+//! `Result`; [`from_components`] builds one of components. [`push`], [`pop`], [`set_file_name`],
+//! [`set_extension`] and [`add_extension`] change an owned path in place. No other call allocates.
+//! An extension that is set has no separator (`path_rules::is_extension_text` tests it); no other
+//! call has a precondition. A path may have a NUL, at which a system would end it;
+//! [`PathExt::join_checked`] and [`PathExt::join_checked_keeping_sep`] alone reject it.
 #![tactic(auto)]
 
 mod ancestors;
@@ -20,6 +21,7 @@ mod built;
 mod by_components;
 mod changed;
 mod checked;
+mod collected;
 mod compared;
 mod component_ext;
 mod components;
@@ -40,6 +42,7 @@ mod styles;
 pub use ancestors::Ancestors;
 pub use buf::{add_extension, pop, push, set_extension, set_file_name};
 pub use by_components::ByComponents;
+pub use collected::from_components;
 pub use component_ext::ComponentExt;
 pub use components::Components;
 pub use ext::PathExt;

@@ -14,6 +14,7 @@ pub mod Forms
 pub mod Again
 pub mod OneClean
 pub mod FileNames
+pub mod FileStems
 pub mod Bases
 pub mod Checks
 pub mod Resolved
@@ -24,6 +25,8 @@ pub mod Places
 pub mod Restyles
 pub mod NameJoins
 pub mod Trailing
+pub mod KeptEnds
+pub mod Collects
 pub mod MainSeparators
 pub mod InlineTexts
 pub mod NulFree

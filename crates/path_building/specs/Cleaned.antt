@@ -42,7 +42,7 @@ begins_as_verbatim (a ∷ b ∷ []) = false
 begins_as_verbatim (a ∷ b ∷ c ∷ []) = false
 begins_as_verbatim (a ∷ b ∷ c ∷ d ∷ s) = separates rules.Either a && separates rules.Either b && nat_eq c 0x3F && separates rules.Either d
 
--- the bytes, with this one instead of each separator
+-- the bytes with this one instead of each separator
 abbrev pub separated_by : ℕ → List ℕ → List ℕ
 separated_by c [] = []
 separated_by c (b ∷ s) = (if separates rules.Either b then c else b) ∷ separated_by c s

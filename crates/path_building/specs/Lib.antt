@@ -6,10 +6,13 @@ pub mod Spelled
 pub mod Normalized
 pub mod Cleaned
 pub mod FileName
+pub mod FileStem
 pub mod Base
 pub mod Checked
 pub mod ErrorText
 pub mod Relative
 pub mod Restyled
 pub mod Trailing
+pub mod CheckedEnd
+pub mod Collected
 pub mod MainSeparators

@@ -233,7 +233,7 @@ fn name_base(style: Style, path: &[u8]) -> &[u8]
 }
 
 /// Where the last name of a path ends, and the name.
-fn last_name(style: Style, path: &[u8]) -> Option<(usize, &[u8])>
+pub(crate) fn last_name(style: Style, path: &[u8]) -> Option<(usize, &[u8])>
     ensures { MatchOption result (HasNoFileName style path.now)
         (λ found. (found.0 ≤ length path.now) × IsNameEnd style path.now found.0 found.1.now) }
 {

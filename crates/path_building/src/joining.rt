@@ -170,7 +170,7 @@ fn is_resolved(style: Style, base: &[u8], path: &[u8]) -> bool
 }
 
 /// The separator that is written between a base and a path.
-fn separator(style: Style) -> &'static [u8]
+pub(crate) fn separator(style: Style) -> &'static [u8]
     ensures { result.now ≡ main_separator style ∷ [] }
 {
     match style {

@@ -11,6 +11,7 @@ ghost use Rattle.path_building.specs.Normalized.{IsNormalForm, IsNormalized};
 ghost use Rattle.path_building.specs.Base.{HasNoNul, LacksPart, IsVerbatimAlone};
 ghost use Rattle.path_building.specs.Checked.{IsCheckedJoin, IsBelowBase, BeginsBelow};
 ghost use Rattle.path_building.specs.Cleaned.{CleansTo, IsCleaned, DifferInSeparators};
+ghost use Rattle.path_building.specs.Collected.{ArePushed};
 ghost use Rattle.path_rules.specs.Parent.{IsParent, HasFileName};
 ghost use Rattle.path_rules.specs.declared.rules.Style.TheVariants.{Unix, Windows};
 ghost use Rattle.path_rules.specs.Compare.{HaveAlikeComponents};
@@ -191,4 +192,12 @@ pub fn main_separators()
     ensures way { (style : whose.Style) → (path : List ℕ) → (base : List ℕ) → (way : List ℕ)
         → IsRelativeFrom style path base (Some way) → ¬ (IsVerbatimPath style path)
         → (IsAbsolute style path → IsAbsolute style base) → HasMainSeparators style way }
+{}
+
+/// The components of a Unix path, collected ([`crate::from_components`]), give a path with these
+/// components.
+pub fn collected()
+    ensures { (path : List ℕ) → (items : List Item) → (made : List ℕ)
+        → AreUnixComponents path items → ArePushed Unix [] items made
+        → AreUnixComponents made items }
 {}

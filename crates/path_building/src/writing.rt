@@ -63,7 +63,7 @@ pub(crate) fn push_spelled<A: Allocator>(
     push_separated(path, prefix, separator)
 }
 
-/// Appends bytes, with this separator instead of each that they have.
+/// Appends bytes with a separator instead of each.
 fn push_separated<A: Allocator>(
     path: &mut Vec<u8, A>,
     bytes: &[u8],

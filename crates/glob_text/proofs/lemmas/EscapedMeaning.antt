@@ -1,5 +1,5 @@
 -- An escaped text stands for one pattern, which matches the components of the text alone.
-use Rattle.std.proofs.Common.{◌≡◌, ◌⊎◌, ◌↔◌, ◌<◌, inl, inr, ℕ, Bool, true, false, cond, ◌&&◌, List, [], ◌∷◌, ◌++◌, map, length, refl, sym, ap, ◌∙◌, subst, arith}
+use Rattle.std.proofs.Common.{◌≡◌, ◌⊎◌, ◌↔◌, ◌<◌, inl, inr, ⊎_elim, ℕ, Bool, true, false, cond, ◌&&◌, List, [], ◌∷◌, ◌++◌, map, length, refl, sym, ap, ◌∙◌, subst, arith}
 use Rattle.std.specs.List.{AllByRecursion, slice_split, onto_first, join_with_byte}
 use Rattle.std.proofs.lemmas.List.Elements.{All-from_recursion}
 use Rattle.std.proofs.lemmas.List.Splits.{join_with_byte-slice_split, slice_split_none}
@@ -13,7 +13,7 @@ use Rattle.wildcards.specs.Wild.{Wild}
 use Rattle.glob_text.specs.declared.fault.PatternFault.{PatternFault}
 use Rattle.glob_text.specs.declared.symbol.Symbol.{Symbol}
 use Rattle.glob_text.specs.declared.syntax.Syntax.{Syntax}
-use Rattle.glob_text.specs.Alternatives.{AreChoices, each, Level, sequence, alternatives, is_itself, StandFor, nothing, one, group, first, next, most_choices}
+use Rattle.glob_text.specs.Alternatives.{AreChoices, each, Level, sequence, alternatives, is_itself, StandFor, nothing, one, group, first, next}
 use Rattle.glob_text.specs.Escape.{escaped, HasOneSpelling, IsPatternOf}
 use Rattle.glob_text.specs.Folded.{AreCased, IsFolded, IsFoldedLetter}
 use Rattle.glob_text.specs.Marks.{Mark, literal, any, star, one_of, opens, comma, closes, is_quoting}
@@ -79,9 +79,8 @@ no_choice_fault ms fault h (inl (inr f)) =
     let k = split_own f.before (closes f.index ∷ f.rest) (subst (AllByRecursion IsOwn) f.joined h) in
     let never : false ≡ true = k.1.0 in cc
 no_choice_fault ms fault h (inr f) =
-    let many : most_choices < length f.are.choices = f.are.many in
     let size : length f.are.choices ≡ 1 = ap length (single f.are.are h) in
-    omega (arith, many, size)
+    ⊎_elim (λ many. omega (arith, many, size)) (λ large. let several = large.0 in omega (arith, several, size)) f.are.many
 
 module _ (o : Separators) where
   all_own : (ms : List Mark) (ls : List ℕ) → AreOnly o ms ls → AllByRecursion IsOwn ms

@@ -12,7 +12,7 @@ use Rattle.path_rules.specs.Component.{Item}
 use Rattle.path_rules.specs.Components.{AreComponents}
 use Rattle.path_rules.proofs.lemmas.OneList.{one_components}
 use Rattle.os_path.specs.Reserved.{HasReservedItem, IsReservedPath}
-use Rattle.os_path.specs.Strings.{string_of}
+use Rattle.path_building.specs.Collected.{string_of}
 use Rattle.os_path.specs.Views.{os_item_of}
 
 -- a path has a reserved name where one of its components is one

@@ -93,7 +93,7 @@ no_body_name w path head h empty others before name are e =
     no_name_in_head head.prefix.now head.start before name (sym e ∙ one_components w path others (items_of head) are h ∙ ap (λ x. prefix_items head.prefix.now ++ (start_items head.start ++ x)) empty)
 
 -- a stem begins its name
-stem_prefix : (name stem : List ℕ) → IsStem name stem → (rest : List ℕ) × (name ≡ stem ++ rest)
+pub stem_prefix : (name stem : List ℕ) → IsStem name stem → (rest : List ℕ) × (name ≡ stem ++ rest)
 stem_prefix name stem (inl h) = (0x2E ∷ h.0, h.1.joined)
 stem_prefix name stem (inr h) = ([], sym h.1 ∙ sym (append-nil stem))
 

@@ -12,7 +12,7 @@ loop-index-preserved g c =
     let marks = map mark_of c.args.marks.now in
     let rest = marks_at marks c.in-Some.rest.now in
     let here = subst (λ z. IsPiece c.args.separators z c.in_ok-piece.piece rest) (sym (ap (marks_at marks) c.in-Some.ensures.cases.0))
-    (sym c.is_separator_at.ensures ∙ c.if-is_separator_at.false, (c.in_ok-piece.ensures, refl)) in (
+    (sym c.is_separator_at.ensures ∙ c.if-is_separator_at.false, (c.in_ok-piece.ensures marks c.requires, refl)) in (
       subst (λ z. Reads (IsPiece c.args.separators) (marks_at marks c.args.text.now) z rest) (sym c.in_ok-push.ensures.items)
           (more_items (IsPiece c.args.separators) _ _ _ _ _ c.loop-index.invariant.0 here),
       let h = c.loop-index.invariant.1 in let e = ap length c.in-Some.ensures.cases.0 in omega (arith, h, e),

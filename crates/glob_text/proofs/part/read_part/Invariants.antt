@@ -6,7 +6,7 @@ use Rattle.glob_text.specs.Reading.{Reads}
 use Rattle.glob_text.proofs.part.read_part.Given as goal
 
 abbrev pub invariant-loop-index : goal.invariant-loop-index
-invariant-loop-index g l = Reads (IsPiece l.separators) (marks_at (map mark_of l.marks) l.text) l.pieces.items (marks_at (map mark_of l.marks) l.left) × (length l.left ≤ length l.text)
+invariant-loop-index g l = Reads (IsPiece l.separators) (marks_at (map mark_of l.marks) l.text) l.own.items (marks_at (map mark_of l.marks) l.left) × (length l.left ≤ length l.text)
 
 abbrev pub decreases-loop-index : goal.decreases-loop-index
 decreases-loop-index g l = length l.left
