@@ -53,9 +53,10 @@ impl<E: Platform, A: Allocator + Copy> Glob<E, A> {
     ///
     /// # Errors
     ///
-    /// The first fault of the pattern, and its byte index: first those of classes and of a `\` at
-    /// the end, then those of braces, then that the alternatives stand for more than 1,024 patterns,
-    /// or for several that have more than 65,536 characters, wildcards and classes together.
+    /// The first fault of the pattern, and its byte index. Faults of classes and of a `\` at the end
+    /// come first, then those of braces, then that the pattern is too large: that it is written out
+    /// as more than 1,024 patterns, or as several with more than 65,536 marks together.
+    /// A mark is a character, a wildcard or a class.
     /// `Memory` if an allocation fails.
     ///
     /// ```
