@@ -1,10 +1,10 @@
 -- How far the choices have been found: only private contracts name this.
-use Rattle.std.specs.Prelude.{◌≡◌, ◌⊎◌, ◌<◌, ℕ, List, [], ◌∷◌, ◌++◌, map, length, reverse, Bool, true, false}
+use Rattle.std.specs.Prelude.{ℕ, List, [], ◌∷◌, ◌++◌, map, reverse}
 use Rattle.glob_text.specs.declared.choices.Chosen.{Chosen}
 use Rattle.glob_text.specs.declared.choices.Group.{Group}
 use Rattle.glob_text.specs.declared.choices.Found.{Found}
 use Rattle.glob_text.specs.Marks.{Mark, literal, any, star, one_of, opens, comma, closes}
-use Rattle.glob_text.specs.Alternatives.{each, product, most_choices}
+use Rattle.glob_text.specs.Alternatives.{each, product}
 
 module _ (X : Type 0) where
   -- alternatives that aren't closed: the choices of those that are whole, and of what is before the brace
@@ -52,15 +52,6 @@ module _ {X : Type 0} where
   advanced s comma x = after_comma s x
   advanced s (closes index) x = after_close s
 
-  -- the choices of the innermost alternatives
-  abbrev pub found_of : List (Frame X) → List (List X)
-  found_of [] = []
-  found_of (f ∷ fs) = f.found
-
-  -- more choices than there may be
-  abbrev pub IsTooLarge : State X → Type 0
-  IsTooLarge s = (most_choices < length s.current) ⊎ (most_choices < length (found_of s.frames))
-
 module _ {A : Type 0} where
   -- the indices of the marks of each choice
   abbrev pub indices_of : List (Chosen A) → List (List ℕ)
@@ -71,8 +62,3 @@ module _ {A : Type 0} where
 
   abbrev pub state_of : Found A → State ℕ
   state_of s = record { frames = reverse (map frame_of s.groups.items); current = indices_of s.current.items }
-
--- the next state is this one, or it is too large
-abbrev pub IsNext : Bool → State ℕ → State ℕ → Type 0
-IsNext false next s = IsTooLarge s
-IsNext true next s = next ≡ s

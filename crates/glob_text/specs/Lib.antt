@@ -14,6 +14,7 @@ pub mod Sizes
 pub mod Parts
 pub mod Meaning
 pub mod Folded
+pub mod FoldSteps
 pub mod PartSteps
 pub mod Texts
 pub mod Escape

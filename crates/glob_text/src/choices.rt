@@ -1,17 +1,14 @@
 //! Writes out a pattern as patterns without alternatives.
-ghost use Rattle.std.specs.Prelude.{◌≡◌, ◌++◌, ◌∷◌, ◌<◌, [], true, length, map, IfOk, OnOk, MatchOption};
+ghost use Rattle.std.specs.Prelude.{◌≡◌, ◌++◌, ◌∷◌, [], true, map, IfOk, OnOk};
 ghost use Rattle.glob_text.specs.Marks.{mark_of};
 ghost use Rattle.glob_text.specs.Braces.{are_balanced};
-ghost use Rattle.glob_text.specs.Alternatives.{each, product, most_choices, AreChoices, AreTooMany};
+ghost use Rattle.glob_text.specs.Alternatives.{each, product, AreChoices};
 ghost use Rattle.glob_text.specs.Chosen.{choices_of};
-ghost use Rattle.glob_text.specs.ChoiceSteps.{indices_of, state_of, after_open, after_comma, after_close, advanced, IsNext};
+ghost use Rattle.glob_text.specs.ChoiceSteps.{indices_of, state_of, after_open, after_comma, after_close, advanced};
 
 use crate::mark::Mark;
 use std::alloc::{AllocError, Allocator, Global};
 use std::mem::replace;
-
-/// How many patterns one may stand for.
-const MOST_CHOICES: usize = 1024;
 
 /// A pattern without alternatives: the indices of its marks.
 #[derive(Drop)]
@@ -95,27 +92,22 @@ fn push_each<A: Allocator + Copy>(
     Ok(())
 }
 
-/// Each choice of the first, and after it each of the second; `None` where they are too many.
+/// Each choice of the first, and after it each of the second.
 fn product<A: Allocator + Copy>(
     alloc: A,
     first: &[Chosen<A>],
     second: &[Chosen<A>],
-) -> Result<Option<Vec<Chosen<A>, A>>, AllocError>
-    ensures { IfOk result (λ found. MatchOption found
-        (most_choices < length (product (indices_of first.entry.now) (indices_of second.now)))
-        (λ choices. indices_of choices.items
-        ≡ product (indices_of first.entry.now) (indices_of second.now))) }
+) -> Result<Vec<Chosen<A>, A>, AllocError>
+    ensures { IfOk result (λ choices. indices_of choices.items
+        ≡ product (indices_of first.entry.now) (indices_of second.now)) }
 {
     let mut choices = Vec::new(alloc);
     let mut left = first;
     while let Some((choice, rest)) = left.split_first() {
         push_each(alloc, &mut choices, choice, second)?;
-        if choices.len() > MOST_CHOICES {
-            return Ok(None);
-        }
         left = rest;
     }
-    Ok(Some(choices))
+    Ok(choices)
 }
 
 /// After a `{`.
@@ -130,86 +122,75 @@ fn after_open<A: Allocator + Copy>(alloc: A, found: &mut Found<A>) -> Result<(),
     Ok(())
 }
 
-/// After a comma; whether the choices aren't too many.
+/// After a comma.
 fn after_comma<A: Allocator + Copy>(
     alloc: A,
     found: &mut Found<A>,
     mark: usize,
-) -> Result<bool, AllocError>
-    ensures { IfOk result (λ fits. IsNext fits (state_of found.new)
-        (after_comma (state_of found.old) mark)) }
+) -> Result<(), AllocError>
+    ensures { OnOk result (state_of found.new ≡ after_comma (state_of found.old) mark) }
 {
     let Some(group) = found.groups.pop() else {
-        push_mark(&mut found.current, mark)?;
-        return Ok(true);
+        return push_mark(&mut found.current, mark);
     };
     let Group {
         found: mut whole,
         outer,
     } = group;
     whole.append(&mut found.current)?;
-    if whole.len() > MOST_CHOICES {
-        return Ok(false);
-    }
     found.groups.push(Group {
         found: whole,
         outer,
     })?;
     found.current = nothing(alloc, 0)?;
-    Ok(true)
+    Ok(())
 }
 
-/// After a `}`; whether the choices aren't too many.
-fn after_close<A: Allocator + Copy>(alloc: A, found: &mut Found<A>) -> Result<bool, AllocError>
-    ensures { IfOk result (λ fits. IsNext fits (state_of found.new)
-        (after_close (state_of found.old))) }
+/// After a `}`.
+fn after_close<A: Allocator + Copy>(alloc: A, found: &mut Found<A>) -> Result<(), AllocError>
+    ensures { OnOk result (state_of found.new ≡ after_close (state_of found.old)) }
 {
     let Some(group) = found.groups.pop() else {
-        return Ok(true);
+        return Ok(());
     };
     let Group {
         found: mut whole,
         outer,
     } = group;
     whole.append(&mut found.current)?;
-    let Some(current) = product(alloc, &outer, &whole)? else {
-        return Ok(false);
-    };
-    found.current = current;
-    Ok(true)
+    found.current = product(alloc, &outer, &whole)?;
+    Ok(())
 }
 
-/// After one more mark, of this index; whether the choices aren't too many.
+/// After one more mark, of this index.
 fn advance<A: Allocator + Copy>(
     alloc: A,
     found: &mut Found<A>,
     mark: &Mark<A>,
     index: usize,
-) -> Result<bool, AllocError>
-    ensures { IfOk result (λ fits. IsNext fits (state_of found.new)
-        (advanced (state_of found.old) (mark_of mark.now) index)) }
+) -> Result<(), AllocError>
+    ensures { OnOk result
+        (state_of found.new ≡ advanced (state_of found.old) (mark_of mark.now) index) }
 {
     match mark {
-        Mark::Open(_) => after_open(alloc, found)?,
-        Mark::Comma => return after_comma(alloc, found, index),
-        Mark::Close(_) => return after_close(alloc, found),
-        Mark::Literal(_) => push_mark(&mut found.current, index)?,
-        Mark::Any => push_mark(&mut found.current, index)?,
-        Mark::Star(_) => push_mark(&mut found.current, index)?,
-        Mark::OneOf(_) => push_mark(&mut found.current, index)?,
+        Mark::Open(_) => after_open(alloc, found),
+        Mark::Comma => after_comma(alloc, found, index),
+        Mark::Close(_) => after_close(alloc, found),
+        Mark::Literal(_) => push_mark(&mut found.current, index),
+        Mark::Any => push_mark(&mut found.current, index),
+        Mark::Star(_) => push_mark(&mut found.current, index),
+        Mark::OneOf(_) => push_mark(&mut found.current, index),
     }
-    Ok(true)
 }
 
-/// The choices of marks whose braces are closed; `None` where they are too many.
+/// The choices of marks whose braces are closed.
 pub(crate) fn choices<A: Allocator + Copy>(
     alloc: A,
     marks: &[Mark<A>],
-) -> Result<Option<Vec<Chosen<A>, A>>, AllocError>
+) -> Result<Vec<Chosen<A>, A>, AllocError>
     requires { are_balanced 0 (map mark_of marks.now) ≡ true }
-    ensures { IfOk result (λ found. MatchOption found (AreTooMany (map mark_of marks.entry.now))
-        (λ choices. AreChoices (map mark_of marks.entry.now)
-        (choices_of (map mark_of marks.entry.now) choices.items))) }
+    ensures { IfOk result (λ choices. AreChoices (map mark_of marks.entry.now)
+        (choices_of (map mark_of marks.entry.now) choices.items)) }
 {
     let mut found = Found {
         groups: Vec::new(alloc),
@@ -218,11 +199,8 @@ pub(crate) fn choices<A: Allocator + Copy>(
     let mut left = marks;
     while let Some((mark, rest)) = left.split_first() {
         let index = marks.len() - left.len();
-        let fits = advance(alloc, &mut found, mark, index)?;
-        if !fits {
-            return Ok(None);
-        }
+        advance(alloc, &mut found, mark, index)?;
         left = rest;
     }
-    Ok(Some(found.current))
+    Ok(found.current)
 }

@@ -10,4 +10,6 @@ pub mod OneVerdict
 pub mod Parts
 pub mod Readings
 pub mod Rests
+pub mod Tags
+pub mod Tagged
 pub mod Verdicts

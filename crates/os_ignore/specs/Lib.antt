@@ -7,7 +7,9 @@ pub mod Files
 pub mod Ignores
 pub mod Letters
 pub mod Lines
+pub mod Matching
 pub mod PatternText
 pub mod Reading
+pub mod Tags
 pub mod Verdicts
 pub mod Walks

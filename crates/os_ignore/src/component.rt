@@ -3,7 +3,7 @@ ghost use Rattle.std.specs.Prelude.{◌≡◌, ◌∷◌, ◌<◌, length, Some,
 ghost use Rattle.os_ignore.specs.Components.{IsPlain, IsCut, IsLastComponent, pieces, left_pieces, left_size};
 
 /// What comes before the first separator, and what comes after it; `None` where there is none.
-fn split_first(separator: u8, text: &[u8]) -> Option<(&[u8], &[u8])>
+pub fn split_first(separator: u8, text: &[u8]) -> Option<(&[u8], &[u8])>
     ensures cut { MatchOption result (IsPlain separator text.now)
         (λ cut. IsCut separator text.now cut.0.now cut.1.now × IsPlain separator cut.0.now) }
     ensures shorter { IfSome result (λ cut. length cut.1.now < length text.now) }
@@ -29,15 +29,15 @@ pub fn split_piece(separator: u8, rest: &[u8]) -> (&[u8], Option<&[u8]>)
     }
 }
 
-/// What comes before the last slash, and what comes after it; `None` where there is none.
-pub fn split_last(path: &[u8]) -> Option<(&[u8], &[u8])>
-    ensures { MatchOption result (IsPlain 0x2F path.entry.now)
-        (λ cut. IsCut 0x2F path.entry.now cut.0.now cut.1.now × IsPlain 0x2F cut.1.now) }
+/// What comes before the last separator, and what comes after it; `None` where there is none.
+pub fn split_last(separator: u8, text: &[u8]) -> Option<(&[u8], &[u8])>
+    ensures { MatchOption result (IsPlain separator text.entry.now)
+        (λ cut. IsCut separator text.entry.now cut.0.now cut.1.now × IsPlain separator cut.1.now) }
 {
-    let mut at = path.len();
+    let mut at = text.len();
     while at > 0 {
-        if path[at - 1] == b'/' {
-            return Some((&path[..at - 1], &path[at..]));
+        if text[at - 1] == separator {
+            return Some((&text[..at - 1], &text[at..]));
         }
         at -= 1;
     }
@@ -48,7 +48,7 @@ pub fn split_last(path: &[u8]) -> Option<(&[u8], &[u8])>
 pub fn last_component(path: &[u8]) -> &[u8]
     ensures { IsLastComponent path.now result.now }
 {
-    match split_last(path) {
+    match split_last(b'/', path) {
         Some((_, name)) => name,
         None => path,
     }

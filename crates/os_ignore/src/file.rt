@@ -1,7 +1,8 @@
 //! An ignore file: its lines, and the directory that it is in.
-ghost use Rattle.std.specs.Prelude.{◌≡◌, ◌++◌, IfOk};
+ghost use Rattle.std.specs.Prelude.{◌≡◌, ◌++◌, length, map, IfOk};
 ghost use Rattle.os_ignore.specs.Files.{without_mark, IsWithoutReturn, IsLineText, AreLines, list_of};
-ghost use Rattle.os_ignore.specs.Directories.{IsPlace};
+ghost use Rattle.std.specs.List.{AllByRecursion};
+ghost use Rattle.os_ignore.specs.Tags.{AreTags, IsTag};
 
 use crate::component::split_piece;
 use crate::line::{Line, read_line};
@@ -16,6 +17,10 @@ pub struct File<A: Allocator = Global> {
     pub directory: Vec<u8, A>,
     /// The lines that are patterns.
     pub lines: Vec<Line<A>, A>,
+    /// The tag of each of these lines.
+    pub tags: Vec<u8, A>,
+    ghost count: { length tags.items ≡ length lines.items },
+    ghost tagged: { AreTags lines.items tags.items },
 }
 
 /// Without the byte order mark that a file may begin with.
@@ -68,7 +73,8 @@ pub(crate) fn read_lines<A: Allocator + Copy>(
     alloc: A,
     file: &[u8],
 ) -> Result<Vec<Line<A>, A>, AllocError>
-    ensures { IfOk result (λ lines. AreLines file.now lines.items) }
+    ensures lines { IfOk result (λ lines. AreLines file.now lines.items) }
+    ensures tags { IfOk result (λ lines. AllByRecursion (λ line. IsTag line line.tag) lines.items) }
 {
     let mut lines = Vec::new(alloc);
     let mut number = 1;
@@ -83,16 +89,35 @@ pub(crate) fn read_lines<A: Allocator + Copy>(
     Ok(lines)
 }
 
-/// The files before one in this directory: those up to the last in a directory that isn't longer.
-pub fn files_before<'a, A: Allocator>(files: &'a [File<A>], directory: &[u8]) -> &'a [File<A>]
-    ensures { IsPlace directory.now files.entry.now result.now }
+/// The tag of each line.
+fn line_tags<A: Allocator + Copy>(alloc: A, lines: &[Line<A>]) -> Result<Vec<u8, A>, AllocError>
+    ensures { IfOk result (λ tags. tags.items ≡ map (λ line. line.tag) lines.entry.now) }
 {
-    let mut left = files;
-    while let Some((last, front)) = left.split_last() {
-        if last.directory.len() <= directory.len() {
-            return left;
-        }
-        left = front;
+    let mut tags = Vec::new(alloc);
+    let mut left = lines;
+    while let Some((line, rest)) = left.split_first() {
+        tags.push(line.tag)?;
+        left = rest;
     }
-    left
+    Ok(tags)
+}
+
+/// The file in a directory that has these lines.
+pub(crate) fn new_file<A: Allocator + Copy>(
+    alloc: A,
+    number: usize,
+    directory: &[u8],
+    content: &[u8],
+) -> Result<File<A>, AllocError>
+    ensures { IfOk result (λ file. (file.number ≡ number) × ((file.directory.items ≡ directory.now)
+        × AreLines content.now file.lines.items)) }
+{
+    let lines = read_lines(alloc, content)?;
+    let tags = line_tags(alloc, &lines)?;
+    Ok(File {
+        number,
+        directory: Vec::from_slice(alloc, directory)?,
+        lines,
+        tags,
+    })
 }

@@ -2,7 +2,8 @@
 ghost use Rattle.std.specs.Prelude.{◌≡◌, [], IfOk, OnOk, OnErr};
 ghost use Rattle.os_ignore.specs.Verdicts.{IsVerdict};
 
-use crate::file::{File, files_before, read_lines};
+use crate::directory::files_before;
+use crate::file::{File, new_file};
 use crate::verdict::{Verdict, decide};
 use std::alloc::{AllocError, Allocator, Global};
 
@@ -77,12 +78,7 @@ impl<A: Allocator + Copy> Ignore<A> {
             (files_of self.new)) }
         ensures unchanged { OnErr result (files_of self.new ≡ files_of self.old) }
     {
-        let lines = read_lines(alloc, file)?;
-        let added = File {
-            number: self.files.len(),
-            directory: Vec::from_slice(alloc, directory)?,
-            lines,
-        };
+        let added = new_file(alloc, self.files.len(), directory, file)?;
         let index = files_before(&self.files, directory).len();
         self.files.insert(index, added)?;
         Ok(())

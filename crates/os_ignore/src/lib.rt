@@ -27,12 +27,14 @@
 mod class;
 mod class_text;
 mod component;
+mod directory;
 mod file;
 mod ignore;
 pub mod laws;
 mod letter;
 mod line;
 mod pattern;
+mod tag;
 mod verdict;
 mod walk;
 

@@ -1,9 +1,11 @@
 //! A line of an ignore file, as it is written.
-ghost use Rattle.std.specs.Prelude.{◌≡◌, IfOk, MatchOption, ◌++◌, ◌∷◌};
+ghost use Rattle.std.specs.Prelude.{◌≡◌, IfOk, IfSome, MatchOption, ◌++◌, ◌∷◌};
+ghost use Rattle.os_ignore.specs.Tags.{IsTag};
 ghost use Rattle.os_ignore.specs.Lines.{IsTrimmed, strip_first, StripsSlash, has_slash, is_comment, literal_prefix, after_literal, IsLineOf, LettersSayNothing, IsLine, SaysNothing};
 
 use crate::letter::{Kind, Letter, letters};
 use crate::pattern::read_pattern;
+use crate::tag::line_tag;
 use std::alloc::{AllocError, Allocator, Global};
 use wildcards::{Part, Piece};
 
@@ -22,6 +24,8 @@ pub struct Line<A: Allocator = Global> {
     pub literal: Vec<u8, A>,
     /// What matches the rest.
     pub pattern: Vec<Piece<Part<A>>, A>,
+    /// A tag that each path has which it matches.
+    pub tag: u8,
 }
 
 /// Without the blanks at the end that aren't quoted.
@@ -87,7 +91,7 @@ fn has_slash(letters: &[Letter]) -> bool
 }
 
 /// The bytes before the first letter that is quoted or a wildcard, and what comes after them.
-fn read_literal<A: Allocator>(
+pub(crate) fn read_literal<A: Allocator>(
     alloc: A,
     letters: &[Letter],
 ) -> Result<(Vec<u8, A>, &[Letter]), AllocError>
@@ -122,8 +126,9 @@ fn read_letters<A: Allocator + Copy>(
     number: usize,
     letters: &[Letter],
 ) -> Result<Option<Line<A>>, AllocError>
-    ensures { IfOk result (λ read. MatchOption read (LettersSayNothing A letters.now)
+    ensures line { IfOk result (λ read. MatchOption read (LettersSayNothing A letters.now)
         (λ line. (line.number ≡ number) × IsLineOf letters.now line)) }
+    ensures tag { IfOk result (λ read. IfSome read (λ line. IsTag line line.tag)) }
 {
     if is_comment(letters) {
         return Ok(None);
@@ -141,6 +146,7 @@ fn read_letters<A: Allocator + Copy>(
     let Some(pattern) = read_pattern(alloc, rest)? else {
         return Ok(None);
     };
+    let tag = line_tag(alloc, anchored, &literal, rest)?;
     Ok(Some(Line {
         number,
         takes_in,
@@ -148,6 +154,7 @@ fn read_letters<A: Allocator + Copy>(
         anchored,
         literal,
         pattern,
+        tag,
     }))
 }
 
@@ -157,8 +164,9 @@ pub(crate) fn read_line<A: Allocator + Copy>(
     number: usize,
     text: &[u8],
 ) -> Result<Option<Line<A>>, AllocError>
-    ensures { IfOk result (λ read. MatchOption read (SaysNothing A text.now)
+    ensures line { IfOk result (λ read. MatchOption read (SaysNothing A text.now)
         (λ line. (line.number ≡ number) × IsLine text.now line)) }
+    ensures tag { IfOk result (λ read. IfSome read (λ line. IsTag line line.tag)) }
 {
     let Some(letters) = letters(alloc, text)? else {
         return Ok(None);

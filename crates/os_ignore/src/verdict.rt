@@ -1,12 +1,18 @@
 //! Which line decides a path.
-ghost use Rattle.std.specs.Prelude.{◌≡◌, ◌↔◌, ◌++◌, ◌∷◌, List, ℕ, true, IsTrue, MatchOption};
+ghost use Rattle.std.specs.Prelude.{◌≡◌, ◌↔◌, ◌<◌, ◌++◌, ◌∷◌, List, ℕ, length, true, IsTrue, MatchOption};
+ghost use Rattle.std.specs.List.{HoldsAt};
+ghost use Rattle.memchr.specs.Find.{is_byte3};
 ghost use Rattle.wildcards.specs.Match.{Matches};
 ghost use Rattle.os_ignore.specs.Components.{IsLastComponent};
-ghost use Rattle.os_ignore.specs.Verdicts.{by_slashes, LineMatches, MatchesText, IsBelow, IsLastMatch, NoneMatches, FileDecides, FileIsSilent, IsOwn, IsVerdict, is_ignored};
+ghost use Rattle.os_ignore.specs.Matching.{by_slashes, LineMatches, MatchesText};
+ghost use Rattle.os_ignore.specs.Tags.{AreTags, NoneTagged, IsLastTagged};
+ghost use Rattle.os_ignore.specs.Verdicts.{IsBelow, IsLastMatch, NoneMatches, FileDecides, FileIsSilent, IsOwn, IsVerdict, is_ignored};
 
 use crate::component::last_component;
 use crate::file::File;
 use crate::line::Line;
+use crate::tag::{dot_tag, first_tag, tag_of};
+use memchr::memrchr3;
 use std::alloc::Allocator;
 use wildcards::{Bytes, Options, Part, Piece, Separators, matches};
 
@@ -106,24 +112,85 @@ impl<A: Allocator> Line<A> {
     }
 }
 
+/// The index of the last line from `low` on that has one of three tags and matches the path, whose last
+/// component this is.
+fn last_tagged<A: Allocator>(
+    lines: &[Line<A>],
+    tags: &[u8],
+    wanted: (u8, u8, u8),
+    low: usize,
+    path: &[u8],
+    name: &[u8],
+    is_dir: bool,
+) -> Option<usize>
+    requires name { IsLastComponent path.now name.now }
+    requires count { length tags.now ≡ length lines.now }
+    ensures { MatchOption result
+        (NoneTagged (is_byte3 wanted.0 wanted.1 wanted.2) path.now is_dir lines.now tags.now low)
+        (λ at. IsLastTagged (is_byte3 wanted.0 wanted.1 wanted.2) path.now is_dir lines.now tags.now
+        low at) }
+{
+    let mut end = tags.len();
+    loop {
+        let (before, _) = tags.split_at(end);
+        let Some(at) = memrchr3(wanted.0, wanted.1, wanted.2, before) else {
+            return None;
+        };
+        if at < low {
+            return None;
+        }
+        if lines[at].matches(path, name, is_dir) {
+            return Some(at);
+        }
+        end = at;
+    }
+}
+
+/// The index of the last line that matches. Two searches go over the tags. The second, for lines that
+/// begin with a component, ends at the line that the first finds.
+fn last_index<A: Allocator>(
+    lines: &[Line<A>],
+    tags: &[u8],
+    path: &[u8],
+    is_dir: bool,
+) -> Option<usize>
+    requires count { length tags.now ≡ length lines.now }
+    requires tagged { AreTags lines.now tags.now }
+    ensures { MatchOption result (NoneMatches path.now is_dir lines.now)
+        (λ at. (at < length lines.now)
+        × HoldsAt (λ line. IsLastMatch path.now is_dir lines.now line) lines.now at) }
+{
+    let name = last_component(path);
+    let ends = (0, tag_of(name), dot_tag(path));
+    let first = first_tag(path);
+    match last_tagged(lines, tags, ends, 0, path, name, is_dir) {
+        Some(at) => {
+            let firsts = (first, first, first);
+            match last_tagged(lines, tags, firsts, at + 1, path, name, is_dir) {
+                Some(later) => Some(later),
+                None => Some(at),
+            }
+        }
+        None => last_tagged(lines, tags, (first, first, first), 0, path, name, is_dir),
+    }
+}
+
 /// The last line that matches.
 fn last_match<'a, A: Allocator>(
     lines: &'a [Line<A>],
+    tags: &[u8],
     path: &[u8],
     is_dir: bool,
 ) -> Option<&'a Line<A>>
-    ensures { MatchOption result (NoneMatches path.now is_dir lines.entry.now)
-        (λ line. IsLastMatch path.now is_dir lines.entry.now line.now) }
+    requires count { length tags.now ≡ length lines.now }
+    requires tagged { AreTags lines.now tags.now }
+    ensures { MatchOption result (NoneMatches path.now is_dir lines.now)
+        (λ line. IsLastMatch path.now is_dir lines.now line.now) }
 {
-    let name = last_component(path);
-    let mut left = lines;
-    while let Some((line, before)) = left.split_last() {
-        if line.matches(path, name, is_dir) {
-            return Some(line);
-        }
-        left = before;
+    match last_index(lines, tags, path, is_dir) {
+        Some(at) => Some(&lines[at]),
+        None => None,
     }
-    None
 }
 
 impl<A: Allocator> File<A> {
@@ -135,7 +202,7 @@ impl<A: Allocator> File<A> {
         let Some(rest) = below(&self.directory, path) else {
             return None;
         };
-        last_match(&self.lines, rest, is_dir)
+        last_match(&self.lines, &self.tags, rest, is_dir)
     }
 }
 

@@ -88,7 +88,7 @@ impl<'i, A: Allocator + Copy> Walk<'i, A> {
             ∥ IsVerdict (files_of_walk self.old) path.now is_dir verdict ∥₁) }
         ensures files { files_of_walk self.new ≡ files_of_walk self.old }
     {
-        let Some((directory, _)) = split_last(path) else {
+        let Some((directory, _)) = split_last(b'/', path) else {
             return Ok(own(self.files, path, is_dir));
         };
         self.enter(alloc, directory)?;
@@ -118,7 +118,7 @@ impl<'i, A: Allocator + Copy> Walk<'i, A> {
     fn verdict_of(&self, directory: &[u8]) -> Verdict
         ensures { ∥ IsVerdict (files_of_walk self.now) directory.now true result ∥₁ }
     {
-        match split_last(directory) {
+        match split_last(b'/', directory) {
             Some((above, _)) => {
                 if self.directory.as_slice() == above {
                     in_directory(self.files, self.verdict, directory, true)

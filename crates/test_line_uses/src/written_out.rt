@@ -1,5 +1,6 @@
 //! Texts of patterns that stand for one name, and choices that are compiled.
 ghost use Rattle.std.specs.Prelude.{◌↔◌, ◌<◌, ◌++◌, ◌∷◌, ℕ, List, IsTrue, IfOk};
+ghost use Rattle.glob_text.specs.Alternatives.{AreChoices, AreTooMany, AreWithinLimits};
 ghost use Rattle.glob_text.specs.Escape.{IsPatternOf};
 ghost use Rattle.glob_text.specs.Marks.{Mark};
 ghost use Rattle.glob_text.specs.Meaning.{MatchesWrittenOut};
@@ -35,4 +36,12 @@ pub fn has_choice<L: Letters, A: Allocator>(
 {
     laws::written_out::<A>();
     matches_choice::<L, A>(options, choices, path)
+}
+
+/// A pattern whose choices are within the limits is never rejected as too many.
+pub fn within_limits()
+    ensures { (marks : List Mark) → (choices : List (List Mark)) → AreChoices marks choices
+        → AreWithinLimits choices → ¬ (AreTooMany marks) }
+{
+    laws::written_once();
 }

@@ -1,5 +1,5 @@
 -- Which paths are never joined.
-use Rattle.std.proofs.Common.{◌≡◌, ◌++◌, ◌∷◌, [], ℕ, List, Result, Ok, Err, refl, sym, ap, ◌∙◌, subst}
+use Rattle.std.proofs.Common.{inl, inr, ◌≡◌, ◌++◌, ◌∷◌, [], ℕ, List, Result, Ok, Err, refl, sym, ap, ◌∙◌, subst}
 use Rattle.std.specs.Prelude.{IfOk, IsErr}
 use Rattle.path_rules.specs.declared.rules.Style as whose
 use Rattle.path_rules.specs.StyleRules.{rules_of_style}
@@ -9,12 +9,22 @@ use Rattle.path_rules.specs.Prefix.{IsPrefixed}
 use Rattle.path_rules.specs.Root.{BeginsWithSeparator}
 use Rattle.path_building.specs.declared.checked.JoinError.{JoinError}
 use Rattle.path_building.specs.declared.checked.JoinError.TheVariants as error
+use Rattle.path_rules.specs.Trailing.{EndsWithSeparator}
+use Rattle.path_building.specs.CheckedEnd.{IsCheckedJoinEnded}
+use Rattle.path_building.specs.Trailing.{IsWithTrailingSep}
 use Rattle.path_building.specs.Join.{without_dot}
 use Rattle.path_building.specs.Normal.{AreNormalOf}
 use Rattle.path_building.specs.Written.{IsPathOf}
 use Rattle.path_building.specs.Base.{HasNoNul, IsBase, IsFirstNul, LacksPart, own_root}
 use Rattle.path_building.specs.Checked.{AreCheckedNames, AreFree, IsCheckedJoin, IsJoinFault, LeadsOut, NameNoStream, NamesReserved, NamesStream}
 use Rattle.test_path_uses.proofs.Joins.{OneList}
+
+-- a path that ends with a separator keeps it
+pub kept_end : (w : whose.Style) (base path ended : List ℕ) → IsCheckedJoinEnded w base path ended → EndsWithSeparator (rules_of_style w) path → (file : List ℕ) × (IsCheckedJoin w base path file × IsWithTrailingSep w file ended)
+kept_end w base path ended h ends = elim h.end [
+  | inl k ↦ (h.joined, (h.checked, k.1))
+  | inr k ↦ absurd (k.0 ends)
+]
 
 -- bytes without NUL have no first one
 free_not : (before after : List ℕ) → ¬ (HasNoNul (before ++ 0 ∷ after))

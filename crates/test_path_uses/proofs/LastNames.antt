@@ -12,6 +12,7 @@ use Rattle.path_rules.specs.Name.{IsExtension, IsStem}
 use Rattle.path_rules.specs.Parent.{HasFileName, HasNoFileName}
 use Rattle.os_path.specs.Names.{HasFileStem}
 use Rattle.path_building.specs.FileName.{IsNameBase, IsNamed, IsFileNameAt, IsStemExtended, IsNameExtended, IsKept, dotted}
+use Rattle.path_building.specs.FileStem.{IsStemSet}
 use Rattle.path_building.specs.Join.{IsJoin, IsVerbatimPath, IsRelativeTo, HaveTheSamePrefix, without_dot}
 use Rattle.test_path_uses.proofs.Joins.{OneList}
 
@@ -52,6 +53,11 @@ after_stem law w path extension made stem h (name, (has, is)) =
         ),
       ),
     )
+
+-- a path without a last name has no other stem
+pub kept_without_name : (w : Style) (path stem made : List ℕ) → IsStemSet w path stem made → HasNoFileName w path → made ≡ path
+kept_without_name w path stem made (inl h) none = absurd (none (h.items ++ Normal h.name ∷ []) h.items h.name h.whole refl)
+kept_without_name w path stem made (inr h) none = h.1
 
 is_written : {E S W : Type 0} → (E × S) ⊎ ((¬ E) × W) → ¬ E → W
 is_written (inl h) some = absurd (some h.0)

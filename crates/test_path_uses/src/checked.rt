@@ -10,7 +10,9 @@ ghost use Rattle.path_rules.specs.StyleRules.{rules_of_style};
 ghost use Rattle.path_rules.specs.declared.rules.Style.TheVariants as style;
 ghost use Rattle.path_building.specs.Written.{IsPathOf};
 ghost use Rattle.path_building.specs.Base.{HasNoNul, IsBase, IsFirstNul, LacksPart, own_root};
-ghost use Rattle.path_building.specs.Checked.{AreCheckedNames, BeginsBelow, IsBelowBase, LeadsOut, NamesReserved, NamesStream};
+ghost use Rattle.path_rules.specs.Trailing.{EndsWithSeparator};
+ghost use Rattle.path_building.specs.Trailing.{IsWithTrailingSep};
+ghost use Rattle.path_building.specs.Checked.{AreCheckedNames, BeginsBelow, IsBelowBase, IsCheckedJoin, LeadsOut, NamesReserved, NamesStream};
 
 use os_path::{JoinError, PathExt, PathStyle};
 use path_building::laws as building;
@@ -52,6 +54,23 @@ pub fn unpacked_on_unix<A: Allocator + Copy>(
         (path_vec_of file).items) }
 {
     folder.join_checked(alloc, name)
+}
+
+/// A directory of an archive below a folder: it is below it, and has a separator at its end if the
+/// name has one, as far as a separator is written there.
+pub fn unpacked_directory<'a, E: PathStyle + 'a, A: Allocator + Copy>(
+    alloc: A,
+    folder: Path<'a, E>,
+    name: Path<'a, E>,
+) -> Result<PathBuf<E, A>, JoinError>
+    ensures below { IfOk result (λ directory. IsBelowBase E.follows (path_bytes folder.entry)
+        (path_vec_of directory).items) }
+    ensures ended { IfOk result (λ directory.
+        EndsWithSeparator (rules_of_style E.follows) (path_bytes name.entry) → (file : List ℕ)
+        × (IsCheckedJoin E.follows (path_bytes folder.entry) (path_bytes name.entry) file
+        × IsWithTrailingSep E.follows file (path_vec_of directory).items)) }
+{
+    folder.join_checked_keeping_sep(alloc, name)
 }
 
 /// A path below a base: normalized, it begins with the base's normal form, and it has a normal form

@@ -7,6 +7,7 @@
 
 pub mod changed;
 pub mod checked;
+pub mod collected;
 pub mod comparisons;
 pub mod form;
 pub mod ignored;

@@ -8,7 +8,7 @@ ghost use Rattle.path_rules.specs.Compare.{HaveAlikeComponents};
 ghost use Rattle.path_rules.specs.Reserved.{IsReserved};
 ghost use Rattle.path_rules.specs.declared.rules.Style.TheVariants as whose;
 ghost use Rattle.os_path.specs.Compared.{IsOrder};
-ghost use Rattle.os_path.specs.Strings.{string_of};
+ghost use Rattle.path_building.specs.Collected.{string_of};
 
 use os_path::{ComponentExt, PathExt, PathStyle, is_reserved};
 use path_rules::laws;

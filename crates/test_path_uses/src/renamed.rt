@@ -4,6 +4,7 @@ ghost use Rattle.platform_str.specs.Strings.{bytes, path_bytes, path_vec_of};
 ghost use Rattle.path_rules.specs.Component.{Item};
 ghost use Rattle.path_rules.specs.Components.{AreComponents};
 ghost use Rattle.path_rules.specs.Name.{IsExtensionText};
+ghost use Rattle.path_building.specs.FileStem.{IsStemSet};
 ghost use Rattle.path_rules.specs.Parent.{HasFileName, HasNoFileName};
 ghost use Rattle.os_path.specs.Names.{HasFileStem};
 ghost use Rattle.test_path_uses.specs.Renamed.{IsRenamed, IsExtendedAfter};
@@ -64,4 +65,19 @@ pub fn with_another<'a, E: PathStyle + 'a, A: Allocator + Copy>(
         → (path_vec_of made).items ≡ path_bytes path.entry) }
 {
     path.with_added_extension(alloc, extension)
+}
+
+/// A path with another stem of its last name, which has what comes after its own stem; a path
+/// without a last name is kept.
+pub fn with_stem<'a, E: PathStyle + 'a, A: Allocator + Copy>(
+    alloc: A,
+    path: Path<'a, E>,
+    stem: OsStr<'a, E>,
+) -> Result<PathBuf<E, A>, AllocError>
+    ensures set { IfOk result (λ made. IsStemSet E.follows (path_bytes path.entry)
+        (bytes stem.entry) (path_vec_of made).items) }
+    ensures kept { IfOk result (λ made. HasNoFileName E.follows (path_bytes path.entry)
+        → (path_vec_of made).items ≡ path_bytes path.entry) }
+{
+    path.with_file_stem(alloc, stem)
 }

@@ -1,16 +1,16 @@
 -- The choices of indices that have been found, one more mark at a time.
-use Rattle.std.proofs.Common.{◌≡◌, ℕ, ◌+◌, ◌<◌, ◌≤◌, List, [], ◌∷◌, ◌++◌, map, length, get_or, reverse, sym, ap, ◌∙◌, subst, arith, length-append}
+use Rattle.std.proofs.Common.{◌≡◌, ℕ, ◌+◌, ◌≤◌, List, [], ◌∷◌, ◌++◌, map, length, get_or, reverse, sym, ap, ◌∙◌, subst, arith, length-append}
 use Rattle.std.proofs.lemmas.List.{get_or_at, length-map, reverse-append, map-append}
 use Rattle.std.proofs.lemmas.Simd.{map-map}
 use Rattle.glob_text.specs.declared.choices.Chosen.{Chosen}
 use Rattle.glob_text.specs.declared.choices.Group.{Group}
 use Rattle.glob_text.specs.declared.mark.Mark as declared
 use Rattle.glob_text.specs.Marks.{Mark, any, mark_of}
-use Rattle.glob_text.specs.Alternatives.{AreChoices, AreTooMany, most_choices}
+use Rattle.glob_text.specs.Alternatives.{AreChoices}
 use Rattle.glob_text.specs.Chosen.{mark_at, choices_of}
-use Rattle.glob_text.specs.ChoiceSteps.{State, advanced, IsTooLarge, indices_of, frame_of}
-use Rattle.glob_text.proofs.lemmas.Choices.{FoundSoFar, one_more_found, all_found, too_many}
-use Rattle.glob_text.proofs.lemmas.Mapped.{map_lists, map_state, mapped, still_large}
+use Rattle.glob_text.specs.ChoiceSteps.{State, advanced, indices_of, frame_of}
+use Rattle.glob_text.proofs.lemmas.Choices.{FoundSoFar, one_more_found, all_found}
+use Rattle.glob_text.proofs.lemmas.Mapped.{map_lists, map_state, mapped}
 
 module _ (marks : List Mark) where
   -- one more mark, by its index
@@ -22,9 +22,6 @@ module _ (marks : List Mark) where
       let here : mark_at marks i ≡ m = ap (λ z. get_or z i any) g.joined ∙ get_or_at g.before m rest any i (sym at) in
       subst (λ z. FoundSoFar marks z rest) (sym (mapped (mark_at marks) s m i ∙ ap (advanced (map_state (mark_at marks) s) m) here))
       (one_more_found marks (map_state (mark_at marks) s) m rest g)
-
-  pub too_many_indices : (s : State ℕ) (left : List Mark) → FoundSoFar marks (map_state (mark_at marks) s) left → IsTooLarge s → AreTooMany marks
-  too_many_indices s left h large = too_many marks (map_state (mark_at marks) s) left h (still_large (mark_at marks) s large)
 
   pub all_indices : {A : Type 0} (s : State ℕ) (left : List Mark) (choices : List (Chosen A)) → FoundSoFar marks (map_state (mark_at marks) s) left → left ≡ [] → s.current ≡ indices_of choices → AreChoices marks (choices_of marks choices)
   all_indices s left choices h e c =
@@ -39,6 +36,3 @@ module _ {A : Type 0} where
   -- the innermost alternatives come first
   pub innermost : (groups front : List (Group A)) (g : Group A) → groups ≡ front ++ g ∷ [] → reverse (map frame_of groups) ≡ frame_of g ∷ reverse (map frame_of front)
   innermost groups front g e = ap (λ z. reverse (map frame_of z)) e ∙ ap reverse (map-append frame_of front (g ∷ [])) ∙ reverse-append (map frame_of front) (frame_of g ∷ [])
-
-pub part_too_large : {X : Type 0} (xs ys zs : List X) → xs ++ ys ≡ zs → most_choices < length xs → most_choices < length zs
-part_too_large xs ys zs e l = omega (arith, l, ap length e, length-append xs ys)

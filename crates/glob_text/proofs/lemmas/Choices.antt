@@ -1,12 +1,11 @@
 -- What is known of the choices that have been found, one more mark at a time.
-use Rattle.std.proofs.Common.{◌≡◌, ◌⊎◌, inl, inr, ⊎_elim, ℕ, suc, ◌+◌, ◌<◌, ◌≤◌, nat_eq, true, false, List, [], ◌∷◌, ◌++◌, map, length, Option, Some, None, refl, sym, ap, ◌∙◌, subst, arith, append_assoc, append-nil, length-append}
-use Rattle.std.proofs.lemmas.List.{length-map}
+use Rattle.std.proofs.Common.{◌≡◌, ◌⊎◌, inl, inr, ℕ, ◌+◌, nat_eq, true, false, List, [], ◌∷◌, ◌++◌, length, Option, Some, None, refl, sym, ap, ◌∙◌, subst, arith, append_assoc, append-nil}
 use Rattle.std.proofs.Math.Dec.{eqb-suc-zero}
 use Rattle.glob_text.proofs.lemmas.Braces.{at_close, some_same}
 use Rattle.glob_text.specs.Marks.{Mark, literal, any, star, one_of, opens, comma, closes}
 use Rattle.glob_text.specs.Braces.{depth_after, if_some, are_balanced}
-use Rattle.glob_text.specs.Alternatives.{each, product, most_choices, sequence, alternatives, is_itself, StandFor, nothing, one, group, first, next, AreChoices, AreTooMany}
-use Rattle.glob_text.specs.ChoiceSteps.{Frame, State, advanced, found_of, IsTooLarge}
+use Rattle.glob_text.specs.Alternatives.{each, product, sequence, alternatives, is_itself, StandFor, nothing, one, group, first, next, AreChoices}
+use Rattle.glob_text.specs.ChoiceSteps.{Frame, State, advanced}
 
 -- the whole alternatives of a group, each with the comma after it
 abbrev pub AreWhole : List (List Mark) → List Mark → Type 0
@@ -112,82 +111,6 @@ depth_in comma (f ∷ fs) current d e = some_same e
 depth_in (closes index) [] current d e = let never : None ≡ Some d = e in absurd cc
 depth_in (closes index) (f ∷ fs) current d e = some_same (sym (at_close index (length fs)) ∙ e)
 
--- no list of choices is empty
-abbrev pub ArePositive : List (Frame Mark) → Type 0
-ArePositive [] = Unit {0}
-ArePositive (f ∷ fs) = (0 < length f.outer) × ArePositive fs
-
--- none has more than so many
-abbrev pub AreAtMost : ℕ → List (Frame Mark) → Type 0
-AreAtMost n [] = Unit {0}
-AreAtMost n (f ∷ fs) = (length f.found ≤ n) × ((length f.outer ≤ n) × AreAtMost n fs)
-
-module _ {X : Type 0} where
-  pub size_each : (cs : List (List X)) (x : X) → length (each cs x) ≡ length cs
-  size_each cs x = length-map cs (λ c. c ++ x ∷ [])
-
-  size_product : (c : List X) (cs ds : List (List X)) → length (product (c ∷ cs) ds) ≡ length ds + length (product cs ds)
-  size_product c cs ds = length-append (map (λ d. c ++ d) ds) (product cs ds) ∙ ap (λ z. z + length (product cs ds)) (length-map ds (λ d. c ++ d))
-
-  first_fits : (cs ds : List (List X)) → 0 < length ds → length cs ≤ length (product cs ds)
-  first_fits [] ds l = omega arith
-  first_fits (c ∷ cs) ds l = let h = first_fits cs ds l in let s = size_product c cs ds in omega (arith, l, h, s)
-
-  second_fits : (cs ds : List (List X)) → 0 < length cs → length ds ≤ length (product cs ds)
-  second_fits [] ds l = absurd (omega (arith, l))
-  second_fits (c ∷ cs) ds l = let s = size_product c cs ds in omega (arith, s)
-
--- marks that are left, whose braces are closed, lead to choices, which are no fewer
-pub record IsFinished (fs : List (Frame Mark)) (current : List (List Mark)) (ms rest : List Mark) : Type 0 where
-  pub choices : List (List Mark)
-  pub are : AreChoices (ms ++ rest) choices
-  pub current_fits : length current ≤ length choices
-  pub frames_fit : AreAtMost (length choices) fs
-
-module _ (m : Mark) (rest ms : List Mark) where
-  moved : (fs : List (Frame Mark)) (current : List (List Mark)) (h : IsFinished fs current (ms ++ m ∷ []) rest) → AreChoices (ms ++ m ∷ rest) h.choices
-  moved fs current h = subst (λ z. AreChoices z h.choices) (append_assoc ms (m ∷ []) rest) h.are
-
-  back_itself : (fs : List (Frame Mark)) (current : List (List Mark)) → IsFinished fs (each current m) (ms ++ m ∷ []) rest → IsFinished fs current ms (m ∷ rest)
-  back_itself fs current h = record {
-    choices = h.choices;
-    are = moved fs (each current m) h;
-    current_fits = subst (λ z. z ≤ length h.choices) (size_each current m) h.current_fits;
-    frames_fit = h.frames_fit;
-  }
-
-  back_open : (fs : List (Frame Mark)) (current : List (List Mark)) → IsFinished (record { found = []; outer = current } ∷ fs) ([] ∷ []) (ms ++ m ∷ []) rest → IsFinished fs current ms (m ∷ rest)
-  back_open fs current h = record {
-    choices = h.choices;
-    are = moved (record { found = []; outer = current } ∷ fs) ([] ∷ []) h;
-    current_fits = h.frames_fit.1.0;
-    frames_fit = h.frames_fit.1.1;
-  }
-
-  back_comma : (f : Frame Mark) (fs : List (Frame Mark)) (current : List (List Mark)) → IsFinished (record { found = f.found ++ current; outer = f.outer } ∷ fs) ([] ∷ []) (ms ++ m ∷ []) rest → IsFinished (f ∷ fs) current ms (m ∷ rest)
-  back_comma f fs current h =
-      let both = length-append f.found current in
-      let fits = h.frames_fit.0 in
-      record {
-        choices = h.choices;
-        are = moved (record { found = f.found ++ current; outer = f.outer } ∷ fs) ([] ∷ []) h;
-        current_fits = omega (arith, both, fits);
-        frames_fit = (omega (arith, both, fits), (h.frames_fit.1.0, h.frames_fit.1.1));
-      }
-
-  back_close : (f : Frame Mark) (fs : List (Frame Mark)) (current : List (List Mark)) → 0 < length f.outer → 0 < length current → IsFinished fs (product f.outer (f.found ++ current)) (ms ++ m ∷ []) rest → IsFinished (f ∷ fs) current ms (m ∷ rest)
-  back_close f fs current l k h =
-      let both = length-append f.found current in
-      let fits = h.current_fits in
-      let a = first_fits f.outer (f.found ++ current) (omega (arith, both, k)) in
-      let b = second_fits f.outer (f.found ++ current) l in
-      record {
-        choices = h.choices;
-        are = moved fs (product f.outer (f.found ++ current)) h;
-        current_fits = omega (arith, both, fits, b);
-        frames_fit = (omega (arith, both, fits, b), (omega (arith, fits, a), h.frames_fit));
-      }
-
 no_frames : (fs : List (Frame Mark)) → nat_eq (length fs) 0 ≡ true → fs ≡ []
 no_frames [] e = refl
 no_frames (f ∷ fs) e = let never : false ≡ true = sym (eqb-suc-zero (length fs)) ∙ e in absurd cc
@@ -205,66 +128,25 @@ some_after m depth rest e = go (depth_after depth m) refl
     go None n = absurd (none_after m depth rest e n)
     go (Some d) n = (d, n, ap (λ z. if_some z (λ d. are_balanced d rest)) (sym n) ∙ e)
 
--- what is known of the marks that are left
-abbrev Finishes : List Mark → Type 0
-Finishes rest = (fs : List (Frame Mark)) (current : List (List Mark)) (ms : List Mark) → Reached fs current ms → 0 < length current → ArePositive fs → are_balanced (length fs) rest ≡ true → IsFinished fs current ms rest
-
-module _ (rest : List Mark) (ends : Finishes rest) (current : List (List Mark)) (ms : List Mark) (l : 0 < length current) where
-  positive_each : (m : Mark) → 0 < length (each current m)
-  positive_each m = subst (λ z. 0 < z) (sym (size_each current m)) l
-
-  on_itself : (m : Mark) (fs : List (Frame Mark)) → is_itself true m ≡ true → is_itself false m ≡ true → Reached fs current ms → ArePositive fs → are_balanced (length fs) rest ≡ true → IsFinished fs current ms (m ∷ rest)
-  on_itself m fs i o r p e = back_itself m rest ms fs current (ends fs (each current m) (ms ++ m ∷ []) (itself m fs current ms i o r) (positive_each m) p e)
-
-  by_mark : (m : Mark) (fs : List (Frame Mark)) → Reached fs current ms → ArePositive fs → are_balanced (length fs) (m ∷ rest) ≡ true → IsFinished fs current ms (m ∷ rest)
-  by_mark (literal letter) fs r p e = on_itself (literal letter) fs refl refl r p e
-  by_mark any fs r p e = on_itself any fs refl refl r p e
-  by_mark (star again) fs r p e = on_itself (star again) fs refl refl r p e
-  by_mark (one_of negated ranges) fs r p e = on_itself (one_of negated ranges) fs refl refl r p e
-  by_mark (opens index) fs r p e =
-      back_open (opens index) rest ms fs current (ends (record { found = []; outer = current } ∷ fs) ([] ∷ []) (ms ++ opens index ∷ []) (opened index fs current ms r) (omega arith) (l, p)
-      (subst (λ z. are_balanced z rest ≡ true) (let q : length fs + 1 ≡ suc (length fs) = omega arith in q) e))
-  by_mark comma [] r p e = back_itself comma rest ms [] current (ends [] (each current comma) (ms ++ comma ∷ []) (one comma refl r) (positive_each comma) p e)
-  by_mark comma (f ∷ fs) r p e = back_comma comma rest ms f fs current (ends (record { found = f.found ++ current; outer = f.outer } ∷ fs) ([] ∷ []) (ms ++ comma ∷ []) (divided f fs current ms r) (omega arith) (p.0, p.1) e)
-  by_mark (closes index) [] r p e = let never : false ≡ true = e in absurd cc
-  by_mark (closes index) (f ∷ fs) r p e =
-      back_close (closes index) rest ms f fs current p.0 l (ends fs (product f.outer (f.found ++ current)) (ms ++ closes index ∷ []) (closed index f fs current ms r)
-      (let b = second_fits f.outer (f.found ++ current) p.0 in let both = length-append f.found current in omega (arith, b, both, l)) p.1
-      (ap (λ z. if_some z (λ d. are_balanced d rest)) (sym (at_close index (length fs))) ∙ e))
-
-pub finish : (rest : List Mark) → Finishes rest
-finish [] fs current ms r l p e =
-    let n = no_frames fs e in
-    record {
-      choices = current;
-      are = subst (λ z. AreChoices z current) (sym (append-nil ms)) (at_end fs current ms r e);
-      current_fits = omega arith;
-      frames_fit = subst (AreAtMost (length current)) (sym n) tt;
-    }
-finish (m ∷ rest) fs current ms r l p e = by_mark rest (finish rest) current ms l m fs r p e
-
-pub positive_in : (m : Mark) (fs : List (Frame Mark)) (current : List (List Mark)) → 0 < length current → ArePositive fs → (0 < length (advanced (record { frames = fs; current = current }) m m).current) × ArePositive (advanced (record { frames = fs; current = current }) m m).frames
-positive_in (literal letter) fs current l p = (subst (λ z. 0 < z) (sym (size_each current (literal letter))) l, p)
-positive_in any fs current l p = (subst (λ z. 0 < z) (sym (size_each current any)) l, p)
-positive_in (star again) fs current l p = (subst (λ z. 0 < z) (sym (size_each current (star again))) l, p)
-positive_in (one_of negated ranges) fs current l p = (subst (λ z. 0 < z) (sym (size_each current (one_of negated ranges))) l, p)
-positive_in (opens index) fs current l p = (omega arith, (l, p))
-positive_in comma [] current l p = (subst (λ z. 0 < z) (sym (size_each current comma)) l, p)
-positive_in comma (f ∷ fs) current l p = (omega arith, (p.0, p.1))
-positive_in (closes index) [] current l p = (l, p)
-positive_in (closes index) (f ∷ fs) current l p = (let b = second_fits f.outer (f.found ++ current) p.0 in let both = length-append f.found current in omega (arith, b, both, l), p.1)
+-- marks that are left, whose braces are closed, lead to choices
+some_behind : (rest : List Mark) (fs : List (Frame Mark)) (current : List (List Mark)) (ms : List Mark) → Reached fs current ms → are_balanced (length fs) rest ≡ true → (choices : List (List Mark)) × AreChoices (ms ++ rest) choices
+some_behind [] fs current ms r e = (current, subst (λ z. AreChoices z current) (sym (append-nil ms)) (at_end fs current ms r e))
+some_behind (m ∷ rest) fs current ms r e =
+    let after = some_after m (length fs) rest e in
+    let next = advanced (record { frames = fs; current = current }) m m in
+    let balanced = subst (λ z. are_balanced z rest ≡ true) (sym (depth_in m fs current after.0 after.1)) after.2 in
+    let h = some_behind rest next.frames next.current (ms ++ m ∷ []) (reached_in m fs current ms after.0 after.1 r) balanced in
+    (h.0, subst (λ z. AreChoices z h.0) (append_assoc ms (m ∷ []) rest) h.1)
 
 -- marks whose braces are closed are written out as choices
 pub some_choices : (marks : List Mark) → are_balanced 0 marks ≡ true → (choices : List (List Mark)) × AreChoices marks choices
-some_choices marks e = let f = finish marks [] ([] ∷ []) [] nothing (omega arith) tt e in (f.choices, f.are)
+some_choices marks e = some_behind marks [] ([] ∷ []) [] nothing e
 
--- the choices that have been found of the marks so far, where those that are left lead to choices
+-- the choices that have been found of the marks so far
 pub record FoundSoFar (marks : List Mark) (s : State Mark) (left : List Mark) : Type 0 where
   pub before : List Mark
   pub joined : marks ≡ before ++ left
   pub reached : Reached s.frames s.current before
-  pub some : 0 < length s.current
-  pub positive : ArePositive s.frames
   pub balanced : are_balanced (length s.frames) left ≡ true
 
 pub none_found : (marks : List Mark) (s : State Mark) → s.frames ≡ [] → s.current ≡ [] ∷ [] → are_balanced 0 marks ≡ true → FoundSoFar marks s marks
@@ -272,21 +154,16 @@ none_found marks s e c b = record {
   before = [];
   joined = refl;
   reached = subst (λ z. Reached z s.current []) (sym e) (subst (StandFor (sequence false) []) (sym c) nothing);
-  some = omega (arith, ap length c);
-  positive = subst ArePositive (sym e) tt;
   balanced = subst (λ z. are_balanced (length z) marks ≡ true) (sym e) b;
 }
 
 pub one_more_found : (marks : List Mark) (s : State Mark) (m : Mark) (rest : List Mark) → FoundSoFar marks s (m ∷ rest) → FoundSoFar marks (advanced s m m) rest
 one_more_found marks s m rest h =
     let after = some_after m (length s.frames) rest h.balanced in
-    let p = positive_in m s.frames s.current h.some h.positive in
     record {
       before = h.before ++ m ∷ [];
       joined = h.joined ∙ sym (append_assoc h.before (m ∷ []) rest);
       reached = reached_in m s.frames s.current h.before after.0 after.1 h.reached;
-      some = p.0;
-      positive = p.1;
       balanced = subst (λ z. are_balanced z rest ≡ true) (sym (depth_in m s.frames s.current after.0 after.1)) after.2;
     }
 
@@ -294,16 +171,3 @@ pub all_found : (marks : List Mark) (s : State Mark) (left : List Mark) → Foun
 all_found marks s left h e =
     subst (λ z. AreChoices z s.current) (sym (h.joined ∙ ap (λ z. h.before ++ z) e ∙ append-nil h.before))
     (at_end s.frames s.current h.before h.reached (subst (λ z. are_balanced (length s.frames) z ≡ true) e h.balanced))
-
-in_frames : (fs : List (Frame Mark)) (cs : List (List Mark)) → AreAtMost (length cs) fs → most_choices < length (found_of fs) → most_choices < length cs
-in_frames [] cs b l = absurd (omega (arith, l))
-in_frames (f ∷ fs) cs b l = let k = b.0 in omega (arith, l, k)
-
-pub too_many : (marks : List Mark) (s : State Mark) (left : List Mark) → FoundSoFar marks s left → IsTooLarge s → AreTooMany marks
-too_many marks s left h large =
-    let f = finish left s.frames s.current h.before h.reached h.some h.positive h.balanced in
-    record {
-      choices = f.choices;
-      are = subst (λ z. AreChoices z f.choices) (sym h.joined) f.are;
-      many = inl (⊎_elim (λ l. let k = f.current_fits in omega (arith, l, k)) (λ l. in_frames s.frames f.choices f.frames_fit l) large);
-    }

@@ -1,9 +1,9 @@
 -- Choices of indices, and those of the marks that they are of.
-use Rattle.std.proofs.Common.{◌≡◌, inl, inr, ◌<◌, List, [], ◌∷◌, ◌++◌, map, length, refl, sym, ap, ◌∙◌, subst}
-use Rattle.std.proofs.lemmas.List.{map-append, length-map}
+use Rattle.std.proofs.Common.{◌≡◌, List, [], ◌∷◌, ◌++◌, map, refl, ap, ◌∙◌}
+use Rattle.std.proofs.lemmas.List.{map-append}
 use Rattle.glob_text.specs.Marks.{Mark, literal, any, star, one_of, opens, comma, closes}
-use Rattle.glob_text.specs.Alternatives.{each, product, most_choices}
-use Rattle.glob_text.specs.ChoiceSteps.{Frame, State, advanced, found_of, IsTooLarge}
+use Rattle.glob_text.specs.Alternatives.{each, product}
+use Rattle.glob_text.specs.ChoiceSteps.{Frame, State, advanced}
 
 module _ {X Y : Type 0} (f : X → Y) where
   abbrev pub map_lists : List (List X) → List (List Y)
@@ -53,11 +53,3 @@ module _ {X Y : Type 0} (f : X → Y) where
 
   pub mapped : (s : State X) (m : Mark) (x : X) → map_state (advanced s m x) ≡ advanced (map_state s) m (f x)
   mapped s m x = mapped_in m s.frames s.current x
-
-  found_size : (fs : List (Frame X)) → length (found_of (map map_frame fs)) ≡ length (found_of fs)
-  found_size [] = refl
-  found_size (r ∷ fs) = length-map r.found (λ c. map f c)
-
-  pub still_large : (s : State X) → IsTooLarge s → IsTooLarge (map_state s)
-  still_large s (inl l) = inl (subst (λ z. most_choices < z) (sym (length-map s.current (λ c. map f c))) l)
-  still_large s (inr l) = inr (subst (λ z. most_choices < z) (sym (found_size s.frames)) l)

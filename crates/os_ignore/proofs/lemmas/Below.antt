@@ -1,26 +1,17 @@
 -- What files say of a directory decides each path in it.
-use Rattle.std.proofs.Common.{◌≡◌, ◌<◌, ◌+◌, nat_eq, ℕ, Bool, true, false, get_or, List, [], ◌∷◌, ◌++◌, length, refl, sym, ap, ◌∙◌, subst, arith, append_assoc, length-append, eq-eqb}
+use Rattle.std.proofs.Common.{◌≡◌, ◌<◌, ◌+◌, ℕ, Bool, true, false, List, [], ◌∷◌, ◌++◌, length, refl, sym, ap, ◌∙◌, subst, arith, append_assoc, length-append}
 use Rattle.std.proofs.Math.Logic.{∥∥₁_map, ∥∥₁_elim}
-use Rattle.std.proofs.lemmas.List.Elements.{All-get_or}
 use Rattle.os_ignore.specs.declared.file.File.{File}
 use Rattle.os_ignore.specs.declared.verdict.Verdict.{Verdict}
 use Rattle.os_ignore.specs.Components.{IsPlain}
 use Rattle.os_ignore.specs.Verdicts.{IsOwn, IsShown, AreShown, IsVerdict, is_ignored}
 use Rattle.os_ignore.specs.Verdicts as rule
 use Rattle.os_ignore.proofs.lemmas.OneVerdict.{one_verdict}
-use Rattle.os_ignore.proofs.lemmas.Verdicts.{at_front}
+use Rattle.os_ignore.proofs.lemmas.Cuts.{not_plain}
 use Rattle.std.proofs.Props.{props}
 
 cut_length : (front back : List ℕ) → length front < length (front ++ 0x2F ∷ back)
 cut_length front back = let k : length (front ++ 0x2F ∷ back) ≡ length front + (length back + 1) = simp length-append (omega arith) in omega arith
-
--- a list with a slash has one
-not_plain : (front back : List ℕ) → IsPlain 0x2F (front ++ 0x2F ∷ back) → ⊥
-not_plain front back h =
-    let e : nat_eq (get_or (front ++ 0x2F ∷ back) (length front) 0) 0x2F ≡ false = All-get_or (λ b. nat_eq b 0x2F ≡ false) (front ++ 0x2F ∷ back) (length front) 0 (cut_length front back) h in
-    let f : nat_eq (get_or (front ++ 0x2F ∷ back) (length front) 0) 0x2F ≡ true = ap (λ b. nat_eq b 0x2F) (at_front front back 0x2F) ∙ eq-eqb 0x2F 0x2F refl in
-    let never : false ≡ true = sym e ∙ f in
-    absurd cc
 
 -- of two cuts of one list the first ends before the second, at it, or after it
 data Cuts (front back directory name : List ℕ) : Type 0 where
@@ -45,7 +36,7 @@ cuts (x ∷ front) back (y ∷ directory) name e =
 module _ {A : Type 0} (files : List (File A)) where
   -- of a path with no slash its own lines decide
   pub own_at_top : (path : List ℕ) (is_dir : Bool) (v : Verdict) → IsPlain 0x2F path → IsOwn files path is_dir v → ∥ IsVerdict files path is_dir v ∥₁
-  own_at_top path is_dir v plain h = ∣ rule.own (λ front back cut l. absurd (not_plain front back (subst (IsPlain 0x2F) cut plain))) h ∣₁
+  own_at_top path is_dir v plain h = ∣ rule.own (λ front back cut l. absurd (not_plain 0x2F front back (subst (IsPlain 0x2F) cut plain))) h ∣₁
 
   module _ (directory name path : List ℕ) (joined : path ≡ directory ++ 0x2F ∷ name) where
     -- what is above a directory is above what is in it
@@ -86,7 +77,7 @@ module _ {A : Type 0} (files : List (File A)) where
             go : Cuts front back directory name → IsShown files front
             go (before more d) = s front more d (let e = ap length d in let m = cut_length front more in omega arith)
             go (same d) = subst (IsShown files) (sym d) (record { verdict = u; own = o; shown = i })
-            go (after more d) = absurd (not_plain more back (subst (IsPlain 0x2F) d plain))
+            go (after more d) = absurd (not_plain 0x2F more back (subst (IsPlain 0x2F) d plain))
 
     pub hidden_in : (is_dir : Bool) (v : Verdict) → is_ignored v ≡ true → ∥ IsVerdict files directory true v ∥₁ → ∥ IsVerdict files path is_dir v ∥₁
     hidden_in is_dir v i m = ∥∥₁_map m (hidden_below is_dir v i)

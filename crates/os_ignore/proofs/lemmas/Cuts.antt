@@ -1,7 +1,7 @@
 -- A path is cut at a separator.
-use Rattle.std.proofs.Common.{◌≡◌, nat_eq, ◌<◌, ◌≤◌, ◌+◌, ℕ, false, List, ◌++◌, ◌∷◌, length, take, drop, get_or, sym, ap, ◌∙◌, arith, take-append-drop, length-drop}
+use Rattle.std.proofs.Common.{◌≡◌, nat_eq, ◌<◌, ◌≤◌, ◌+◌, ℕ, true, false, List, [], ◌++◌, ◌∷◌, length, take, drop, get_or, refl, sym, ap, ◌∙◌, subst, arith, eq-eqb, take-append-drop, length-drop}
 use Rattle.std.proofs.lemmas.List.{drop_more, get_or-take, get_or-drop, length-take-le}
-use Rattle.std.proofs.lemmas.List.Elements.{All-from_get_or}
+use Rattle.std.proofs.lemmas.List.Elements.{All-from_get_or, All-head, All-tail}
 use Rattle.os_ignore.specs.Components.{IsPlain, IsCut}
 
 module _ (separator : ℕ) (s : List ℕ) where
@@ -31,3 +31,27 @@ module _ (separator : ℕ) (s : List ℕ) where
 
   pub cut_at : (i : ℕ) → i < length s → get_or s i 0 ≡ separator → IsCut separator s (take i s) (drop (i + 1) s)
   cut_at i l e = sym (take-append-drop i s) ∙ ap (λ x. take i s ++ x) (drop_more s i 0 l ∙ ap (λ z. z ∷ drop (i + 1) s) e)
+
+-- a list with a separator has one
+pub not_plain : (separator : ℕ) (front back : List ℕ) → IsPlain separator (front ++ separator ∷ back) → ⊥
+not_plain c [] back h =
+    let never : false ≡ true = sym (All-head (λ b. nat_eq b c ≡ false) c back h) ∙ eq-eqb c c refl in
+    absurd cc
+not_plain c (x ∷ front) back h = not_plain c front back (All-tail (λ b. nat_eq b c ≡ false) x (front ++ c ∷ back) h)
+
+-- what comes before the first separator is one
+pub same_front : (separator : ℕ) (f b g d : List ℕ) → f ++ separator ∷ b ≡ g ++ separator ∷ d → IsPlain separator f → IsPlain separator g → f ≡ g
+same_front c [] b [] d e p q = refl
+same_front c [] b (y ∷ g) d e p q = let same : y ≡ c = cc in absurd (not_plain c [] g (subst (λ z. IsPlain c (z ∷ g)) same q))
+same_front c (x ∷ f) b [] d e p q = let same : x ≡ c = cc in absurd (not_plain c [] f (subst (λ z. IsPlain c (z ∷ f)) same p))
+same_front c (x ∷ f) b (y ∷ g) d e p q =
+    let head : x ≡ y = cc in
+    let tail : f ++ c ∷ b ≡ g ++ c ∷ d = cc in
+    ap (λ z. z ∷ f) head ∙ ap (λ z. y ∷ z) (same_front c f b g d tail (All-tail (λ b. nat_eq b c ≡ false) x f p) (All-tail (λ b. nat_eq b c ≡ false) y g q))
+
+-- and what comes after the last
+pub same_back : (separator : ℕ) (f b g d : List ℕ) → f ++ separator ∷ b ≡ g ++ separator ∷ d → IsPlain separator b → IsPlain separator d → b ≡ d
+same_back c [] b [] d e p q = cc
+same_back c [] b (y ∷ g) d e p q = let tail : b ≡ g ++ c ∷ d = cc in absurd (not_plain c g d (subst (IsPlain c) tail p))
+same_back c (x ∷ f) b [] d e p q = let tail : f ++ c ∷ b ≡ d = cc in absurd (not_plain c f b (subst (IsPlain c) (sym tail) q))
+same_back c (x ∷ f) b (y ∷ g) d e p q = let tail : f ++ c ∷ b ≡ g ++ c ∷ d = cc in same_back c f b g d tail p q

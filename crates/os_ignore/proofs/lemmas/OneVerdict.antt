@@ -7,7 +7,8 @@ use Rattle.os_ignore.specs.declared.file.File.{File}
 use Rattle.os_ignore.specs.declared.verdict.Verdict.{Verdict}
 use Rattle.os_ignore.specs.declared.verdict.Verdict.TheVariants.{Neither, Ignored, TakenIn}
 use Rattle.os_ignore.specs.Components.{IsCut}
-use Rattle.os_ignore.specs.Verdicts.{LineMatches, NoneMatches, IsLastMatch, FileDecides, FileIsSilent, Decides, IsOwn, is_ignored, AreShown, IsHidden, IsVerdict}
+use Rattle.os_ignore.specs.Matching.{LineMatches}
+use Rattle.os_ignore.specs.Verdicts.{NoneMatches, IsLastMatch, FileDecides, FileIsSilent, Decides, IsOwn, is_ignored, AreShown, IsHidden, IsVerdict}
 use Rattle.os_ignore.specs.Verdicts as rule
 use Rattle.os_ignore.proofs.lemmas.Rests.{one_rest, take_front}
 

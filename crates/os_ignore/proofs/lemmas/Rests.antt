@@ -11,7 +11,8 @@ use Rattle.wildcards.specs.Match.{Matches}
 use Rattle.os_ignore.specs.Components.{IsLastComponent}
 use Rattle.os_ignore.specs.declared.file.File.{File}
 use Rattle.os_ignore.specs.declared.line.Line.{Line}
-use Rattle.os_ignore.specs.Verdicts.{IsBelow, IsTarget, LineMatches, by_slashes, MatchesText, NoneMatches, IsLastMatch, FileIsSilent, FileDecides}
+use Rattle.os_ignore.specs.Matching.{IsTarget, LineMatches, by_slashes, MatchesText}
+use Rattle.os_ignore.specs.Verdicts.{IsBelow, NoneMatches, IsLastMatch, FileIsSilent, FileDecides}
 
 pub same_after : (xs ys zs : List ℕ) → xs ++ ys ≡ xs ++ zs → ys ≡ zs
 same_after [] ys zs e = e

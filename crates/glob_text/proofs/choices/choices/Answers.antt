@@ -3,7 +3,7 @@ use Rattle.std.proofs.lemmas.List.{length-map, nil_from_length}
 use Rattle.glob_text.specs.Chosen.{mark_at}
 use Rattle.glob_text.specs.ChoiceSteps.{frame_of, state_of}
 use Rattle.glob_text.specs.Marks.{mark_of}
-use Rattle.glob_text.proofs.lemmas.Advancing.{all_indices, left_fits, one_more_index, too_many_indices}
+use Rattle.glob_text.proofs.lemmas.Advancing.{all_indices, left_fits, one_more_index}
 use Rattle.glob_text.proofs.lemmas.Choices.{FoundSoFar, none_found}
 use Rattle.glob_text.proofs.lemmas.Mapped.{map_frame, map_lists, map_state}
 use Rattle.glob_text.proofs.choices.choices.Goals as goal
@@ -17,24 +17,13 @@ loop-mark-init g c =
 pub overflow_sub-index : goal.overflow_sub-index
 overflow_sub-index g c = left_fits c.args.marks.now c.loop-mark.left.now c.loop-mark.invariant.before c.loop-mark.invariant.joined
 
-pub returns-then-not-fits : goal.returns-then-not-fits
-returns-then-not-fits g c =
-    let marks = map mark_of c.args.marks.now in
-    let left = map mark_of c.loop-mark.left.now in
-    let fits = left_fits c.args.marks.now c.loop-mark.left.now c.loop-mark.invariant.before c.loop-mark.invariant.joined in
-    let large = rw c.if-not-fits.true at c.in_ok-fits.ensures in
-    too_many_indices marks _ (map mark_of c.in-Some.rest.now)
-    (one_more_index marks (state_of c.loop-mark.found) left (mark_of c.in-Some.mark.now) _ _ c.loop-mark.invariant (ap (map mark_of) c.in-Some.ensures.cases.0)
-    (omega (arith, fits, length-map c.args.marks.now mark_of, length-map c.loop-mark.left.now mark_of))) large
-
 pub loop-mark-preserved : goal.loop-mark-preserved
 loop-mark-preserved g c =
     let marks = map mark_of c.args.marks.now in
     let left = map mark_of c.loop-mark.left.now in
     let rest = map mark_of c.in-Some.rest.now in
     let fits = left_fits c.args.marks.now c.loop-mark.left.now c.loop-mark.invariant.before c.loop-mark.invariant.joined in
-    let next = rw c.if-not-fits.false at c.in_ok-fits.ensures in
-    subst (λ z. FoundSoFar marks (map_state (mark_at marks) z) rest) (sym next)
+    subst (λ z. FoundSoFar marks (map_state (mark_at marks) z) rest) (sym c.in_ok-advance.ensures)
     (one_more_index marks (state_of c.loop-mark.found) left (mark_of c.in-Some.mark.now) rest _ c.loop-mark.invariant (ap (map mark_of) c.in-Some.ensures.cases.0)
     (omega (arith, fits, length-map c.args.marks.now mark_of, length-map c.loop-mark.left.now mark_of)))
 

@@ -3,6 +3,7 @@ use Rattle.os_ignore.specs.Components.{left_pieces, left_size}
 use Rattle.os_ignore.specs.Files.{IsLineRead, NextLine, list_of}
 use Rattle.os_ignore.proofs.lemmas.Groups.{one_more}
 use Rattle.os_ignore.proofs.lemmas.LineReadings.{says_line}
+use Rattle.os_ignore.proofs.lemmas.Tags.{more_tags}
 use Rattle.os_ignore.proofs.file.read_lines.Goals as goal
 
 pub loop-left-preserved : goal.loop-left-preserved
@@ -12,10 +13,11 @@ loop-left-preserved g c =
       text = c.line_text.result.now;
       read = c.line_text.ensures;
       says = c.in_ok-read.read;
-      text_says = says_line c.line_text.result.now c.loop-left.number c.in_ok-read.read c.in_ok-read.ensures;
+      text_says = says_line c.line_text.result.now c.loop-left.number c.in_ok-read.read c.in_ok-read.ensures.line;
       said_is = refl;
       left_is = refl;
-    }) in (
-      one_more IsLineRead _ _ _ _ _ _ c.loop-left.invariant.0 here c.in_ok-push_line.ensures,
-      let h = c.loop-left.invariant.1 in let k = ap left_size c.in-Some.is in let s = c.split_piece.ensures.shorter in omega arith,
-    )
+    }) in record {
+      read = one_more IsLineRead _ _ _ _ _ _ c.loop-left.invariant.read here c.in_ok-push_line.ensures;
+      few = let h = c.loop-left.invariant.few in let k = ap left_size c.in-Some.is in let s = c.split_piece.ensures.shorter in omega arith;
+      tags = more_tags c.loop-left.lines.items c.in_ok-read.read _ c.loop-left.invariant.tags c.in_ok-read.ensures.tag c.in_ok-push_line.ensures;
+    }

@@ -1,26 +1,27 @@
 use Rattle.std.proofs.Common.{sym, ap, subst, refl, ◌∙◌}
 use Rattle.os_ignore.specs.Lines.{EndsQuoted, quoted_slash, empty, broken, after_literal, literal_prefix}
 use Rattle.os_ignore.specs.PatternText.{IsPattern, IsBrokenPattern}
+use Rattle.os_ignore.specs.Tags.{IsTagOf}
 use Rattle.os_ignore.proofs.lemmas.Bodies.{body_is}
 use Rattle.os_ignore.proofs.lemmas.Rests as rests
 use Rattle.os_ignore.proofs.line.read_letters.Goals as goal
 
-pub returns-in_default : goal.returns-in_default
-returns-in_default g c = quoted_slash c.trim.ensures (subst EndsQuoted (ap (λ p. p.1) c.strip_first-takes_in.ensures) c.in_default.ensures)
+pub returns-in_default-clause-line : goal.returns-in_default-clause-line
+returns-in_default-clause-line g c = quoted_slash c.trim.ensures (subst EndsQuoted (ap (λ p. p.1) c.strip_first-takes_in.ensures) c.in_default.ensures)
 
-pub returns-then-is_empty : goal.returns-then-is_empty
-returns-then-is_empty g c =
+pub returns-then-is_empty-clause-line : goal.returns-then-is_empty-clause-line
+returns-then-is_empty-clause-line g c =
     let body = body_is _ _ _ _ _ _ (sym c.is_comment.ensures ∙ c.if-is_comment.false) c.trim.ensures c.strip_first-takes_in.ensures c.in-Some.ensures in
     empty body (sym (ap (λ p. p.1) c.strip_first.ensures) ∙ rests.empty c.strip_first.result.1.now (sym c.is_empty.ensures ∙ c.if-is_empty.true))
 
-pub returns-in_default-2 : goal.returns-in_default-2
-returns-in_default-2 g c =
+pub returns-in_default-2-clause-line : goal.returns-in_default-2-clause-line
+returns-in_default-2-clause-line g c =
     let body = body_is _ _ _ _ _ _ (sym c.is_comment.ensures ∙ c.if-is_comment.false) c.trim.ensures c.strip_first-takes_in.ensures c.in-Some.ensures in
     let read = rw c.in_default-2.is at c.in_ok-pattern.ensures in
     broken body (subst (IsBrokenPattern _) (c.in_ok-literal.ensures.1 ∙ ap (λ p. after_literal p.1) c.strip_first.ensures) read)
 
-pub returns : goal.returns
-returns g c =
+pub returns-clause-line : goal.returns-clause-line
+returns-clause-line g c =
     let body = body_is _ _ _ _ _ _ (sym c.is_comment.ensures ∙ c.if-is_comment.false) c.trim.ensures c.strip_first-takes_in.ensures c.in-Some.ensures in
     let read = rw c.in-Some-2.is at c.in_ok-pattern.ensures in
     let same = ap (λ p. p.1) c.strip_first.ensures in (
@@ -34,3 +35,8 @@ returns g c =
         pattern = subst (λ z. IsPattern z c.in-Some-2.pattern.items) (c.in_ok-literal.ensures.1 ∙ ap after_literal same) read;
       },
     )
+
+pub returns-clause-tag : goal.returns-clause-tag
+returns-clause-tag g c =
+    subst (λ z. IsTagOf c.has_slash-anchored.result z c.in-Some-2.pattern.items c.in_ok-tag.tag) c.deref.ensures.value
+    (c.in_ok-tag.ensures c.in-Some-2.pattern.items (rw c.in-Some-2.is at c.in_ok-pattern.ensures))

@@ -1,6 +1,6 @@
 use Rattle.std.proofs.Common.{◌∷◌}
 use Rattle.platform_str.specs.Strings.{bytes, path_bytes}
-use Rattle.os_path.specs.Strings.{string_of}
+use Rattle.path_building.specs.Collected.{string_of}
 use Rattle.test_path_uses.proofs.PathStrings.{first_given}
 use Rattle.test_path_uses.proofs.path_strings.first_string.Goals as goal
 

@@ -9,12 +9,12 @@ returns-clause-added g c =
     let old = sym files ∙ place.joined in
     record {
       before = c.files_before-index.result.now;
-      file = record { number = c.len.result; directory = c.in_ok-from_slice.field-0; lines = c.in_ok-lines.lines };
+      file = c.in_ok-added.added;
       place = record { after = place.after; joined = old; no_longer = place.no_longer; longer = place.longer };
-      joined = c.in_ok-insert.ensures.items ∙ inserted c.args.self.now.files.items c.files_before-index.result.now place.after (record { number = c.len.result; directory = c.in_ok-from_slice.field-0; lines = c.in_ok-lines.lines }) old;
+      joined = c.in_ok-insert.ensures.items ∙ inserted c.args.self.now.files.items c.files_before-index.result.now place.after c.in_ok-added.added old;
       file_is = record {
-        number_is = c.len.ensures ∙ sym (sym (ap length files) ∙ c.deref.ensures.len);
-        directory_is = c.in_ok-from_slice.ensures.items;
-        lines = c.in_ok-lines.ensures;
+        number_is = c.in_ok-added.ensures.0 ∙ c.len.ensures ∙ sym (sym (ap length files) ∙ c.deref.ensures.len);
+        directory_is = c.in_ok-added.ensures.1.0;
+        lines = c.in_ok-added.ensures.1.1;
       };
     }

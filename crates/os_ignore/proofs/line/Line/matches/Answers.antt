@@ -1,6 +1,6 @@
 use Rattle.std.proofs.Common.{rules, ◌≡◌, true, false, sym, ap, ◌∙◌, subst}
 use Rattle.os_ignore.specs.Components.{IsLastComponent}
-use Rattle.os_ignore.specs.Verdicts.{IsTarget, MatchesText}
+use Rattle.os_ignore.specs.Matching.{IsTarget, MatchesText}
 use Rattle.os_ignore.proofs.lemmas.Rests.{line_matches}
 use Rattle.os_ignore.proofs.line.Line.matches.Goals.{else-self-via-then-self+else-not-is_dir, else-self-via-else-self, then-self-2, else-self-2}
 use Rattle.os_ignore.proofs.line.Line.matches.Goals as goal

@@ -1,6 +1,6 @@
 use Rattle.std.proofs.Common.{◌∷◌, ◌++◌, [], ap, sym, ◌∙◌, append_assoc, arith}
 use Rattle.std.proofs.lemmas.List.{append-nil}
-use Rattle.os_ignore.proofs.file.files_before.Goals as goal
+use Rattle.os_ignore.proofs.directory.files_before.Goals as goal
 
 pub loop-last-init : goal.loop-last-init
 loop-last-init g c = ([], sym (append-nil _), tt)

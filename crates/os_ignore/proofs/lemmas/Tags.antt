@@ -1,0 +1,267 @@
+-- Tags that lines have.
+use Rattle.std.proofs.Common.{◌≡◌, ◌&&◌, nat_eq, nat_le, not, cond, ℕ, Bool, true, false, Option, Some, None, get_or, zero, suc, map, ◌<◌, List, [], ◌∷◌, ◌++◌, length, refl, sym, ap, ◌∙◌, subst, arith, append_assoc, append-nil, eq-eqb}
+use Rattle.std.specs.Prelude.{IfSome}
+use Rattle.std.specs.List.{AllByRecursion, join_with_byte}
+use Rattle.std.proofs.lemmas.Bool.Decides.{nat_tests}
+use Rattle.std.proofs.lemmas.List.Elements.{All-head, All-tail}
+use Rattle.std.proofs.lemmas.List.Splits.{join_with_byte-slice_split}
+use Rattle.wildcards.specs.declared.part.Part.{Part}
+use Rattle.wildcards.specs.declared.piece.Item.{Item}
+use Rattle.wildcards.specs.declared.piece.Item.TheVariants as item
+use Rattle.wildcards.specs.declared.piece.Piece.{Piece}
+use Rattle.wildcards.specs.declared.piece.Piece.TheVariants.{Many, One}
+use Rattle.wildcards.specs.declared.separators.Separators.TheVariants as separators
+use Rattle.wildcards.specs.Components.{components}
+use Rattle.wildcards.specs.Match.{TakesLetter, Fits, Matches}
+use Rattle.wildcards.specs.Wild.{Wild}
+use Rattle.os_ignore.specs.declared.letter.Letter.{Letter}
+use Rattle.os_ignore.specs.declared.letter.Kind.{Kind}
+use Rattle.os_ignore.specs.declared.letter.Kind.TheVariants.{Slash, Star, Question, Bracket, Literal}
+use Rattle.os_ignore.specs.declared.line.Line.{Line}
+use Rattle.os_ignore.specs.declared.pattern.After.{After}
+use Rattle.os_ignore.specs.declared.pattern.After.TheVariants as after
+use Rattle.os_ignore.specs.Components.{IsPlain, IsCut, IsLastComponent}
+use Rattle.os_ignore.specs.Files.{list_of}
+use Rattle.os_ignore.specs.Letters.{is_plain, is_simple, kind_of, matches_itself}
+use Rattle.os_ignore.specs.Lines.{literal_prefix, after_literal}
+use Rattle.os_ignore.specs.Matching.{IsTarget, MatchesText, by_slashes}
+use Rattle.os_ignore.specs.PatternText.{PieceAt, IsPiece, IsPart, EndsPart, IsGroup, NextGroup, IsPattern, is_deep, all_stars, is_joined, group, concat_of, left_after, text_of}
+use Rattle.os_ignore.specs.Reading.{Reads}
+use Rattle.os_ignore.specs.Tags as tags
+use Rattle.os_ignore.specs.Tags.{HasTag, IsTag, IsTagOf, AreTags, IsExtension, tag_of}
+
+-- a list ends with the last list of which it is joined
+joined_last : (c : ℕ) (front : List (List ℕ)) (last : List ℕ) → (before : List ℕ) × (join_with_byte c (front ++ last ∷ []) ≡ before ++ last)
+joined_last c [] last = ([], refl)
+joined_last c (x ∷ []) last = (x ++ c ∷ [], sym (append_assoc x (c ∷ []) last))
+joined_last c (x ∷ y ∷ front) last =
+    let h = joined_last c (y ∷ front) last in
+    (x ++ c ∷ h.0, ap (λ z. x ++ c ∷ z) h.1 ∙ sym (append_assoc x (c ∷ h.0) last))
+
+-- a path ends with its last component
+ends_with_last : (path last : List ℕ) → IsLastComponent path last → (before : List ℕ) × (path ≡ before ++ last)
+ends_with_last path last k =
+    let h = joined_last 0x2F k.0 last in
+    (h.0, sym (join_with_byte-slice_split 0x2F path) ∙ ap (join_with_byte 0x2F) k.1 ∙ h.1)
+
+-- a path of one component is that
+one_part : (path part : List ℕ) → components separators.Slash path ≡ part ∷ [] → path ≡ part
+one_part path part e = sym (join_with_byte-slice_split 0x2F path) ∙ ap (join_with_byte 0x2F) e
+
+-- what the target ends with the path ends with
+path_end : (anchored : Bool) (path target : List ℕ) → IsTarget anchored path target → (front : List ℕ) × (path ≡ front ++ target)
+path_end true path target t = ([], sym t)
+path_end false path target t = ends_with_last path target t
+
+no_slash : (l : Letter) (ls : List Letter) (a : After) → (nat_eq l.byte 0x2F ≡ false) → EndsPart (l ∷ ls) a → ⊥
+no_slash l ls after.End n e = absurd cc
+no_slash l ls (after.Slash quoted rest) n e =
+    let same : l ≡ record { byte = 0x2F; quoted = quoted } = cc in
+    let never : false ≡ true = sym n ∙ ap (λ z. nat_eq z.byte 0x2F) same in
+    absurd cc
+
+none_end : (a : After) → EndsPart [] a → a ≡ after.End
+none_end after.End e = refl
+none_end (after.Slash quoted rest) e = absurd cc
+
+-- letters of which nothing is left after the literal start with one that matches itself
+begins_simple : (l : Letter) (ls : List Letter) → after_literal (l ∷ ls) ≡ [] → (is_simple l ≡ true) × (after_literal ls ≡ [])
+begins_simple l ls e = go (is_simple l) refl e
+  where
+    go : (v : Bool) → is_simple l ≡ v → cond v (after_literal ls) (l ∷ ls) ≡ [] → (is_simple l ≡ true) × (after_literal ls ≡ [])
+    go true f g = (f, g)
+    go false f g = absurd cc
+
+both : (a b : Bool) → a && b ≡ true → b ≡ true
+both true b e = e
+both false b e = let never : false ≡ true = e in absurd cc
+
+and_false : (v : Bool) → v && false ≡ false
+and_false true = refl
+and_false false = refl
+
+star_byte : (star : Letter) → is_plain star 0x2A ≡ true → star.byte ≡ 0x2A
+star_byte star e = go star.quoted e
+  where
+    go : (q : Bool) → not q && nat_eq star.byte 0x2A ≡ true → star.byte ≡ 0x2A
+    go true h = let never : false ≡ true = h in absurd cc
+    go false h = grind (arith, nat_tests, h)
+
+star_kind : (star : Letter) → is_plain star 0x2A ≡ true → kind_of star ≡ Star
+star_kind star e = go star.quoted star.byte (star_byte star e) e
+  where
+    go : (q : Bool) (b : ℕ) → b ≡ 0x2A → not q && nat_eq b 0x2A ≡ true → kind_of (record { byte = b; quoted = q }) ≡ Star
+    go true b e h = let never : false ≡ true = h in absurd cc
+    go false b e h = subst (λ z. kind_of (record { byte = z; quoted = false }) ≡ Star) (sym e) refl
+
+pub nil_of_length : {X : Type 0} (xs : List X) → length xs ≡ 0 → xs ≡ []
+nil_of_length [] e = refl
+nil_of_length (x ∷ xs) e = absurd (omega arith)
+
+module _ {A : Type 0} where
+  -- a part that is the whole pattern
+  one_group : (text : List Letter) (pattern : List (Piece (Part A))) → IsPattern text pattern → ((pieces : List (Piece (Item A))) (a : After) → IsPart text pieces a → (a ≡ after.End) × (is_deep pieces ≡ false)) → (part : Part A) × (IsPart text part.pieces.items after.End × (pattern ≡ One part ∷ []))
+  one_group text pattern p alone = go p.groups p.read p.joined
+    where
+      rest : (groups : List (List (Piece (Part A)))) → Reads NextGroup None groups None → groups ≡ []
+      rest [] r = refl
+      rest (g ∷ gs) r = absurd r.1
+
+      go : (groups : List (List (Piece (Part A)))) → Reads NextGroup (Some text) groups None → pattern ≡ concat_of groups → (part : Part A) × (IsPart text part.pieces.items after.End × (pattern ≡ One part ∷ []))
+      go [] r e = let never : Some text ≡ None = r in absurd cc
+      go (g ∷ gs) r e =
+          let own = r.1 in
+          let is = alone own.part.pieces.items own.after own.read in
+          let left : r.0 ≡ None = own.left_is ∙ ap (λ z. text_of (left_after z)) is.0 in
+          let none : gs ≡ [] = rest gs (subst (λ z. Reads NextGroup z gs None) left r.2) in (
+            own.part,
+            (
+              subst (IsPart text own.part.pieces.items) is.0 own.read,
+              e ∙ ap (λ z. g ++ concat_of z) none ∙ append-nil g ∙ own.pieces_are ∙ ap (λ z. group z (is_joined own.after) own.part) is.1,
+            ),
+          )
+
+  -- letters that match themselves, none a slash, are all of a part
+  record AreLiterals (letters : List Letter) (pieces : List (Piece (Item A))) (a : After) : Type 0 where
+    ends : a ≡ after.End
+    stars : all_stars pieces ≡ true → pieces ≡ []
+    are : (text : List ℕ) → Wild TakesLetter Fits pieces text → text ≡ literal_prefix letters
+
+  literal_piece : (k : Kind) (l : Letter) (ls : List Letter) (p : Piece (Item A)) (rest : List Letter) → matches_itself k ≡ true → PieceAt k l ls p rest → (p ≡ One (item.Literal l.byte)) × (rest ≡ ls)
+  literal_piece Slash l ls p rest e h = h
+  literal_piece Literal l ls p rest e h = h
+  literal_piece Star l ls p rest e h = let never : false ≡ true = e in absurd cc
+  literal_piece Question l ls p rest e h = let never : false ≡ true = e in absurd cc
+  literal_piece Bracket l ls p rest e h = let never : false ≡ true = e in absurd cc
+
+  deep : (x : Piece (Item A)) (more : List (Piece (Item A))) → all_stars (x ∷ more) ≡ false → is_deep (x ∷ more) ≡ false
+  deep x more e = ap (λ v. nat_le 2 (length (x ∷ more)) && v) e ∙ and_false (nat_le 2 (length (x ∷ more)))
+
+  literals : (letters : List Letter) (pieces : List (Piece (Item A))) (left : List Letter) (a : After) → after_literal letters ≡ [] → IsPlain 0x2F (literal_prefix letters) → Reads IsPiece letters pieces left → EndsPart left a → AreLiterals letters pieces a
+  literals [] [] left a e p r s = record { ends = none_end a (subst (λ z. EndsPart z a) (sym r) s); stars = λ e. refl; are = λ text m. m }
+  literals [] (x ∷ xs) left a e p r s = absurd r.1
+  literals (l ∷ ls) pieces left a e p r s =
+      let simple = begins_simple l ls e in
+      let prefix : literal_prefix (l ∷ ls) ≡ l.byte ∷ literal_prefix ls = ap (λ v. cond v (l.byte ∷ literal_prefix ls) []) simple.0 in
+      let plain : IsPlain 0x2F (l.byte ∷ literal_prefix ls) = subst (IsPlain 0x2F) prefix p in
+      let head : nat_eq l.byte 0x2F ≡ false = All-head (λ b. nat_eq b 0x2F ≡ false) l.byte (literal_prefix ls) plain in
+      let tail = All-tail (λ b. nat_eq b 0x2F ≡ false) l.byte (literal_prefix ls) plain in
+      go pieces r simple.0 head prefix (λ xs h. literals ls xs left a simple.1 tail h s)
+    where
+      go : (pieces : List (Piece (Item A))) → Reads IsPiece (l ∷ ls) pieces left → is_simple l ≡ true → nat_eq l.byte 0x2F ≡ false → literal_prefix (l ∷ ls) ≡ l.byte ∷ literal_prefix ls → ((xs : List (Piece (Item A))) → Reads IsPiece ls xs left → AreLiterals ls xs a) → AreLiterals (l ∷ ls) pieces a
+      go [] r simple head prefix more = absurd (no_slash l ls a head (subst (λ z. EndsPart z a) (sym r) s))
+      go (x ∷ xs) r simple head prefix more =
+          let piece = literal_piece (kind_of l) l ls x r.0 (both (not l.quoted) (matches_itself (kind_of l)) simple) r.1.1 in
+          let rest = more xs (subst (λ z. Reads IsPiece z xs left) piece.1 r.2) in
+          record {
+            ends = rest.ends;
+            stars = λ e. let never : false ≡ true = sym (ap (λ z. all_stars (z ∷ xs)) piece.0) ∙ e in absurd cc;
+            are = λ text m.
+                let one = subst (λ z. Wild TakesLetter Fits (z ∷ xs) text) piece.0 m in
+                one.joined ∙ ap (λ z. z ∷ one.rest) (sym one.fits) ∙ ap (λ z. l.byte ∷ z) (rest.are one.rest one.after) ∙ sym prefix;
+          }
+
+  empty_part : (pieces : List (Piece (Item A))) (a : After) → IsPart [] pieces a → (a ≡ after.End) × (is_deep pieces ≡ false)
+  empty_part pieces a h = go pieces h.read
+    where
+      go : (pieces : List (Piece (Item A))) → Reads IsPiece [] pieces h.left → (a ≡ after.End) × (is_deep pieces ≡ false)
+      go [] r = (none_end a (subst (λ z. EndsPart z a) (sym r) h.ends), refl)
+      go (x ∷ xs) r = absurd r.1
+
+  empty_fits : (pieces : List (Piece (Item A))) → IsPart [] pieces after.End → (text : List ℕ) → Wild TakesLetter Fits pieces text → text ≡ []
+  empty_fits pieces h text m = (literals [] pieces h.left after.End refl (λ k d l. absurd (omega arith)) h.read h.ends).are text m
+
+  -- a pattern that is no letter matches no more
+  nothing_more : (pattern : List (Piece (Part A))) → IsPattern [] pattern → (rest : List ℕ) → Matches by_slashes pattern rest → rest ≡ []
+  nothing_more pattern p rest m =
+      let one = one_group [] pattern p empty_part in
+      let fit = subst (λ z. Matches by_slashes z rest) one.1.1 m in
+      let part : fit.letter ≡ [] = empty_fits one.0.pieces.items one.1.0 fit.letter fit.fits.0 in
+      one_part rest [] (fit.joined ∙ ap (λ z. fit.letter ∷ z) fit.after ∙ ap (λ z. z ∷ []) part)
+
+  module _ (star : Letter) (letters : List Letter) (is_star : is_plain star 0x2A ≡ true) (simple : after_literal letters ≡ []) (plain : IsPlain 0x2F (literal_prefix letters)) where
+    record IsSuffix (pieces : List (Piece (Item A))) (a : After) : Type 0 where
+      more : List (Piece (Item A))
+      pieces_are : pieces ≡ Many ∷ more
+      rest : AreLiterals letters more a
+
+    suffix_part : (pieces : List (Piece (Item A))) (a : After) → IsPart (star ∷ letters) pieces a → IsSuffix pieces a
+    suffix_part pieces a h = go pieces h.read
+      where
+        go : (pieces : List (Piece (Item A))) → Reads IsPiece (star ∷ letters) pieces h.left → IsSuffix pieces a
+        go [] r = absurd (no_slash star letters a (ap (λ z. nat_eq z 0x2F) (star_byte star is_star)) (subst (λ z. EndsPart z a) (sym r) h.ends))
+        go (x ∷ xs) r =
+            let piece : (x ≡ Many) × (r.0 ≡ letters) = subst (λ k. PieceAt k star letters x r.0) (star_kind star is_star) r.1.1 in
+            record {
+              more = xs;
+              pieces_are = ap (λ z. z ∷ xs) piece.0;
+              rest = literals letters xs h.left a simple plain (subst (λ z. Reads IsPiece z xs h.left) piece.1 r.2) h.ends;
+            }
+
+    -- a star and letters that match themselves aren't `**`
+    not_deep : (pieces : List (Piece (Item A))) (a : After) → IsSuffix pieces a → is_deep pieces ≡ false
+    not_deep pieces a h = ap is_deep h.pieces_are ∙ go (all_stars h.more) refl
+      where
+        go : (v : Bool) → all_stars h.more ≡ v → is_deep (Many ∷ h.more) ≡ false
+        go true e = ap (λ z. is_deep (Many ∷ z)) (h.rest.stars e)
+        go false e = deep Many h.more e
+
+    suffix : (pattern : List (Piece (Part A))) → IsPattern (star ∷ letters) pattern → (rest : List ℕ) → Matches by_slashes pattern rest → (front : List ℕ) × (rest ≡ front ++ literal_prefix letters)
+    suffix pattern p rest m =
+        let one = one_group (star ∷ letters) pattern p (λ pieces a h. let k = suffix_part pieces a h in (k.rest.ends, not_deep pieces a k)) in
+        let fit = subst (λ z. Matches by_slashes z rest) one.1.1 m in
+        let part = suffix_part one.0.pieces.items after.End one.1.0 in
+        let wild = subst (λ z. Wild TakesLetter Fits z fit.letter) part.pieces_are fit.fits.0 in
+        let whole = one_part rest fit.letter (fit.joined ∙ ap (λ z. fit.letter ∷ z) fit.after) in
+        (wild.skipped, whole ∙ wild.joined ∙ ap (λ z. wild.skipped ++ z) (part.rest.are wild.rest wild.after))
+
+    tagged : (anchored : Bool) (literal front back : List ℕ) → IsCut 0x2E (literal_prefix letters) front back → IsPlain 0x2E back → (tag : ℕ) → tag ≡ tag_of back → (pattern : List (Piece (Part A))) → IsPattern (star ∷ letters) pattern → IsTagOf anchored literal pattern tag
+    tagged anchored literal front back c q tag e pattern p path target t m none =
+        let own = suffix pattern p m.rest m.matches in
+        let all = path_end anchored path target t in
+        let joined : path ≡ (all.0 ++ (literal ++ (own.0 ++ front))) ++ 0x2E ∷ back =
+        all.1 ∙ ap (λ z. all.0 ++ z) (m.joined ∙ ap (λ z. literal ++ z) (own.1 ∙ ap (λ z. own.0 ++ z) c ∙ sym (append_assoc own.0 front (0x2E ∷ back))) ∙ sym (append_assoc literal (own.0 ++ front) (0x2E ∷ back)))
+        ∙ sym (append_assoc all.0 (literal ++ (own.0 ++ front)) (0x2E ∷ back)) in
+        none (tags.dot _ back joined q e)
+
+  pub suffix_tag : (star : Letter) (letters : List Letter) → is_plain star 0x2A ≡ true → after_literal letters ≡ [] → (text extension : List ℕ) → text ≡ literal_prefix letters → IsExtension text extension → (anchored : Bool) (literal : List ℕ) (tag : ℕ) → tag ≡ tag_of extension → (pattern : List (Piece (Part A))) → IsPattern (star ∷ letters) pattern → IsTagOf anchored literal pattern tag
+  suffix_tag star letters is_star simple text extension same x anchored literal tag e =
+      tagged star letters is_star simple (subst (IsPlain 0x2F) same x.no_slash) anchored literal x.front extension (sym same ∙ x.cut) x.no_dot tag e
+
+  whole : (literal : List ℕ) (pattern : List (Piece (Part A))) (target : List ℕ) → IsPattern [] pattern → MatchesText literal pattern target → target ≡ literal
+  whole literal pattern target p m = m.joined ∙ ap (λ z. literal ++ z) (nothing_more pattern p m.rest m.matches) ∙ append-nil literal
+
+  pub path_tag : (literal name : List ℕ) → IsLastComponent literal name → (tag : ℕ) → tag ≡ tag_of name → (pattern : List (Piece (Part A))) → IsPattern [] pattern → IsTagOf true literal pattern tag
+  path_tag literal name l tag e pattern p path target t m none =
+      none (tags.last name (subst (λ z. IsLastComponent z name) (sym (whole literal pattern target p m) ∙ t) l) e)
+
+  pub name_tag : (literal : List ℕ) (tag : ℕ) → tag ≡ tag_of literal → (pattern : List (Piece (Part A))) → IsPattern [] pattern → IsTagOf false literal pattern tag
+  name_tag literal tag e pattern p path target t m none =
+      none (tags.last literal (subst (IsLastComponent path) (whole literal pattern target p m) t) e)
+
+  pub start_tag : (literal front back : List ℕ) → IsCut 0x2F literal front back → IsPlain 0x2F front → (tag : ℕ) → tag ≡ tag_of front → (pattern : List (Piece (Part A))) → IsTagOf true literal pattern tag
+  start_tag literal front back c q tag e pattern path target t m none =
+      none (tags.first front (back ++ m.rest) (sym t ∙ m.joined ∙ ap (λ z. z ++ m.rest) c ∙ append_assoc front (0x2F ∷ back) m.rest) q e)
+
+  pub no_tag : (anchored : Bool) (literal : List ℕ) (pattern : List (Piece (Part A))) → IsTagOf anchored literal pattern 0
+  no_tag anchored literal pattern path target t m none = none (tags.any refl)
+
+  pub more_tags : (lines : List (Line A)) (read : Option (Line A)) (all : List (Line A)) → AllByRecursion (λ line. IsTag line line.tag) lines → IfSome read (λ line. IsTag line line.tag) → all ≡ lines ++ list_of read → AllByRecursion (λ line. IsTag line line.tag) all
+  more_tags lines read all h k e = subst (AllByRecursion (λ line. IsTag line line.tag)) (sym e) (go lines read h k)
+    where
+      last : (read : Option (Line A)) → IfSome read (λ line. IsTag line line.tag) → AllByRecursion (λ line. IsTag line line.tag) (list_of read)
+      last None k = tt
+      last (Some line) k = (k, tt)
+
+      go : (lines : List (Line A)) (read : Option (Line A)) → AllByRecursion (λ line. IsTag line line.tag) lines → IfSome read (λ line. IsTag line line.tag) → AllByRecursion (λ line. IsTag line line.tag) (lines ++ list_of read)
+      go [] read h k = last read k
+      go (x ∷ xs) read h k = (h.0, go xs read h.1 k)
+
+  pub own_tags : (lines : List (Line A)) → AllByRecursion (λ line. IsTag line line.tag) lines → AreTags lines (map (λ line. line.tag) lines)
+  own_tags [] h k l d = absurd (omega arith)
+  own_tags (x ∷ xs) h zero l d = h.0
+  own_tags (x ∷ xs) h (suc k) l d = own_tags xs h.1 k (omega arith) d
+
+  pub own_count : (lines : List (Line A)) → length (map (λ line. line.tag) lines) ≡ length lines
+  own_count [] = refl
+  own_count (x ∷ xs) = ap suc (own_count xs)

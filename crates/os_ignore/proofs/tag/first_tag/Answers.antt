@@ -1,0 +1,12 @@
+use Rattle.std.proofs.Common.{sym, ap, ◌∙◌}
+use Rattle.os_ignore.specs.Tags.{tag_of}
+use Rattle.os_ignore.proofs.lemmas.Cuts.{not_plain, same_front}
+use Rattle.os_ignore.proofs.tag.first_tag.Goals as goal
+
+pub returns-in-Some : goal.returns-in-Some
+returns-in-Some c =
+    λ front back cut plain.
+    c.tag_of.ensures ∙ ap tag_of (same_front 0x2F c.in-Some.text.now _ front back (sym c.in-Some.ensures.cut.0 ∙ cut) c.in-Some.ensures.cut.1 plain)
+
+pub returns-in-None : goal.returns-in-None
+returns-in-None c = λ front back cut plain. absurd (not_plain 0x2F front back (rw cut at c.in-None.ensures.cut))

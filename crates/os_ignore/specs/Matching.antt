@@ -1,0 +1,32 @@
+-- Which paths a line matches (gitignore, "PATTERN FORMAT").
+use Rattle.std.specs.Prelude.{◌≡◌, ℕ, Bool, true, false, List, ◌++◌}
+use Rattle.wildcards.specs.declared.options.Options.{Options}
+use Rattle.wildcards.specs.declared.part.Part.{Part}
+use Rattle.wildcards.specs.declared.piece.Piece.{Piece}
+use Rattle.wildcards.specs.declared.separators.Separators.TheVariants.{Slash}
+use Rattle.wildcards.specs.Match.{Matches}
+use Rattle.os_ignore.specs.declared.line.Line.{Line}
+use Rattle.os_ignore.specs.Components.{IsLastComponent}
+
+-- what an anchored line matches is the whole path, and another one the last component
+abbrev pub IsTarget : Bool → List ℕ → List ℕ → Type 0
+IsTarget true path target = target ≡ path
+IsTarget false path target = IsLastComponent path target
+
+-- slashes alone separate components, and a dot at the start of one is matched as any byte
+abbrev pub by_slashes : Options
+by_slashes = record { separators = Slash; literal_leading_dot = false }
+
+module _ {A : Type 0} where
+  -- the text is a literal start, and a rest that the pattern matches
+  pub record MatchesText (literal : List ℕ) (pattern : List (Piece (Part A))) (text : List ℕ) : Type 0 where
+    pub rest : List ℕ
+    pub joined : text ≡ literal ++ rest
+    pub matches : Matches by_slashes pattern rest
+
+  -- the line matches the path, which may be a directory
+  pub record LineMatches (line : Line A) (path : List ℕ) (is_dir : Bool) : Type 0 where
+    pub directories : line.directories ≡ true → is_dir ≡ true
+    pub target : List ℕ
+    pub target_is : IsTarget line.anchored path target
+    pub matches : MatchesText line.literal.items line.pattern.items target
