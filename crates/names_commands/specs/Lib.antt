@@ -2,6 +2,7 @@ pub mod Task
 pub mod Ignoring
 pub mod Matching
 pub mod Fault
+pub mod Options
 pub mod Files
 pub mod Command
 pub mod Pick

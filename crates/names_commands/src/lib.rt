@@ -21,6 +21,7 @@ mod ignoring;
 mod item;
 pub mod laws;
 pub mod matching;
+pub mod option;
 pub mod pick;
 pub mod program;
 pub mod task;

@@ -1,2 +1,4 @@
-pub mod Pieces
 pub mod lists
+pub mod Arguments
+pub mod Pieces
+pub mod Values

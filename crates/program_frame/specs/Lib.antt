@@ -5,6 +5,8 @@ pub mod Written
 pub mod Os
 pub mod Strings
 pub mod Words
+pub mod Arguments
+pub mod Misuse
 pub mod Ended
 pub mod Items
 pub mod Rules

@@ -1,6 +1,7 @@
 -- The text and the exit status of what keeps a program for lists from its output.
 use Rattle.std.specs.Prelude.{◌≡◌, ◌↔◌, ℕ, List, Bool, true, Result, Err, ⊤}
 use Rattle.program_frame.specs.ListFault as list_fault
+use Rattle.program_frame.specs.Rules.{EndsRun}
 use Rattle.program_frame.specs.declared.fault.Failure.TheVariants.{Read, Write}
 use Rattle.program_frame.specs.declared.lists.fault.ListFault.TheVariants.{Run}
 use Rattle.program_frame.specs.declared.lists.program_fault.Fault.{Fault}
@@ -10,6 +11,11 @@ use Rattle.program_frame.specs.declared.lists.program_fault.Fault.TheVariants.{L
 abbrev pub text_of : {F U : Type 0} → List ℕ → (F → List ℕ) → (U → List ℕ) → Fault F U → List ℕ
 text_of item reason words (OfList fault) = list_fault.text_of item reason fault
 text_of item reason words (Words why) = words why
+
+-- the run may end with this fault, where this states whether an item that is refused may end it
+abbrev pub EndsRunOf : {F U : Type 0} → Type 0 → Fault F U → Type 0
+EndsRunOf stops (OfList fault) = EndsRun stops fault
+EndsRunOf stops (Words why) = Unit {0}
 
 -- the status that the program ends with, where refusals of words have these
 abbrev pub status_of : {F U : Type 0} → (U → ℕ) → Fault F U → ℕ

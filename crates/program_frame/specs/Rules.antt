@@ -49,3 +49,31 @@ module _ {F : Type 0} (list : ListRules F) where
     pub whole : Lacks list.end e.0
     pub short : length e.0 ≤ list.longest
     pub text : list.is_text e.0 e.1
+
+-- the list with other texts for its items
+abbrev pub with_texts : {F : Type 0} → (List ℕ → List ℕ → Type 0) → ListRules F → ListRules F
+with_texts is_text list = record {
+  end = list.end;
+  takes_unended = list.takes_unended;
+  max = list.max;
+  longest = list.longest;
+  is_text = is_text;
+  refuses = list.refuses;
+  is_of_long = list.is_of_long;
+}
+
+-- nothing is written for an item, since it is refused
+abbrev pub IsPassedOver : {F : Type 0} → ListRules F → List ℕ → List ℕ → Type 0
+IsPassedOver list item text = (text ≡ []) × ((why : _) × list.refuses item why)
+
+-- the list where items that are refused may have been passed over, if the count of those isn't 0
+abbrev pub passing : {F : Type 0} → ℕ → ListRules F → ListRules F
+passing count list = with_texts (λ item text. list.is_text item text ⊎ ((0 < count) × IsPassedOver list item text)) list
+
+-- the run may end with this fault, where this states whether an item that is refused may end it
+abbrev pub EndsRun : {F : Type 0} → Type 0 → ListFault F → Type 0
+EndsRun stops (Refused n why) = stops
+EndsRun stops (TooLong n most) = Unit {0}
+EndsRun stops (Unended n) = Unit {0}
+EndsRun stops TooMuch = Unit {0}
+EndsRun stops (Run why) = Unit {0}

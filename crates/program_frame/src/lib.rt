@@ -1,6 +1,7 @@
 //! What programs share, over ends of any kind.
 //!
-//! A program reads its arguments ([`words::words`]). It runs over a reader and a writer that
+//! A program reads its arguments ([`words::words`]), and options and operands from them
+//! ([`arguments::read_arguments`]); [`misuse::Misuse`] is what can be wrong with those. It runs over a reader and a writer that
 //! remember whether one of their calls failed ([`marked::Marked`]). It reads all that an end has
 //! ([`input::read_all`]), or a file by its name ([`files::Files`]), and writes its output
 //! ([`writing::write_out`]). It ends with an outcome, a message and a status ([`ended::Ended`]). A
@@ -11,6 +12,7 @@
 //! [`marked::Marked::new`] makes it.
 #![tactic(auto)]
 
+pub mod arguments;
 pub mod ended;
 pub mod ends;
 pub mod fault;
@@ -18,6 +20,7 @@ pub mod files;
 pub mod input;
 pub mod lists;
 pub mod marked;
+pub mod misuse;
 pub mod os;
 pub mod telling;
 pub mod words;

@@ -2,7 +2,7 @@
 //!
 //! A [`task::ListTask`] defines what is done with each item. [`run::run`] reads the list and writes
 //! the output for its items. If it ends early, a [`fault::ListFault`] states why and, for a fault
-//! of an item, the item's number. A program for lists is a [`program::ListProgram`], which
+//! of an item, the item's number. [`refusals`] has what becomes of refused items. A program for lists is a [`program::ListProgram`], which
 //! [`program::execute`] runs. [`answers`] has the calls that make its outcome.
 
 pub mod answers;
@@ -12,5 +12,6 @@ pub mod lines;
 pub mod program;
 pub mod program_fault;
 mod reading;
+pub mod refusals;
 pub mod run;
 pub mod task;

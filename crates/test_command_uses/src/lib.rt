@@ -5,6 +5,7 @@
 //! or a private word of the crates below, so that a contract that says too little breaks a caller.
 #![tactic(auto)]
 
+mod arguments;
 mod ignoring;
 mod marks;
 mod names;
@@ -14,6 +15,9 @@ mod programs;
 mod runs;
 mod words;
 
+pub use arguments::{
+    asks_for_help, last_limit, only_operand, options_of_names, patterns_of_options,
+};
 pub use ignoring::{OneFile, left_out, unread};
 pub use marks::{closed_by_a_flush, closed_by_a_write, closed_by_no_bytes, marked_by_no_bytes};
 pub use names::{

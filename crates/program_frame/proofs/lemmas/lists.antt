@@ -1,4 +1,5 @@
 pub mod Items
 pub mod Lines
+pub mod Passing
 pub mod Reading
 pub mod Runs

@@ -1,8 +1,10 @@
 //! The outcomes of a program for lists: that of a run over a list, and that of writing a text such
 //! as its help.
-ghost use Rattle.std.specs.Prelude.{◌≡◌, ◌≢◌, ◌↔◌, true, false, Err};
+ghost use Rattle.std.specs.Prelude.{◌≡◌, ◌≢◌, ◌↔◌, true, false, Err, IfErr};
 ghost use Rattle.program_frame.specs.ListRun.{Runs};
 ghost use Rattle.program_frame.specs.Marked.{marked_inner, has_failed};
+ghost use Rattle.program_frame.specs.ProgramFault.{EndsRunOf};
+ghost use Rattle.program_frame.specs.Rules.{passing};
 ghost use Rattle.program_frame.specs.Written.{WritesText};
 ghost use Rattle.program_frame.specs.declared.fault.Failure.{Failure};
 ghost use Rattle.program_frame.specs.declared.lists.fault.ListFault.{ListFault};
@@ -11,7 +13,8 @@ ghost use Rattle.program_frame.specs.declared.lists.program_fault.Fault.TheVaria
 use crate::fault::Failure;
 use crate::lists::fault::ListFault;
 use crate::lists::program_fault::Fault;
-use crate::lists::run::run;
+use crate::lists::refusals::Refusals;
+use crate::lists::run::{run, run_with};
 use crate::lists::task::ListTask;
 use crate::marked::Marked;
 use crate::writing::write_out;
@@ -56,6 +59,54 @@ pub fn run_list<T: ListTask, U, A: Allocator, R: Read, W: Write>(
         ↔ (has_failed writer.new ≡ true) }
 {
     match run(alloc, task, reader, writer) {
+        Ok(()) => Ok(()),
+        Err(fault) => Err(Fault::List(fault)),
+    }
+}
+
+/// Runs over the list, with `refusals` to decide what becomes of items that are refused, and returns
+/// the outcome as a program's. Both marks must be unset (test: [`Marked::failed`]).
+///
+/// # Errors
+///
+/// [`Fault::List`] with the error of [`run_with`].
+///
+/// ```
+/// use os_str_bytes::Unix;
+/// use paths_commands::fault::Fault;
+/// use paths_commands::task::{OnPlatform, Task};
+/// use program_frame::lists::answers::run_list_with;
+/// use program_frame::lists::refusals::KeepGoing;
+/// use program_frame::marked::Marked;
+///
+/// let mut taken = Vec::new(alloc);
+/// let (mut reader, mut writer) = (Marked::new(b"..\0a".as_slice()), Marked::new(&mut taken));
+/// let task = OnPlatform::<Unix>::new(Task::Normalize, 255);
+/// let mut refusals = KeepGoing::new("paths", &rt);
+/// let ended: Result<(), Fault> =
+///     run_list_with(alloc, &task, &mut refusals, &mut reader, &mut writer);
+/// assert!(rt; ended.is_ok() && refusals.count() == 1);
+/// assert_eq!(rt; taken.as_slice(), b"a\0".as_slice());
+/// ```
+pub fn run_list_with<T: ListTask, N: Refusals<T::Refusal>, U, A: Allocator, R: Read, W: Write>(
+    alloc: A,
+    task: &T,
+    refusals: &mut N,
+    reader: &mut Marked<R>,
+    writer: &mut Marked<W>,
+) -> Result<(), Fault<T::Refusal, U>>
+    requires reader_unmarked { has_failed reader.old ≡ false }
+    requires writer_unmarked { has_failed writer.old ≡ false }
+    ensures run { Runs (passing (N.passed refusals.new) (T.rules task.now)) OfList
+        (R.remaining (marked_inner reader.old)) (R.remaining (marked_inner reader.new))
+        (W.contents (marked_inner writer.old)) (W.contents (marked_inner writer.new)) result }
+    ensures ends { IfErr result (λ fault. EndsRunOf N.stops fault) }
+    ensures read { (result ≡ Err (Fault.List (ListFault.Run Failure.Read)))
+        ↔ (has_failed reader.new ≡ true) }
+    ensures write { (result ≡ Err (Fault.List (ListFault.Run Failure.Write)))
+        ↔ (has_failed writer.new ≡ true) }
+{
+    match run_with(alloc, task, refusals, reader, writer) {
         Ok(()) => Ok(()),
         Err(fault) => Err(Fault::List(fault)),
     }

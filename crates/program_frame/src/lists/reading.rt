@@ -1,38 +1,44 @@
 //! Items of an input that comes in blocks.
 ghost use Rattle.std.specs.Prelude.{◌≡◌, ◌+◌, ◌<◌, ◌^◌, ◌≤◌, ◌++◌, [], length, ℕ, List, OnOk, OnErr, IfOk, IfErr};
 ghost use Rattle.program_frame.specs.Items.{Lacks};
-ghost use Rattle.program_frame.specs.Rules.{IsFaultAt, IsEntry};
+ghost use Rattle.program_frame.specs.Rules.{IsFaultAt, IsEntry, EndsRun, passing};
 ghost use Rattle.program_frame.specs.Reading.{HasBegun, IsKeepFault, Reads, Stops};
 
 use crate::fault::Failure;
 use crate::lists::fault::{ItemFault, ListFault};
 use crate::lists::items::split_at_end;
+use crate::lists::refusals::Refusals;
 use crate::lists::task::ListTask;
 use std::alloc::Allocator;
 
 /// Reads a block. It appends the output for the items that end in the block, and keeps the item
 /// that begins last. It returns the number of items that have ended.
-pub fn read_block<T: ListTask, A: Allocator + Copy>(
+pub fn read_block<T: ListTask, N: Refusals<T::Refusal>, A: Allocator + Copy>(
     alloc: A,
     task: &T,
     count: u64,
     block: &[u8],
     begun: &mut Vec<u8, A>,
+    refusals: &mut N,
     output: &mut Vec<u8, A>,
 ) -> Result<u64, ListFault<T::Refusal>>
     requires counted { count + length begun.old.items + length block.now + 1 < 2 ^ 64 }
-    requires begun { HasBegun (T.rules task.now) begun.old.items }
-    ensures ok { IfOk result (λ ended. Reads (T.rules task.now)
+    requires begun { HasBegun (passing (N.passed refusals.old) (T.rules task.now)) begun.old.items }
+    ensures ok { IfOk result
+        (λ ended. Reads (passing (N.passed refusals.new) (T.rules task.now))
         (record { begun = begun.old.items; count = count; output = output.old.items }) block.now
         (record { begun = begun.new.items; count = ended; output = output.new.items })) }
-    ensures fault { IfErr result (λ fault. (more : List ℕ) → Stops (T.rules task.now)
+    ensures fault { IfErr result (λ fault. (more : List ℕ)
+        → Stops (passing (N.passed refusals.new) (T.rules task.now))
         (record { begun = begun.old.items; count = count; output = output.old.items })
         (block.now ++ more) output.new.items fault) }
+    ensures more { N.passed refusals.old ≤ N.passed refusals.new }
+    ensures ends { IfErr result (λ fault. EndsRun N.stops fault) }
 {
     let mut ended = count;
     let mut rest = block;
     while let Some((last, after)) = split_at_end(task.end(), rest) {
-        match end_item::<T, A>(alloc, task, ended + 1, last, begun, output) {
+        match end_item::<T, N, A>(alloc, task, ended + 1, last, begun, refusals, output) {
             Ok(()) => {}
             Err(fault) => return Err(fault),
         }
@@ -46,32 +52,36 @@ pub fn read_block<T: ListTask, A: Allocator + Copy>(
 }
 
 /// Appends the output for the item that has begun. These are its last bytes.
-fn end_item<T: ListTask, A: Allocator + Copy>(
+fn end_item<T: ListTask, N: Refusals<T::Refusal>, A: Allocator + Copy>(
     alloc: A,
     task: &T,
     number: u64,
     last: &[u8],
     begun: &mut Vec<u8, A>,
+    refusals: &mut N,
     output: &mut Vec<u8, A>,
 ) -> Result<(), ListFault<T::Refusal>>
-    requires begun { HasBegun (T.rules task.now) begun.old.items }
+    requires begun { HasBegun (passing (N.passed refusals.old) (T.rules task.now)) begun.old.items }
     requires whole { Lacks (T.rules task.now).end last.now }
     ensures ok { OnOk result ((text : List ℕ)
-        × IsEntry (T.rules task.now) (begun.old.items ++ last.now, text)
+        × IsEntry (passing (N.passed refusals.new) (T.rules task.now))
+        (begun.old.items ++ last.now, text)
         × (output.new.items ≡ output.old.items ++ text)) }
     ensures none { OnOk result (begun.new.items ≡ []) }
     ensures fault { IfErr result (λ fault.
         IsFaultAt (T.rules task.now) number (begun.old.items ++ last.now) fault) }
     ensures unchanged { OnErr result (output.new.items ≡ output.old.items) }
+    ensures more { N.passed refusals.old ≤ N.passed refusals.new }
+    ensures ends { IfErr result (λ fault. EndsRun N.stops fault) }
 {
     if begun.is_empty() && last.len() <= task.longest_item() {
-        return write_at::<T, A>(alloc, task, number, last, output);
+        return write_at::<T, N, A>(alloc, task, number, last, refusals, output);
     }
     match keep(task, number, last, begun) {
         Ok(()) => {}
         Err(fault) => return Err(fault),
     }
-    match write_at::<T, A>(alloc, task, number, begun, output) {
+    match write_at::<T, N, A>(alloc, task, number, begun, refusals, output) {
         Ok(()) => {}
         Err(fault) => return Err(fault),
     }
@@ -79,23 +89,32 @@ fn end_item<T: ListTask, A: Allocator + Copy>(
     Ok(())
 }
 
-/// Appends what is written for the item with this number.
-pub fn write_at<T: ListTask, A: Allocator + Copy>(
+/// Appends what is written for the item with this number: nothing where it is passed over.
+pub fn write_at<T: ListTask, N: Refusals<T::Refusal>, A: Allocator + Copy>(
     alloc: A,
     task: &T,
     number: u64,
     item: &[u8],
+    refusals: &mut N,
     output: &mut Vec<u8, A>,
 ) -> Result<(), ListFault<T::Refusal>>
     requires { length item.now ≤ (T.rules task.now).longest }
-    ensures ok { OnOk result ((text : List ℕ) × ((T.rules task.now).is_text item.now text
+    ensures ok { OnOk result ((text : List ℕ)
+        × ((passing (N.passed refusals.new) (T.rules task.now)).is_text item.now text
         × (output.new.items ≡ output.old.items ++ text))) }
     ensures fault { IfErr result (λ fault. IsFaultAt (T.rules task.now) number item.now fault) }
     ensures unchanged { OnErr result (output.new.items ≡ output.old.items) }
+    ensures more { N.passed refusals.old ≤ N.passed refusals.new }
+    ensures ends { IfErr result (λ fault. EndsRun N.stops fault) }
 {
     match task.write_item(alloc, item, output) {
         Ok(()) => Ok(()),
-        Err(ItemFault::Refused(why)) => Err(ListFault::Refused(number, why)),
+        Err(ItemFault::Refused(why)) => {
+            if refusals.passes(number, item, why) {
+                return Ok(());
+            }
+            Err(ListFault::Refused(number, why))
+        }
         Err(ItemFault::TooLong) => Err(ListFault::TooLong(number, task.max())),
         Err(ItemFault::Memory) => Err(ListFault::Run(Failure::Memory)),
     }
@@ -113,6 +132,7 @@ fn keep<T: ListTask, A: Allocator>(
     ensures short { OnOk result (length begun.new.items ≤ (T.rules task.now).longest) }
     ensures fault { IfErr result (λ fault.
         IsKeepFault (T.rules task.now) number (begun.old.items ++ more.now) fault) }
+    ensures ends { IfErr result (λ fault. EndsRun ⊥ fault) }
 {
     if more.len() > task.longest_item() - begun.len() {
         return Err(ListFault::TooLong(number, task.max()));

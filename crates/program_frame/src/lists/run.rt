@@ -1,17 +1,18 @@
 //! One run over a list: items read, what is to be written for them made, and written, block by block.
-ghost use Rattle.std.specs.Prelude.{◌≡◌, ◌≢◌, ◌↔◌, ◌+◌, ◌<◌, ◌^◌, ◌++◌, [], length, ℕ, List, true, false, OnOk, OnErr, IfOk, IfErr};
+ghost use Rattle.std.specs.Prelude.{◌≡◌, ◌≢◌, ◌↔◌, ◌+◌, ◌<◌, ◌≤◌, ◌^◌, ◌++◌, [], length, ℕ, List, true, false, OnOk, OnErr, IfOk, IfErr};
 ghost use Rattle.std.specs.Io.KnownBytes.{Appends, IsAtEnd};
 ghost use Rattle.program_frame.specs.declared.fault.Failure.{Failure};
 ghost use Rattle.program_frame.specs.declared.lists.fault.ListFault.{ListFault};
 ghost use Rattle.program_frame.specs.Marked.{marked_inner, has_failed};
 ghost use Rattle.program_frame.specs.Written.{AppendsBeginning};
-ghost use Rattle.program_frame.specs.Rules.{IsRefused};
+ghost use Rattle.program_frame.specs.Rules.{IsRefused, EndsRun, passing};
 ghost use Rattle.program_frame.specs.Reading.{HasBegun, IsEnded, Reads, Stops, Begins};
 ghost use Rattle.program_frame.specs.ListRun.{WritesOutput, WritesUpTo, WritesBeginning, Finishes, IsLast};
 
 use crate::fault::Failure;
 use crate::lists::fault::ListFault;
 use crate::lists::reading::{read_block, write_at};
+use crate::lists::refusals::{Refusals, Stop};
 use crate::lists::task::ListTask;
 use crate::marked::Marked;
 use crate::writing::write_out;
@@ -82,13 +83,73 @@ pub fn run<T: ListTask, A: Allocator, R: Read, W: Write>(
     ensures read { (result ≡ Err (ListFault.Run Failure.Read)) ↔ (has_failed reader.new ≡ true) }
     ensures write { (result ≡ Err (ListFault.Run Failure.Write)) ↔ (has_failed writer.new ≡ true) }
 {
+    run_with(alloc, task, &mut Stop, reader, writer)
+}
+
+/// Reads all items that the reader has, and writes the output for each, as [`run`] does. What
+/// becomes of an item that is refused is left to `refusals`: where it passes over it, nothing is
+/// written for the item, and the run goes on. Both marks must be unset (test: [`Marked::failed`]).
+///
+/// # Errors
+///
+/// Those of [`run`]. [`ListFault::Refused`] is returned only if `refusals` ends the run. An item
+/// that is too long ends it in any case.
+///
+/// ```
+/// use os_str_bytes::Unix;
+/// use paths_commands::task::{OnPlatform, Task};
+/// use program_frame::lists::refusals::KeepGoing;
+/// use program_frame::lists::run::run_with;
+/// use program_frame::marked::Marked;
+///
+/// let paths: &[u8] = b"a/../b\0../c\0d/./e";
+/// let mut taken = Vec::new(alloc);
+/// let (mut reader, mut writer) = (Marked::new(paths), Marked::new(&mut taken));
+/// let task = OnPlatform::<Unix>::new(Task::Normalize, 255);
+/// let mut refusals = KeepGoing::new("paths", &rt);
+/// assert!(rt; run_with(alloc, &task, &mut refusals, &mut reader, &mut writer) == Ok(()));
+/// assert_eq!(rt; refusals.count(), 1);
+/// assert_eq!(rt; taken.as_slice(), b"b\0d/e\0".as_slice());
+/// ```
+pub fn run_with<T: ListTask, N: Refusals<T::Refusal>, A: Allocator, R: Read, W: Write>(
+    alloc: A,
+    task: &T,
+    refusals: &mut N,
+    reader: &mut Marked<R>,
+    writer: &mut Marked<W>,
+) -> Result<(), ListFault<T::Refusal>>
+    requires reader_unmarked { has_failed reader.old ≡ false }
+    requires writer_unmarked { has_failed writer.old ≡ false }
+
+    // The output.
+    ensures all_read { OnOk result (IsAtEnd (R.remaining (marked_inner reader.new))) }
+    ensures written { OnOk result
+        (WritesOutput (passing (N.passed refusals.new) (T.rules task.now))
+        (R.remaining (marked_inner reader.old)) (W.contents (marked_inner writer.old))
+        (W.contents (marked_inner writer.new))) }
+
+    // What was written before a fault.
+    ensures stopped { IfErr result (λ fault. fault ≢ ListFault.Run Failure.Write
+        → WritesUpTo (passing (N.passed refusals.new) (T.rules task.now)) fault
+        (R.remaining (marked_inner reader.old)) (W.contents (marked_inner writer.old))
+        (W.contents (marked_inner writer.new))) }
+    ensures beginning { result ≡ Err (ListFault.Run Failure.Write)
+        → WritesBeginning (passing (N.passed refusals.new) (T.rules task.now))
+        (R.remaining (marked_inner reader.old)) (W.contents (marked_inner writer.old))
+        (W.contents (marked_inner writer.new)) }
+    ensures ends { IfErr result (λ fault. EndsRun N.stops fault) }
+
+    // When a read or a write is to blame.
+    ensures read { (result ≡ Err (ListFault.Run Failure.Read)) ↔ (has_failed reader.new ≡ true) }
+    ensures write { (result ≡ Err (ListFault.Run Failure.Write)) ↔ (has_failed writer.new ≡ true) }
+{
     let mut begun = Vec::new(&alloc);
     let mut count = 0;
     let mut total = 0;
     let mut piece = [0u8; BLOCK];
     loop {
         let size = match reader.read(&mut piece) {
-            Ok(0) => return finish::<T, &A, W>(&alloc, task, count, &begun, writer),
+            Ok(0) => return finish::<T, N, &A, W>(&alloc, task, count, &begun, refusals, writer),
             Ok(size) => size,
             Err(_) => return Err(ListFault::Run(Failure::Read)),
         };
@@ -97,7 +158,7 @@ pub fn run<T: ListTask, A: Allocator, R: Read, W: Write>(
         }
         total += size as u64;
         let block = &piece[..size];
-        match write_block::<T, &A, W>(&alloc, task, count, block, &mut begun, writer) {
+        match write_block::<T, N, &A, W>(&alloc, task, count, block, &mut begun, refusals, writer) {
             Ok(ended) => count = ended,
             Err(fault) => return Err(fault),
         }
@@ -106,39 +167,42 @@ pub fn run<T: ListTask, A: Allocator, R: Read, W: Write>(
 
 /// Reads a block, and writes the output for the items that end in it. It returns the number of
 /// items that have ended.
-fn write_block<T: ListTask, A: Allocator + Copy, W: Write>(
+fn write_block<T: ListTask, N: Refusals<T::Refusal>, A: Allocator + Copy, W: Write>(
     alloc: A,
     task: &T,
     count: u64,
     block: &[u8],
     begun: &mut Vec<u8, A>,
+    refusals: &mut N,
     writer: &mut Marked<W>,
 ) -> Result<u64, ListFault<T::Refusal>>
     requires counted { count + length begun.old.items + length block.now + 1 < 2 ^ 64 }
-    requires begun { HasBegun (T.rules task.now) begun.old.items }
+    requires begun { HasBegun (passing (N.passed refusals.old) (T.rules task.now)) begun.old.items }
     requires unmarked { has_failed writer.old ≡ false }
     ensures ok { IfOk result (λ ended. (text : List ℕ)
-        × (Reads (T.rules task.now)
+        × (Reads (passing (N.passed refusals.new) (T.rules task.now))
         (record { begun = begun.old.items; count = count; output = [] }) block.now
         (record { begun = begun.new.items; count = ended; output = text })
         × Appends (W.contents (marked_inner writer.old)) (W.contents (marked_inner writer.new))
         text)) }
     ensures stopped { IfErr result (λ fault. fault ≢ ListFault.Run Failure.Write → (text : List ℕ)
-        × (((more : List ℕ) → Stops (T.rules task.now)
+        × (((more : List ℕ) → Stops (passing (N.passed refusals.new) (T.rules task.now))
         (record { begun = begun.old.items; count = count; output = [] }) (block.now ++ more) text
         fault)
         × Appends (W.contents (marked_inner writer.old)) (W.contents (marked_inner writer.new))
         text)) }
     ensures beginning { result ≡ Err (ListFault.Run Failure.Write) → (text : List ℕ)
-        × (((more : List ℕ) → Begins (T.rules task.now)
+        × (((more : List ℕ) → Begins (passing (N.passed refusals.new) (T.rules task.now))
         (record { begun = begun.old.items; count = count; output = [] }) (block.now ++ more) text)
         × AppendsBeginning (W.contents (marked_inner writer.old))
         (W.contents (marked_inner writer.new)) text) }
     ensures no_read { result ≢ Err (ListFault.Run Failure.Read) }
     ensures marked { (result ≡ Err (ListFault.Run Failure.Write)) ↔ (has_failed writer.new ≡ true) }
+    ensures more { N.passed refusals.old ≤ N.passed refusals.new }
+    ensures ends { IfErr result (λ fault. EndsRun N.stops fault) }
 {
     let mut output = Vec::new(alloc);
-    let ended = read_block::<T, A>(alloc, task, count, block, begun, &mut output);
+    let ended = read_block::<T, N, A>(alloc, task, count, block, begun, refusals, &mut output);
     match write_output(writer, &output) {
         Ok(()) => ended,
         Err(fault) => Err(fault),
@@ -146,18 +210,19 @@ fn write_block<T: ListTask, A: Allocator + Copy, W: Write>(
 }
 
 /// Writes what is to be written for the item that has begun where the input ends.
-fn finish<T: ListTask, A: Allocator + Copy, W: Write>(
+fn finish<T: ListTask, N: Refusals<T::Refusal>, A: Allocator + Copy, W: Write>(
     alloc: A,
     task: &T,
     count: u64,
     begun: &[u8],
+    refusals: &mut N,
     writer: &mut Marked<W>,
 ) -> Result<(), ListFault<T::Refusal>>
     requires counted { count + 1 < 2 ^ 64 }
-    requires begun { HasBegun (T.rules task.now) begun.now }
+    requires begun { HasBegun (passing (N.passed refusals.old) (T.rules task.now)) begun.now }
     requires unmarked { has_failed writer.old ≡ false }
     ensures ok { OnOk result ((text : List ℕ)
-        × (Finishes (T.rules task.now) begun.now text
+        × (Finishes (passing (N.passed refusals.new) (T.rules task.now)) begun.now text
         × Appends (W.contents (marked_inner writer.old)) (W.contents (marked_inner writer.new))
         text)) }
     ensures stopped { IfErr result (λ fault. fault ≢ ListFault.Run Failure.Write
@@ -166,11 +231,13 @@ fn finish<T: ListTask, A: Allocator + Copy, W: Write>(
     ensures unchanged { IfErr result (λ fault. fault ≢ ListFault.Run Failure.Write
         → writer.new ≡ writer.old) }
     ensures beginning { result ≡ Err (ListFault.Run Failure.Write) → (text : List ℕ)
-        × (IsLast (T.rules task.now) begun.now text
+        × (IsLast (passing (N.passed refusals.new) (T.rules task.now)) begun.now text
         × AppendsBeginning (W.contents (marked_inner writer.old))
         (W.contents (marked_inner writer.new)) text) }
     ensures no_read { result ≢ Err (ListFault.Run Failure.Read) }
     ensures marked { (result ≡ Err (ListFault.Run Failure.Write)) ↔ (has_failed writer.new ≡ true) }
+    ensures more { N.passed refusals.old ≤ N.passed refusals.new }
+    ensures ends { IfErr result (λ fault. EndsRun N.stops fault) }
 {
     if begun.is_empty() {
         return Ok(());
@@ -179,7 +246,7 @@ fn finish<T: ListTask, A: Allocator + Copy, W: Write>(
         return Err(ListFault::Unended(count + 1));
     }
     let mut output = Vec::new(alloc);
-    match write_at::<T, A>(alloc, task, count + 1, begun, &mut output) {
+    match write_at::<T, N, A>(alloc, task, count + 1, begun, refusals, &mut output) {
         Ok(()) => write_output(writer, &output),
         Err(fault) => Err(fault),
     }
@@ -199,6 +266,7 @@ fn write_output<F: Copy, W: Write>(
         (W.contents (marked_inner writer.new)) output.now }
     ensures no_read { result ≢ Err (ListFault.Run Failure.Read) }
     ensures marked { (result ≡ Err (ListFault.Run Failure.Write)) ↔ (has_failed writer.new ≡ true) }
+    ensures ends { IfErr result (λ fault. EndsRun ⊥ fault) }
 {
     match write_out(writer, output) {
         Ok(()) => Ok(()),

@@ -1,5 +1,5 @@
 -- Plain bytes are their own escape on a line.
-use Rattle.std.proofs.Common.{◌≡◌, ◌≢◌, ℕ, List, [], ◌∷◌, length, subst, arith}
+use Rattle.std.proofs.Common.{ℕ, List, [], ◌∷◌, length, subst, arith}
 use Rattle.std.specs.List.{AllByRecursion}
 use Rattle.std.specs.Str.{IsUtf8}
 use Rattle.std.proofs.Math.Seq.{take-length}

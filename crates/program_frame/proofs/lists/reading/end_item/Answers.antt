@@ -2,7 +2,7 @@ use Rattle.std.proofs.Common.{◌≡◌, ◌≤◌, ◌++◌, [], length, sym, �
 use Rattle.std.proofs.lemmas.Bool.{eqb-true}
 use Rattle.std.proofs.lemmas.List.{nil_from_length}
 use Rattle.std.proofs.lemmas.Result.{on_ok_weaker}
-use Rattle.program_frame.specs.Rules.{IsEntry}
+use Rattle.program_frame.specs.Rules.{IsEntry, passing}
 use Rattle.program_frame.proofs.lists.reading.end_item.Goals as goal
 
 pub returns-then-last-longest_item-clause-ok : goal.returns-then-last-longest_item-clause-ok
@@ -14,7 +14,7 @@ returns-then-last-longest_item-clause-ok g c =
     on_ok_weaker c.write_at.result
     (λ text. (
       text.0,
-      subst (λ x. IsEntry (g.T.ListTask.rules c.args.task.now) (x ++ last, text.0)) (sym empty) (record { whole = c.requires.whole; short = short; text = text.1.0 }),
+      subst (λ x. IsEntry (passing (g.N.Refusals.passed c.write_at.new.refusals) (g.T.ListTask.rules c.args.task.now)) (x ++ last, text.0)) (sym empty) (record { whole = c.requires.whole; short = short; text = text.1.0 }),
       text.1.1,
     ))
     c.write_at.ensures.ok

@@ -1,11 +1,15 @@
-use Rattle.std.proofs.Common.{length}
+use Rattle.std.proofs.Common.{◌≤◌, length}
 use Rattle.program_frame.specs.Reading.{IsUpTo}
+use Rattle.program_frame.specs.Rules.{passing}
 use Rattle.program_frame.proofs.lists.reading.read_block.Given as goal
 
 abbrev pub invariant-loop-last : goal.invariant-loop-last
-invariant-loop-last g l =
-    IsUpTo (g.T.ListTask.rules l.task) (record { begun = l.fn.begun.items; count = l.count; output = l.fn.output.items }) l.block l.rest
-    (record { begun = l.begun.items; count = l.ended; output = l.output.items })
+invariant-loop-last g l = record {
+  up_to :
+      IsUpTo (passing (g.N.Refusals.passed l.refusals) (g.T.ListTask.rules l.task)) (record { begun = l.fn.begun.items; count = l.count; output = l.fn.output.items }) l.block l.rest
+      (record { begun = l.begun.items; count = l.ended; output = l.output.items });
+  more : g.N.Refusals.passed l.fn.refusals ≤ g.N.Refusals.passed l.refusals;
+}
 
 abbrev pub decreases-loop-last : goal.decreases-loop-last
 decreases-loop-last g l = length l.rest

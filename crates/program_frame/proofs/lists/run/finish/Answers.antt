@@ -1,4 +1,4 @@
-use Rattle.std.proofs.Common.{◌==◌, inl, inr, [], ◌++◌, length, refl, sym, ap, ◌∙◌, subst}
+use Rattle.std.proofs.Common.{◌==◌, inl, inr, [], ◌++◌, length, refl, sym, ap, ◌∙◌, subst, arith}
 use Rattle.std.proofs.KnownBytes.{Appends-nil}
 use Rattle.std.proofs.lemmas.Bool.{eqb-true, false≢true}
 use Rattle.std.proofs.lemmas.List.{nil_from_length}
@@ -11,6 +11,7 @@ use Rattle.program_frame.specs.declared.fault.Failure.{Failure}
 use Rattle.program_frame.specs.declared.fault.Failure.TheVariants.{Read, Write}
 use Rattle.program_frame.specs.ListRun.{IsLast}
 use Rattle.program_frame.specs.Reading.{IsEnded}
+use Rattle.program_frame.specs.Rules.{EndsRun, passing}
 use Rattle.program_frame.proofs.lemmas.lists.Runs.{no_err, at_end, item_memory, read_no_memory, write_no_memory}
 use Rattle.program_frame.proofs.lemmas.lists.Reading.{of_item}
 use Rattle.program_frame.proofs.lists.run.finish.Goals as goal
@@ -25,6 +26,8 @@ returns-then-is_empty g c =
       beginning = λ e. absurd (no_err e);
       no_read = λ e. no_err e;
       marked = (λ e. absurd (no_err e), λ set. absurd (false≢true (sym c.requires.unmarked ∙ set)));
+      more = omega arith;
+      ends = tt;
     }
 
 pub returns : goal.returns
@@ -38,6 +41,8 @@ returns g c =
       beginning = λ e. absurd (write_no_memory (refused Write e));
       no_read = λ e. read_no_memory (refused Read e);
       marked = (λ e. absurd (write_no_memory (refused Write e)), λ set. absurd (false≢true (sym c.requires.unmarked ∙ set)));
+      more = c.in-Err.ensures.more;
+      ends = c.in-Err.ensures.ends;
     }
 
 pub returns-in-Ok : goal.returns-in-Ok
@@ -47,7 +52,7 @@ returns-in-Ok g c =
     let old = g.W.Write.contents (marked_inner c.args.writer.now) in
     let new = g.W.Write.contents (marked_inner c.write_output.new.writer) in
     let same = c.deref.ensures.value ∙ text.1.1 ∙ ap (λ x. x ++ text.0) c.new-output.ensures.items in
-    let last : IsLast (g.T.ListTask.rules c.args.task.now) c.args.begun.now text.0 = record {
+    let last : IsLast (passing (g.N.Refusals.passed c.write_at.new.refusals) (g.T.ListTask.rules c.args.task.now)) c.args.begun.now text.0 = record {
       some = λ none. false≢true (sym c.if-is_empty.false ∙ c.is_empty.ensures ∙ ap (λ x. length x == 0) none);
       taken = c.takes_unended.ensures.0 c.if-not-takes_unended.false;
       entry = record { whole = c.requires.begun.whole; short = c.requires.begun.short; text = text.1.0 };
@@ -59,4 +64,6 @@ returns-in-Ok g c =
       beginning = λ e. (text.0, (last, subst (AppendsBeginning old new) same (written.beginning e)));
       no_read = written.no_read;
       marked = written.marked;
+      more = c.in-Ok.ensures.more;
+      ends = IfErr-weaker c.write_output.result _ _ (λ fault is. subst (EndsRun (g.N.Refusals.stops)) (sym is) tt) written.fault;
     }

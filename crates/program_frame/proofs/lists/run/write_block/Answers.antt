@@ -1,4 +1,4 @@
-use Rattle.std.proofs.Common.{ℕ, ◌++◌, subst}
+use Rattle.std.proofs.Common.{ℕ, ◌++◌, sym, subst}
 use Rattle.std.proofs.lemmas.Result.{IfOk-weaker, IfErr-weaker}
 use Rattle.std.specs.Prelude.{⊤}
 use Rattle.std.specs.Io.KnownBytes.{Appends}
@@ -7,12 +7,13 @@ use Rattle.program_frame.specs.Written.{AppendsBeginning}
 use Rattle.program_frame.specs.declared.fault.Failure.{Failure}
 use Rattle.program_frame.specs.declared.fault.Failure.TheVariants.{Read, Write}
 use Rattle.program_frame.specs.Reading.{Reads, Stops}
+use Rattle.program_frame.specs.Rules.{EndsRun, passing}
 use Rattle.program_frame.proofs.lemmas.lists.Runs.{no_err, other_err, block_memory, block_begins, read_no_memory, write_no_memory}
 use Rattle.program_frame.proofs.lists.run.write_block.Goals as goal
 
 pub returns-in-Ok : goal.returns-in-Ok
 returns-in-Ok g c =
-    let list = g.T.ListTask.rules c.args.task.now in
+    let list = passing (g.N.Refusals.passed c.read_block-ended.new.refusals) (g.T.ListTask.rules c.args.task.now) in
     let answer = c.read_block-ended.result in
     let read = c.read_block-ended.ensures in
     let text = c.read_block-ended.new.output.items in
@@ -28,6 +29,8 @@ returns-in-Ok g c =
       beginning = λ e. absurd (write_no_memory (refused Write e));
       no_read = λ e. read_no_memory (refused Read e);
       marked = (λ e. absurd (write_no_memory (refused Write e)), λ set. absurd (no_err (c.in-Ok.ensures.marked.1 set)));
+      more = read.more;
+      ends = read.ends;
     }
 
 pub returns : goal.returns
@@ -39,10 +42,12 @@ returns g c =
       beginning = λ e. (
         text,
         (
-          block_begins (g.T.ListTask.rules c.args.task.now) c.read_block-ended.result _ c.read_block-ended.new.begun.items _ _ text _ c.new-output.ensures.items read.ok read.fault,
+          block_begins (passing (g.N.Refusals.passed c.read_block-ended.new.refusals) (g.T.ListTask.rules c.args.task.now)) c.read_block-ended.result _ c.read_block-ended.new.begun.items _ _ text _ c.new-output.ensures.items read.ok read.fault,
           subst (AppendsBeginning (g.W.Write.contents (marked_inner c.args.writer.now)) (g.W.Write.contents (marked_inner c.write_output.new.writer))) c.deref.ensures.value (c.in-Err.ensures.beginning (other_err ℕ ⊤ _ _ e)),
         ),
       );
       no_read = λ e. c.in-Err.ensures.no_read (other_err ℕ ⊤ _ _ e);
       marked = (λ e. c.in-Err.ensures.marked.0 (other_err ℕ ⊤ _ _ e), λ set. other_err ⊤ ℕ _ _ (c.in-Err.ensures.marked.1 set));
+      more = read.more;
+      ends = subst (EndsRun (g.N.Refusals.stops)) (sym c.in-Err.ensures.fault) tt;
     }

@@ -10,6 +10,7 @@ returns-in-Ok g c = record {
   beginning = λ e. absurd (no_err e);
   no_read = λ e. no_err e;
   marked = (λ e. absurd (no_err e), λ set. absurd (false≢true (sym c.in-Ok.ensures.unmarked ∙ set)));
+  ends = tt;
 }
 
 pub returns-in-Err : goal.returns-in-Err
@@ -19,4 +20,5 @@ returns-in-Err g c = record {
   beginning = λ _. c.in-Err.ensures.beginning;
   no_read = λ e. write_no_read e;
   marked = (λ _. c.in-Err.ensures.marked, λ _. refl);
+  ends = tt;
 }

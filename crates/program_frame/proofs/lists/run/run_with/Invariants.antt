@@ -1,11 +1,12 @@
 use Rattle.std.proofs.Common.{◌≡◌, ◌+◌, ◌-◌, ◌^◌, ◌<◌, false}
 use Rattle.program_frame.specs.Marked.{marked_inner, has_failed}
 use Rattle.program_frame.specs.ListRun.{HasRead}
-use Rattle.program_frame.proofs.lists.run.run.Given as goal
+use Rattle.program_frame.specs.Rules.{passing}
+use Rattle.program_frame.proofs.lists.run.run_with.Given as goal
 
 abbrev pub invariant-loop-alloc : goal.invariant-loop-alloc
 invariant-loop-alloc g l = record {
-  read : HasRead (g.T.ListTask.rules l.task) (g.R.Read.remaining (marked_inner l.fn.reader)) (g.R.Read.remaining (marked_inner l.reader)) (g.W.Write.contents (marked_inner l.fn.writer)) (g.W.Write.contents (marked_inner l.writer)) l.begun.items l.count l.total;
+  read : HasRead (passing (g.N.Refusals.passed l.refusals) (g.T.ListTask.rules l.task)) (g.R.Read.remaining (marked_inner l.fn.reader)) (g.R.Read.remaining (marked_inner l.reader)) (g.W.Write.contents (marked_inner l.fn.writer)) (g.W.Write.contents (marked_inner l.writer)) l.begun.items l.count l.total;
   within : l.total + 1 < 2 ^ 64;
   reader_unmarked : has_failed l.reader ≡ false;
   writer_unmarked : has_failed l.writer ≡ false;

@@ -1,0 +1,57 @@
+-- The options of the program.
+use Rattle.std.specs.Prelude.{◌≡◌, ℕ, Bool, true, false, List, codes}
+use Rattle.os_args.specs.Word.{Kind, Long, LongBytes, Short, ShortBytes, Value}
+use Rattle.names_commands.specs.declared.option.NamesOption.{NamesOption}
+use Rattle.names_commands.specs.declared.option.NamesOption.TheVariants.{Help, Version, Max, Sh, ShLine, Unterminated, Glob, Ignore}
+
+-- the name of the option after `--`
+abbrev pub name_of : NamesOption → List ℕ
+name_of Help = codes "help"
+name_of Version = codes "version"
+name_of Max = codes "max"
+name_of Sh = codes "sh"
+name_of ShLine = codes "sh-line"
+name_of Unterminated = codes "unterminated"
+name_of Glob = codes "glob"
+name_of Ignore = codes "ignore"
+
+-- the option as it is written
+abbrev pub word_of : NamesOption → List ℕ
+word_of Help = codes "--help"
+word_of Version = codes "--version"
+word_of Max = codes "--max"
+word_of Sh = codes "--sh"
+word_of ShLine = codes "--sh-line"
+word_of Unterminated = codes "--unterminated"
+word_of Glob = codes "--glob"
+word_of Ignore = codes "--ignore"
+
+-- this character after `-` is the option, too: h and V
+abbrev pub IsFlagOf : NamesOption → ℕ → Type 0
+IsFlagOf Help c = c ≡ 0x68
+IsFlagOf Version c = c ≡ 0x56
+IsFlagOf Max c = ⊥
+IsFlagOf Sh c = ⊥
+IsFlagOf ShLine c = ⊥
+IsFlagOf Unterminated c = ⊥
+IsFlagOf Glob c = ⊥
+IsFlagOf Ignore c = ⊥
+
+-- the argument is the option
+abbrev pub spelled : NamesOption → Kind → Type 0
+spelled option (Long name) = name ≡ name_of option
+spelled option (LongBytes name) = ⊥
+spelled option (Short c) = IsFlagOf option c
+spelled option (ShortBytes rest) = ⊥
+spelled option (Value value) = ⊥
+
+-- whether a value follows it
+abbrev pub has_value : NamesOption → Bool
+has_value Help = false
+has_value Version = false
+has_value Max = true
+has_value Sh = false
+has_value ShLine = false
+has_value Unterminated = false
+has_value Glob = true
+has_value Ignore = true

@@ -1,0 +1,115 @@
+//! The options of the program.
+ghost use Rattle.std.specs.Prelude.{◌≡◌, ◌↔◌, IsTrue, MatchOption};
+ghost use Rattle.os_args.specs.Word.{Long, Short};
+ghost use Rattle.names_commands.specs.Options.{spelled, word_of};
+ghost use Rattle.names_commands.specs.declared.option.NamesOption.{NamesOption};
+
+use os_args::Word;
+use os_str_bytes::{OsStr, Wasm};
+use program_frame::arguments::ProgramOption;
+
+/// An option of the program.
+#[derive(Clone, Copy, PartialEq, Eq)]
+pub enum NamesOption {
+    /// `-h`, `--help`: writes what the commands are.
+    Help,
+    /// `-V`, `--version`: writes the version.
+    Version,
+    /// `--max N`: a name may have N bytes.
+    Max,
+    /// `--sh`: words of a shell.
+    Sh,
+    /// `--sh-line`: words of a shell, each on one line.
+    ShLine,
+    /// `--unterminated`: the last line may lack its newline.
+    Unterminated,
+    /// `--glob GLOB`: picks the names that a pattern matches.
+    Glob,
+    /// `--ignore FILE`: leaves out the names that an ignore file ignores.
+    Ignore,
+}
+
+impl NamesOption {
+    /// The option as it is written.
+    ///
+    /// ```
+    /// use names_commands::option::NamesOption;
+    ///
+    /// assert_eq!(rt; NamesOption::ShLine.word(), "--sh-line");
+    /// ```
+    pub fn word(self) -> &'static str
+        ensures { result.now ≡ word_of self }
+    {
+        match self {
+            NamesOption::Help => "--help",
+            NamesOption::Version => "--version",
+            NamesOption::Max => "--max",
+            NamesOption::Sh => "--sh",
+            NamesOption::ShLine => "--sh-line",
+            NamesOption::Unterminated => "--unterminated",
+            NamesOption::Glob => "--glob",
+            NamesOption::Ignore => "--ignore",
+        }
+    }
+}
+
+impl ProgramOption for NamesOption {
+    ghost use Rattle.names_commands.specs.Options.{has_value, spelled};
+
+    ghost spelled = { spelled };
+
+    ghost has_value = { has_value };
+
+    fn named<'a>(argument: Word<'a, OsStr<'a, Wasm>>) -> Option<NamesOption> {
+        match argument {
+            Word::Long(name) => long_option(name),
+            Word::Short(flag) => short_option(flag),
+            Word::LongBytes(_) | Word::ShortBytes(_) | Word::Value(_) => None,
+        }
+    }
+
+    fn takes_value(self) -> bool {
+        match self {
+            NamesOption::Max | NamesOption::Glob | NamesOption::Ignore => true,
+            NamesOption::Help
+            | NamesOption::Version
+            | NamesOption::Sh
+            | NamesOption::ShLine
+            | NamesOption::Unterminated => false,
+        }
+    }
+
+    fn is(self, other: NamesOption) -> bool {
+        self == other
+    }
+}
+
+/// The option of this name.
+fn long_option(name: &str) -> Option<NamesOption>
+    ensures { MatchOption result ((option : NamesOption) → ¬ (spelled option (Long name.now)))
+        (λ option. spelled option (Long name.now)) }
+{
+    match name {
+        "help" => Some(NamesOption::Help),
+        "version" => Some(NamesOption::Version),
+        "max" => Some(NamesOption::Max),
+        "sh" => Some(NamesOption::Sh),
+        "sh-line" => Some(NamesOption::ShLine),
+        "unterminated" => Some(NamesOption::Unterminated),
+        "glob" => Some(NamesOption::Glob),
+        "ignore" => Some(NamesOption::Ignore),
+        _ => None,
+    }
+}
+
+/// The option of this flag.
+fn short_option(flag: char) -> Option<NamesOption>
+    ensures { MatchOption result ((option : NamesOption) → ¬ (spelled option (Short flag)))
+        (λ option. spelled option (Short flag)) }
+{
+    match flag {
+        'h' => Some(NamesOption::Help),
+        'V' => Some(NamesOption::Version),
+        _ => None,
+    }
+}

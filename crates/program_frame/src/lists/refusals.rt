@@ -1,0 +1,129 @@
+//! What becomes of the items that are refused.
+ghost use Rattle.std.specs.Prelude.{◌≡◌, ◌<◌, ◌≤◌, ℕ, true, false};
+ghost use Rattle.program_frame.specs.declared.lists.refusals.KeepGoing.{KeepGoing};
+
+use crate::lists::fault::{ItemRefusal, ListFault};
+use os_quote::{Escaped, escaped_line};
+use os_str_bytes::{OsStr, Unix};
+use std::fmt;
+use std::fmt::Display as _;
+use std::io::Eprint;
+
+/// What becomes of an item that is refused for an `F`.
+pub trait Refusals<F> {
+    // how many items have been passed over
+    ghost passed: { Self → ℕ };
+
+    // an item that is refused may end the run
+    ghost stops: { Type 0 };
+
+    /// Whether this item, which has this number, is passed over, so that the run goes on. Otherwise
+    /// the run ends at it.
+    ///
+    /// ```
+    /// use paths_commands::fault::Refusal;
+    /// use program_frame::lists::refusals::{Refusals, Stop};
+    ///
+    /// assert!(rt; !Stop.passes(2, b"../c", Refusal::NoNormalForm));
+    /// ```
+    fn passes(&mut self, number: u64, item: &[u8], why: F) -> bool
+        ensures more { passed self.old ≤ passed self.new }
+        ensures some { result ≡ true → 0 < passed self.new }
+        ensures ends { result ≡ false → stops };
+}
+
+/// The first item that is refused ends the run.
+#[derive(Clone, Copy)]
+pub struct Stop;
+
+impl<F: Copy> Refusals<F> for Stop {
+    ghost passed = { λ _. 0 };
+
+    ghost stops = { Unit {0} };
+
+    fn passes(&mut self, _number: u64, _item: &[u8], _why: F) -> bool {
+        false
+    }
+}
+
+/// Items that are refused are passed over and counted. For each a line is printed: the program's
+/// name, the text of [`ListFault::Refused`] and the item's escape, with `: ` between them. The
+/// escape is that of a Unix string ([`os_quote::escaped_line`]). A line that can't be printed is
+/// left out.
+#[derive(Drop)]
+pub struct KeepGoing<'a, P> {
+    program: &'static str,
+    errors: &'a P,
+    count: u64,
+}
+
+impl<'a, P: Eprint> KeepGoing<'a, P> {
+    /// No item has been passed over yet. The lines begin with the name of this program, and are
+    /// printed by `errors`.
+    ///
+    /// ```
+    /// use program_frame::lists::refusals::KeepGoing;
+    ///
+    /// assert_eq!(rt; KeepGoing::new("paths", &rt).count(), 0);
+    /// ```
+    pub fn new(program: &'static str, errors: &'a P) -> KeepGoing<'a, P>
+        ensures { result.count ≡ 0 }
+    {
+        KeepGoing {
+            program,
+            errors,
+            count: 0,
+        }
+    }
+
+    /// How many items have been passed over, or 2^64 - 1 where that is less.
+    ///
+    /// ```
+    /// use paths_commands::fault::Refusal;
+    /// use program_frame::lists::refusals::{KeepGoing, Refusals};
+    ///
+    /// let mut refusals = KeepGoing::new("paths", &rt);
+    /// assert!(rt; refusals.passes(2, b"../c", Refusal::NoNormalForm));
+    /// assert_eq!(rt; refusals.count(), 1);
+    /// ```
+    pub fn count(&self) -> u64
+        ensures { result ≡ self.now.count }
+    {
+        self.count
+    }
+}
+
+impl<'a, F: ItemRefusal, P: Eprint> Refusals<F> for KeepGoing<'a, P> {
+    ghost passed = { λ going. going.count };
+
+    ghost stops = { ⊥ };
+
+    fn passes(&mut self, number: u64, item: &[u8], why: F) -> bool {
+        let line = Line {
+            program: self.program,
+            fault: ListFault::Refused(number, why),
+            item: escaped_line(OsStr::from_encoded_bytes_unchecked(item)),
+        };
+        let _ = self.errors.eprintln(line);
+        self.count = self.count.saturating_add(1);
+        true
+    }
+}
+
+/// The line that is printed for an item.
+#[derive(Clone, Copy)]
+struct Line<'a, F> {
+    program: &'static str,
+    fault: ListFault<F>,
+    item: Escaped<'a, Unix>,
+}
+
+impl<'a, F: ItemRefusal> fmt::Display for Line<'a, F> {
+    fn fmt<W: fmt::Write>(&self, f: &mut fmt::Formatter<W>) -> fmt::Result {
+        f.write_str(self.program)?;
+        f.write_str(": ")?;
+        self.fault.fmt(f)?;
+        f.write_str(": ")?;
+        self.item.fmt(f)
+    }
+}
