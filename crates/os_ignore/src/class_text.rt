@@ -122,8 +122,8 @@ fn nameless_end(letters: &[Letter]) -> Option<&[Letter]>
     Some(left)
 }
 
-/// Whether the first `]` isn't quoted and follows a `:`. No suffix of at least `nameless` letters
-/// begins with a name. So each `]` is searched for once.
+/// Whether the first `]` isn't quoted and follows a `:`. In no suffix of at least `nameless` letters
+/// does the first `]` end a name. So each `]` is searched for once.
 fn ends_name(letters: &[Letter], nameless: &mut usize) -> bool
     requires { AreNameless nameless.old letters.now }
     ensures value { result ≡ ends_name false letters.now }

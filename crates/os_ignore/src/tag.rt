@@ -66,8 +66,9 @@ fn whole_tag<A: Allocator>(anchored: bool, literal: &[u8]) -> u8
     }
 }
 
-/// The tag of a line whose pattern is `*` and this text: that of what follows the last dot of the text,
-/// or 0, which each path has.
+/// The tag of a line whose pattern is this letter and these. If they are a `*` and letters that match
+/// themselves, none a slash, it is the tag of what follows the last dot. Otherwise it is 0, which each
+/// path has.
 fn suffix_tag<A: Allocator + Copy>(
     alloc: A,
     anchored: bool,

@@ -1,15 +1,15 @@
 -- What is joined to `\\?\C:\a`.
-use Rattle.std.proofs.Common.{◌≡◌, ◌≢◌, inl, inr, ℕ, false, List, [], ◌∷◌, reverse, codes, refl, sym, subst}
+use Rattle.std.proofs.Common.{◌≡◌, ◌≢◌, inl, inr, ℕ, false, List, [], ◌∷◌, codes, refl, subst}
 use Rattle.std.proofs.lemmas.List.Elements.{All-from_recursion}
 use Rattle.path_rules.specs.declared.rules.Rules.TheVariants as rules
 use Rattle.path_rules.specs.declared.rules.Style.TheVariants as style
 use Rattle.path_rules.specs.Separators.{separates}
 use Rattle.path_rules.specs.Component.{Item, Prefix, RootDir, ParentDir, Normal}
 use Rattle.path_rules.specs.Components.{AreComponents, prefixed, bare}
-use Rattle.path_rules.specs.Prefix.{Kind, VerbatimDisk, IsPrefixOf, IsPrefixed}
+use Rattle.path_rules.specs.Prefix.{VerbatimDisk, IsPrefixOf, IsPrefixed}
 use Rattle.path_building.specs.Base.{HasAllParts, LacksPart}
 use Rattle.path_building.specs.Join.{IsVerbatimPath}
-use Rattle.path_building.specs.Resolved.{ResolvesTo, nothing, name, up, below_root, AreResolved, HasResolved}
+use Rattle.path_building.specs.Resolved.{nothing, name, up, below_root, AreResolved, HasResolved}
 use Rattle.test_path_uses.proofs.Writings.{OnePrefix}
 
 drive : IsPrefixOf (codes "\\\\?\\C:\\a") (VerbatimDisk 0x43) (codes "\\a")

@@ -1,15 +1,15 @@
 -- A path as it is reached from a base is well formed.
-use Rattle.std.proofs.Common.{◌≡◌, inl, inr, ◌<◌, ℕ, List, [], ◌∷◌, ◌++◌, take, drop, sym, ◌∙◌, subst, append-nil, lit<}
+use Rattle.std.proofs.Common.{◌≡◌, inl, inr, ◌<◌, ℕ, List, [], ◌∷◌, ◌++◌, take, drop, sym, ◌∙◌, subst, lit<}
 use Rattle.wtf8_core.specs.Boundary.{IsBoundary}
 use Rattle.wtf8_core.specs.OccurrenceLaws.{OccurrenceLaws}
 use Rattle.path_rules.specs.declared.rules.Style.{Style}
 use Rattle.path_rules.specs.declared.rules.Style.TheVariants as style
 use Rattle.path_rules.specs.StyleRules.{main_separator}
-use Rattle.path_rules.specs.Component.{Item, Prefix, RootDir, CurDir, ParentDir, Normal}
+use Rattle.path_rules.specs.Component.{Item, CurDir}
 use Rattle.path_building.specs.Written.{joined_names, IsWrittenOut, IsWritten}
 use Rattle.path_building.specs.Relative.{AreApart, up_from, BeginsAtTop, AreWritten, IsWhole, IsCandidate}
 use Rattle.path_building.proofs.lemmas.Places.{below_top, bare_names, object_none}
-use Rattle.os_path.specs.Formed.{IsFormed, AreFormed}
+use Rattle.os_path.specs.Formed.{AreFormed}
 use Rattle.os_path.proofs.lemmas.Cuts.{cuts}
 use Rattle.os_path.proofs.lemmas.Whole.{joined_formed}
 use Rattle.os_path.proofs.lemmas.Joined.{names_formed}

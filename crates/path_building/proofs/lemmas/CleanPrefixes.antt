@@ -1,5 +1,5 @@
 -- What is written after a prefix in one spelling has these components.
-use Rattle.std.proofs.Common.{◌≡◌, ◌≢◌, ◌⊎◌, inl, inr, ℕ, Bool, true, false, if◌then◌else◌, List, [], ◌∷◌, ◌++◌, map, refl, sym, ap, ◌∙◌, subst, append-nil}
+use Rattle.std.proofs.Common.{◌≡◌, ◌≢◌, inr, ℕ, Bool, true, false, if◌then◌else◌, List, [], ◌∷◌, ◌++◌, map, refl, sym, ap, ◌∙◌, subst, append-nil}
 use Rattle.path_rules.specs.declared.rules.Rules.TheVariants as rules
 use Rattle.path_rules.specs.declared.rules.Style as whose
 use Rattle.path_rules.specs.declared.rules.Style.TheVariants as style
@@ -7,10 +7,10 @@ use Rattle.path_rules.specs.declared.head.Start.{Start}
 use Rattle.path_rules.specs.declared.head.Start.TheVariants.{Root, Dot, Nothing}
 use Rattle.path_rules.specs.declared.head.Head.{Head}
 use Rattle.path_rules.specs.StyleRules.{main_separator}
-use Rattle.path_rules.specs.Component.{Item, Prefix, RootDir}
+use Rattle.path_rules.specs.Component.{Item, Prefix}
 use Rattle.path_rules.specs.Prefix.{Kind, Verbatim, VerbatimUnc, VerbatimDisk, Device, Unc, Disk, IsPrefixOf, rules_of, begins_verbatim}
 use Rattle.path_rules.specs.Heads.{prefix_items, start_items}
-use Rattle.path_rules.specs.HeadParts.{IsHead, IsPrefixedHead, bare_head, prefixed_head}
+use Rattle.path_rules.specs.HeadParts.{IsHead, bare_head, prefixed_head}
 use Rattle.path_rules.specs.Components.{AreWindowsComponents, prefixed, root_of}
 use Rattle.path_building.specs.Cleaned.{one_spelling, spelled}
 use Rattle.path_building.specs.Written.{LacksShare, HasEmptyShare, IsPathOf}

@@ -1,10 +1,6 @@
 -- What is known of a path after another.
-use Rattle.std.proofs.Common.{◌≡◌, ◌≢◌, ◌↔◌, ◌⊎◌, inl, inr, ℕ, Bool, true, false, IsTrue, if◌then◌else◌, map, Result, Ok, Err, IfOk, List, [], ◌∷◌, ◌++◌, None, refl, sym, ap, ◌∙◌, subst, append_assoc, append-nil}
-use Rattle.std.proofs.lemmas.List.{append_cancel_left, map-append}
-use denote.Ref.{Bor}
-use Rattle.path_rules.specs.declared.component.Component.{Component}
-use Rattle.path_rules.specs.declared.component.Component.TheVariants as component
-use Rattle.path_rules.specs.Views.{item_of}
+use Rattle.std.proofs.Common.{◌≡◌, ◌≢◌, ◌↔◌, ◌⊎◌, inl, inr, ℕ, Bool, true, false, IsTrue, if◌then◌else◌, Result, Ok, Err, IfOk, List, [], ◌∷◌, ◌++◌, None, refl, sym, ap, ◌∙◌, subst, append_assoc, append-nil}
+use Rattle.std.proofs.lemmas.List.{append_cancel_left}
 use Rattle.path_rules.specs.declared.rules.Rules.{Rules}
 use Rattle.path_rules.specs.declared.rules.Rules.TheVariants as rules
 use Rattle.path_rules.specs.declared.rules.Style as whose
@@ -12,7 +8,7 @@ use Rattle.path_rules.specs.declared.rules.Style.TheVariants as style
 use Rattle.path_rules.specs.declared.head.Start.TheVariants.{Root}
 use Rattle.path_rules.specs.Separators.{separates}
 use Rattle.path_rules.specs.StyleRules.{rules_of_style, main_separator}
-use Rattle.path_rules.specs.Component.{Item, Prefix, Normal, dot, components_in}
+use Rattle.path_rules.specs.Component.{Item, Prefix, dot, components_in}
 use Rattle.path_rules.specs.Heads.{start_items}
 use Rattle.path_rules.specs.Prefix.{Kind, Verbatim, VerbatimUnc, VerbatimDisk, Device, Unc, Disk, IsPrefixOf, rules_of, IsPrefixed, IsRawPrefix}
 use Rattle.path_rules.specs.Components.{plain_components, implied_root, root_of, after_root, AreComponents, prefixed, bare}

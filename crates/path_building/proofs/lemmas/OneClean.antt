@@ -1,5 +1,5 @@
 -- Windows paths that differ in the spelling of their separators have one clean form.
-use Rattle.std.proofs.Common.{◌≡◌, ◌⊎◌, inl, inr, ℕ, Bool, true, false, List, [], ◌∷◌, ◌++◌, length, map, reverse, drop, refl, sym, ap, ◌∙◌, subst, arith, length-append}
+use Rattle.std.proofs.Common.{◌≡◌, inl, inr, ℕ, Bool, true, false, List, [], ◌∷◌, ◌++◌, length, map, reverse, drop, refl, sym, ap, ◌∙◌, subst, arith, length-append}
 use Rattle.std.proofs.lemmas.List.{reverse-reverse}
 use Rattle.path_rules.specs.declared.rules.Rules.{Rules}
 use Rattle.path_rules.specs.declared.rules.Rules.TheVariants as rules
@@ -7,7 +7,7 @@ use Rattle.path_rules.specs.declared.rules.Style as whose
 use Rattle.path_rules.specs.declared.rules.Style.TheVariants as style
 use Rattle.path_rules.specs.Component.{Item, Prefix, components_in}
 use Rattle.path_rules.specs.Heads.{start_items}
-use Rattle.path_rules.specs.Components.{AreWindowsComponents, prefixed, bare, root_of, after_root, start_of, after_start, plain_components}
+use Rattle.path_rules.specs.Components.{AreWindowsComponents, prefixed, bare, root_of, after_root, start_of, after_start}
 use Rattle.path_rules.specs.Prefix.{Kind, IsPrefixOf, rules_of, begins_verbatim}
 use Rattle.path_building.specs.Join.{IsVerbatimPath}
 use Rattle.path_building.specs.Normalized.{AreVerbatim, IsShielded}

@@ -8,9 +8,9 @@ use Rattle.path_rules.specs.declared.head.Start.{Start}
 use Rattle.path_rules.specs.declared.head.Start.TheVariants.{Root, Dot, Nothing}
 use Rattle.path_rules.specs.declared.head.Head.{Head}
 use Rattle.path_rules.specs.Component.{Item, Prefix, RootDir, CurDir, ParentDir, Normal, components_in}
-use Rattle.path_rules.specs.Prefix.{Kind, IsPrefixed, rules_of}
+use Rattle.path_rules.specs.Prefix.{IsPrefixed, rules_of}
 use Rattle.path_rules.specs.Heads.{prefix_items, start_items, items_of}
-use Rattle.path_rules.specs.HeadParts.{IsHead, IsBareHead, IsPrefixedHead, bare_head, prefixed_head}
+use Rattle.path_rules.specs.HeadParts.{IsHead, IsPrefixedHead, bare_head, prefixed_head}
 use Rattle.path_rules.specs.Components.{AreComponents}
 use Rattle.path_building.specs.Normal.{AreNames}
 use Rattle.path_building.specs.Resolved.{IsNoName, ResolvesTo, nothing, root, here, name, up, stays, below_root, IsResolved}

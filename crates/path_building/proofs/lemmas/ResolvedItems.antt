@@ -8,12 +8,12 @@ use Rattle.path_rules.specs.declared.head.Start.TheVariants.{Root, Dot, Nothing}
 use Rattle.path_rules.specs.Component.{Item, Prefix, components_in}
 use Rattle.path_rules.specs.Prefix.{Kind, Verbatim, VerbatimUnc, VerbatimDisk, Device, Unc, Disk, IsPrefixOf, rules_of, IsPrefixed}
 use Rattle.path_rules.specs.Heads.{start_items}
-use Rattle.path_rules.specs.Components.{AreComponents, AreWindowsComponents, ArePrefixed, AreBare, prefixed, bare, root_of, after_root, start_of, after_start}
-use Rattle.path_building.specs.Resolved.{ResolvesTo, below_root, AreResolved, IsResolved, HasResolved}
+use Rattle.path_rules.specs.Components.{AreWindowsComponents, ArePrefixed, AreBare, prefixed, bare, root_of, after_root, start_of, after_start}
+use Rattle.path_building.specs.Resolved.{ResolvesTo, below_root, IsResolved, HasResolved}
 use Rattle.path_building.specs.Join.{IsVerbatimPath, IsJoin, replacing, resolving, at_root, after}
 use Rattle.path_building.specs.Base.{HasAllParts, LacksPart}
 use Rattle.path_building.specs.Written.{LacksShare, written}
-use Rattle.path_building.specs.Spelled.{after_bytes, cleaned, AreSpelled, kept_names, start_below}
+use Rattle.path_building.specs.Spelled.{cleaned, AreSpelled, kept_names, start_below}
 use Rattle.path_rules.proofs.lemmas.Edges.{edge_or_disk}
 use Rattle.path_rules.proofs.lemmas.OneList.{one_prefix}
 use Rattle.path_rules.proofs.lemmas.Parents.{no_dot}

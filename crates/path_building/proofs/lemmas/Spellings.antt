@@ -1,5 +1,5 @@
 -- Paths that differ in the spelling of their separators: their prefixes, and their components.
-use Rattle.std.proofs.Common.{◌≡◌, ◌≢◌, ◌⊎◌, inl, inr, ℕ, Bool, true, false, ◌&&◌, ◌||◌, nat_eq, if◌then◌else◌, List, [], ◌∷◌, ◌++◌, length, map, reverse, refl, sym, ap, ◌∙◌, subst, arith, eqb-true}
+use Rattle.std.proofs.Common.{◌≡◌, ◌⊎◌, inl, inr, ℕ, Bool, true, false, ◌&&◌, ◌||◌, nat_eq, if◌then◌else◌, List, [], ◌∷◌, ◌++◌, length, map, reverse, refl, sym, ap, ◌∙◌, subst, arith, eqb-true}
 use Rattle.std.specs.List.{All, slice_split, onto_first, filter_map}
 use Rattle.std.proofs.lemmas.List.{reverse-append, map-append}
 use Rattle.std.proofs.lemmas.List.Elements.{All-head, All-tail}
@@ -12,7 +12,7 @@ use Rattle.path_rules.specs.Separators.{separates, Edge, IsField}
 use Rattle.path_rules.specs.Component.{Item, Prefix, RootDir, CurDir, ParentDir, Normal, named, components_in}
 use Rattle.path_rules.specs.Heads.{prefix_items, start_items}
 use Rattle.path_rules.specs.Components.{start_of, after_start, plain_components, implied_root, root_of, after_root}
-use Rattle.path_rules.specs.Prefix.{Kind, Device, Unc, Disk, Lead, VerbatimLead, DeviceLead, DoubleLead, DriveLead, NoLead, is_letter, upper, double_lead, lead_of, IsUnc, IsNamed, IsPrefixBy, IsPrefixOf, begins_verbatim}
+use Rattle.path_rules.specs.Prefix.{Kind, Device, Lead, VerbatimLead, DeviceLead, DoubleLead, DriveLead, NoLead, is_letter, double_lead, lead_of, IsUnc, IsNamed, IsPrefixBy, IsPrefixOf, begins_verbatim}
 use Rattle.path_building.specs.Cleaned as clean
 use Rattle.path_building.specs.Cleaned.{CleansTo, StaysAfter, begins_as_verbatim, separated_by, one_spelling, spelled, DifferInSeparators}
 use Rattle.path_building.specs.Spelled.{AreSpelled, cleaned_start}
