@@ -1,4 +1,4 @@
-//! The examples of README.md and docs/CALLING.md, and a reader of options, as one program.
+//! The examples of README.md and docs/TUTORIAL.md, and a reader of options, as one program.
 #![tactic(auto)]
 
 mod command_lines;
