@@ -51,3 +51,7 @@ OneResolved = (base path : List ℕ) (one other : List Item) → AreResolved bas
 pub resolved_up : OneResolved → (joined : List ℕ) → HasResolved (codes "\\\\?\\C:\\a") (codes "..\\b\\.") joined → AreComponents style.Windows joined left
 resolved_up one joined h =
     subst (λ z. AreComponents style.Windows joined (below_root z)) (one (codes "\\\\?\\C:\\a") (codes "..\\b\\.") h.left left h.resolved left_is) h.are
+
+-- what these texts are joined to, from texts that are equal to them
+pub these : {base path joined : List ℕ} → base ≡ codes "\\\\?\\C:\\a" → path ≡ codes "..\\b\\." → HasResolved base path joined → HasResolved (codes "\\\\?\\C:\\a") (codes "..\\b\\.") joined
+these {base} {path} {joined} e f h = subst (λ z. HasResolved z (codes "..\\b\\.") joined) e (subst (λ z. HasResolved base z joined) f h)
