@@ -15,3 +15,4 @@ pub mod ReadCalls
 pub mod StemParts
 pub mod EndedParts
 pub mod Collects
+pub mod FullParts

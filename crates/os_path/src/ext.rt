@@ -19,6 +19,7 @@ ghost use Rattle.path_building.specs.Normalized.{IsNormalized, IsNormalizeFault}
 ghost use Rattle.path_building.specs.Cleaned.{IsCleaned};
 ghost use Rattle.path_building.specs.Checked.{IsCheckedJoin, IsBelowBase, IsJoinFault};
 ghost use Rattle.path_building.specs.CheckedEnd.{IsCheckedJoinEnded};
+ghost use Rattle.path_building.specs.FullPath.{IsFullPath, IsAbsoluteFault};
 ghost use Rattle.path_building.specs.Relative.{IsRelativeFrom};
 ghost use Rattle.path_building.specs.Restyled.{IsRestyled};
 ghost use Rattle.os_path.specs.Converted.{IsConvertFault};
@@ -36,9 +37,10 @@ use crate::reserved::is_reserved_path;
 use crate::style::PathStyle;
 use crate::styles::ConvertError;
 use crate::{
-    built, checked, compared, normal, parts, prefixes, relative, simplify, stripped, styles,
+    built, checked, compared, full_paths, normal, parts, prefixes, relative, simplify, stripped,
+    styles,
 };
-use path_building::{JoinError, NormalizeError};
+use path_building::{AbsoluteError, JoinError, NormalizeError};
 use path_rules::Prefix;
 use platform_str::{OsStr, Path, PathBuf};
 use std::alloc::{AllocError, Allocator};
@@ -709,6 +711,58 @@ pub trait PathExt<'a>: Sized + Copy {
     {
         let base = OsStr::from_encoded_bytes_unchecked(self.path_bytes());
         checked::join_checked_keeping_sep(alloc, base, path.as_os_str())
+    }
+
+    /// Returns the path as an absolute path, in new memory (std's `path::absolute`). A relative path
+    /// is taken below the given directory, and no file system is read.
+    ///
+    /// On Unix the components are written with one `/` between them. A `.` at the start is left out,
+    /// `..` is kept, and `//` at the start stays if no third `/` follows.
+    ///
+    /// On Windows the path is joined to the directory and cleaned, as by [`PathExt::join`] and
+    /// [`PathExt::clean`]. A path as `C:a` is below the directory if that is on the same drive. A
+    /// path that begins with `\\?\` or `\\.\` is returned as it is.
+    ///
+    /// A separator at the end of the path is kept, as [`PathExt::with_trailing_sep`] writes it. The
+    /// directory isn't read if the path is absolute.
+    ///
+    /// # Errors
+    ///
+    /// The first of these that holds:
+    ///
+    /// - `Empty` if the path is empty.
+    /// - `Prefix` if the Windows path begins with two separators and has no prefix, as `\\server`,
+    ///   or if it begins with `\??\`.
+    /// - `Reserved` if a name of the Windows path is reserved, as `nul`
+    ///   ([`PathExt::is_reserved`]).
+    /// - `Directory` if the path is relative, and the directory isn't absolute or lacks a part of its
+    ///   prefix.
+    /// - `Drive` if the path has a drive and no root, and the directory doesn't begin with that drive.
+    /// - `Memory` if an allocation fails.
+    ///
+    /// ```
+    /// use os_path::{AbsoluteError, PathExt, path};
+    /// use platform_str::{OsStr, Unix, Windows};
+    ///
+    /// let full = path::<Unix>("./a/b/").absolute(alloc, path("/usr"))?;
+    /// assert!(rt; full.as_os_str() == OsStr::new("/usr/a/b/"));
+    /// let full = path::<Windows>("../a").absolute(alloc, path("C:\\x\\y"))?;
+    /// assert!(rt; full.as_os_str() == OsStr::new("C:\\x\\a"));
+    /// let error = path::<Unix>("a").absolute(alloc, path("usr")).err();
+    /// assert!(rt; error == Some(AbsoluteError::Directory));
+    /// ```
+    final fn absolute<A: Allocator + Clone>(
+        self,
+        alloc: A,
+        directory: Path<'_, Self::Platform>,
+    ) -> Result<PathBuf<Self::Platform, A>, AbsoluteError>
+        ensures ok { IfOk result (λ full. IsFullPath Self.Platform.follows
+            (bytes_of self) (path_bytes directory.entry) (path_vec_of full).items) }
+        ensures err { IfErr result (λ error. IsAbsoluteFault Self.Platform.follows
+            (bytes_of self) (path_bytes directory.entry) error) }
+    {
+        let path = OsStr::from_encoded_bytes_unchecked(self.path_bytes());
+        full_paths::absolute(alloc, path, directory.as_os_str())
     }
 
     /// Returns the path relative to a base, in new memory (the crate pathdiff's `diff_paths`). The

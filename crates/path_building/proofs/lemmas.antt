@@ -30,3 +30,4 @@ pub mod Collects
 pub mod MainSeparators
 pub mod InlineTexts
 pub mod NulFree
+pub mod FullPaths

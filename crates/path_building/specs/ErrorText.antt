@@ -2,6 +2,8 @@
 use Rattle.std.specs.Prelude.{ℕ, List, ◌++◌, codes, decimal}
 use Rattle.path_building.specs.declared.checked.JoinError.{JoinError}
 use Rattle.path_building.specs.declared.checked.JoinError.TheVariants as join
+use Rattle.path_building.specs.declared.full_paths.AbsoluteError.{AbsoluteError}
+use Rattle.path_building.specs.declared.full_paths.AbsoluteError.TheVariants as absolute
 use Rattle.path_building.specs.declared.normal.NormalizeError.{NormalizeError}
 use Rattle.path_building.specs.declared.normal.NormalizeError.TheVariants as normalize
 use Rattle.path_building.specs.declared.styles.StyleError.{StyleError}
@@ -32,3 +34,12 @@ normalize_error_text normalize.Memory = codes "out of memory"
 abbrev pub style_error_text : StyleError → List ℕ
 style_error_text (restyle.Component index) = codes "the style can't have component " ++ decimal index
 style_error_text restyle.Memory = codes "out of memory"
+
+-- why a path isn't made absolute
+abbrev pub absolute_error_text : AbsoluteError → List ℕ
+absolute_error_text absolute.Empty = codes "the path is empty"
+absolute_error_text absolute.Prefix = codes "the path has an incomplete prefix"
+absolute_error_text absolute.Reserved = codes "the path has a reserved name"
+absolute_error_text absolute.Directory = codes "the directory isn't a full path"
+absolute_error_text absolute.Drive = codes "the directory is on another drive"
+absolute_error_text absolute.Memory = codes "out of memory"

@@ -15,4 +15,5 @@ pub mod Restyled
 pub mod Trailing
 pub mod CheckedEnd
 pub mod Collected
+pub mod FullPath
 pub mod MainSeparators

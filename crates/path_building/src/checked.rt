@@ -279,7 +279,7 @@ fn has_colon(name: &[u8]) -> bool
 }
 
 /// Whether no name of a Windows path is reserved.
-fn are_free(style: Style, rules: Rules, body: &[u8]) -> bool
+pub(crate) fn are_free(style: Style, rules: Rules, body: &[u8]) -> bool
     ensures { IsTrue result ↔ AreFree style (components_in rules body.now) }
 {
     match style {

@@ -4,8 +4,8 @@ ghost use Rattle.path_building.specs.Checked.{IsBelowBase, IsJoinFault};
 ghost use Rattle.path_building.specs.CheckedEnd.{IsCheckedJoinEnded};
 
 use crate::checked::{JoinError, join_checked};
-use crate::joining::push;
-use path_rules::{Style, has_trailing_sep};
+use crate::trailing::end_as;
+use path_rules::Style;
 use std::alloc::Allocator;
 
 /// Returns a path below a base, as [`join_checked`] does, and keeps a separator at the end of the
@@ -45,9 +45,6 @@ pub fn join_checked_keeping_sep<A: Allocator + Clone>(
     ensures err { IfErr result (λ error. IsJoinFault style base.now path.now error) }
 {
     let mut joined = join_checked(alloc, style, base, path)?;
-    if has_trailing_sep(style, path) {
-        push(style, &mut joined, b"".as_slice())?;
-        return Ok(joined);
-    }
+    end_as(style, &mut joined, path)?;
     Ok(joined)
 }

@@ -1,5 +1,5 @@
 //! A path from components.
-ghost use Rattle.std.specs.Prelude.{◌≡◌, [], map, IfOk};
+ghost use Rattle.std.specs.Prelude.{◌≡◌, [], map, IfOk, OnOk};
 ghost use Rattle.path_rules.specs.Views.{item_of};
 ghost use Rattle.path_building.specs.Collected.{string_of, ArePushed};
 
@@ -39,12 +39,25 @@ pub fn from_components<A: Allocator + Clone>(
         (λ path. ArePushed style [] (map item_of components.now) path.items) }
 {
     let mut path = Vec::new(alloc);
+    push_all(style, &mut path, components)?;
+    Ok(path)
+}
+
+/// Pushes components in turn.
+pub(crate) fn push_all<A: Allocator + Clone>(
+    style: Style,
+    path: &mut Vec<u8, A>,
+    components: &[Component<&[u8]>],
+) -> Result<(), AllocError>
+    ensures { OnOk result
+        (ArePushed style path.old.items (map item_of components.now) path.new.items) }
+{
     let mut left = components;
     while let [component, more @ ..] = left {
-        push(style, &mut path, as_string(style, *component))?;
+        push(style, path, as_string(style, *component))?;
         left = more;
     }
-    Ok(path)
+    Ok(())
 }
 
 /// The bytes of a component.

@@ -6,8 +6,8 @@
 //! and [`set_file_name`] and [`set_extension`] do so in place. [`with_trailing_sep`] adds a
 //! separator at the end of a path, and [`relative_from`] returns the path relative to a base.
 //! [`with_style`] returns a path in the other style, and [`normalize`] and [`clean`] its normal
-//! form and its clean form. [`from_components`] returns the path of components. How a path is read
-//! is in `path_rules`.
+//! form and its clean form. [`from_components`] returns the path of components, and [`absolute`] an
+//! absolute path. How a path is read is in `path_rules`.
 //!
 //! Paths are bytes here too, in no encoding, and may have a NUL, at which a system would end them:
 //! [`join_checked`] and [`join_checked_keeping_sep`] alone reject it. They resolve `..`, and so do
@@ -24,6 +24,7 @@ mod collected;
 mod error_text;
 mod file_names;
 mod file_stems;
+mod full_paths;
 mod joining;
 pub mod laws;
 mod normal;
@@ -41,6 +42,7 @@ pub use file_names::{
     with_file_name,
 };
 pub use file_stems::with_file_stem;
+pub use full_paths::{AbsoluteError, absolute};
 pub use joining::{join, push};
 pub use normal::{NormalizeError, clean, normalize};
 pub use relative::relative_from;

@@ -200,7 +200,7 @@ fn apart<'s, 'p, 'b>(
 }
 
 /// Components without a `.` at their start.
-fn after_dot<'s, 'b>(items: &'s [Component<&'b [u8]>]) -> &'s [Component<&'b [u8]>]
+pub(crate) fn after_dot<'s, 'b>(items: &'s [Component<&'b [u8]>]) -> &'s [Component<&'b [u8]>]
     ensures { map item_of result.now ≡ without_dot (map item_of items.entry.now) }
 {
     match items {

@@ -1,9 +1,9 @@
 //! A path with a separator at its end.
-ghost use Rattle.std.specs.Prelude.{IfOk};
-ghost use Rattle.path_building.specs.Trailing.{IsWithTrailingSep};
+ghost use Rattle.std.specs.Prelude.{IfOk, OnOk};
+ghost use Rattle.path_building.specs.Trailing.{IsWithTrailingSep, IsEndedAs};
 
-use crate::joining::join;
-use path_rules::Style;
+use crate::joining::{join, push};
+use path_rules::{Style, has_trailing_sep};
 use std::alloc::{AllocError, Allocator};
 
 /// The path with a separator at its end, in new memory (std's `Path::with_trailing_sep`). To do
@@ -33,4 +33,18 @@ pub fn with_trailing_sep<A: Allocator + Clone>(
     ensures { IfOk result (λ ended. IsWithTrailingSep style path.now ended.items) }
 {
     join(alloc, style, path, b"".as_slice())
+}
+
+/// Appends a separator to a path if another path ends with one.
+pub(crate) fn end_as<A: Allocator + Clone>(
+    style: Style,
+    path: &mut Vec<u8, A>,
+    other: &[u8],
+) -> Result<(), AllocError>
+    ensures { OnOk result (IsEndedAs style other.now path.old.items path.new.items) }
+{
+    if has_trailing_sep(style, other) {
+        return push(style, path, b"".as_slice());
+    }
+    Ok(())
 }

@@ -20,3 +20,4 @@ pub mod MainSeparators
 pub mod OneFile
 pub mod PrefixEnds
 pub mod PathStrings
+pub mod FullPaths

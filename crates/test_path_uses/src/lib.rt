@@ -10,6 +10,7 @@ pub mod checked;
 pub mod collected;
 pub mod comparisons;
 pub mod form;
+pub mod full_paths;
 pub mod ignored;
 pub mod joined;
 pub mod left_parts;

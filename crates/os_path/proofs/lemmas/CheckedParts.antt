@@ -14,7 +14,7 @@ use Rattle.os_path.proofs.lemmas.Whole.{joined_formed}
 use Rattle.os_path.proofs.lemmas.NormalParts.{left_formed, reversed, from_reversed, of_items, of_path}
 
 module _ (formed : List ℕ → Type 0) where
-  no_dot_formed : (xs : List Item) → AreFormed formed xs → AreFormed formed (without_dot xs)
+  pub no_dot_formed : (xs : List Item) → AreFormed formed xs → AreFormed formed (without_dot xs)
   no_dot_formed [] f = f
   no_dot_formed (Prefix s ∷ xs) f = f
   no_dot_formed (RootDir ∷ xs) f = f

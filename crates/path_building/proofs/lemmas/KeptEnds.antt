@@ -19,7 +19,7 @@ use Rattle.path_building.specs.Checked.{IsCheckedJoin, IsBelowBase}
 use Rattle.path_building.specs.Join.{IsBetween, ShareAPrefix, HaveTheSamePrefix}
 use Rattle.path_building.specs.Normal.{AreNames}
 use Rattle.path_building.specs.Spelled.{AreSpelled}
-use Rattle.path_building.specs.Trailing.{IsWithTrailingSep}
+use Rattle.path_building.specs.Trailing.{IsWithTrailingSep, IsEndedAs}
 use Rattle.path_building.specs.Written.{more_names, joined_names, LacksShare, NamesAShare, IsWritten, IsPathOf}
 use Rattle.path_building.proofs.lemmas.AsWritten.{prefix_alone}
 use Rattle.path_building.proofs.lemmas.Bases.{alone_items, root_of_alone}
@@ -199,3 +199,7 @@ ended_below w base path joined ended h e =
       are = same_items w joined ended e (same_prefix w joined ended items h.answers alone e) alone items h.answers.0;
       alone = h.checked.inside.alone;
     }
+
+pub kept_below : (w : whose.Style) (base path joined ended : List ℕ) → IsCheckedJoin w base path joined → IsBelowBase w base joined → IsEndedAs w path joined ended → IsBelowBase w base ended
+kept_below w base path joined ended c below (inl k) = ended_below w base path joined ended c k.1
+kept_below w base path joined ended c below (inr k) = subst (IsBelowBase w base) (sym k.1) below

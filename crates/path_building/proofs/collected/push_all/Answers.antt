@@ -1,6 +1,6 @@
 use Rattle.path_rules.specs.Views.{item_of}
 use Rattle.path_building.proofs.lemmas.Collects.{pushed_on}
-use Rattle.path_building.proofs.collected.from_components.Goals as goal
+use Rattle.path_building.proofs.collected.push_all.Goals as goal
 
 pub loop-left-preserved : goal.loop-left-preserved
 loop-left-preserved g c = λ made h.
