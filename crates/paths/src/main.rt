@@ -12,7 +12,7 @@ use std::env;
 
 fn main(rt: HostRuntime) -> Ended<Fault> {
     execute(
-        &Paths,
+        &Paths::new(&rt),
         rt.alloc(),
         env::args(&rt),
         &mut Marked::new(rt.reader()),

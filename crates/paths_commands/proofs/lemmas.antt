@@ -1,3 +1,9 @@
+pub mod After
 pub mod Answers
 pub mod Lines
+pub mod NeverBoth
+pub mod ReadOnce
 pub mod Refusals
+pub mod Requests
+pub mod Surplus
+pub mod TaskNames

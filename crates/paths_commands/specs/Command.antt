@@ -1,14 +1,112 @@
--- The arguments of each command.
-use Rattle.std.specs.Prelude.{ℕ, List, [], ◌∷◌, codes}
+-- What the options and operands of the command line request.
+use Rattle.std.specs.Prelude.{◌≡◌, ◌≢◌, ◌↔◌, ◌⊎◌, ℕ, Bool, true, List, [], ◌∷◌, codes}
+use Rattle.os_args.specs.Reading.{UnexpectedArgument}
+use Rattle.os_args.specs.Views.{fault_of}
+use Rattle.os_args.specs.Word.{Value}
+use Rattle.program_frame.specs.Arguments.{AreGiven, HasOption, operands_of}
 use Rattle.program_frame.specs.Os.{os_word}
-use Rattle.paths_commands.specs.Task.{task_word, operands_of}
+use Rattle.program_frame.specs.declared.arguments.Given.{Given}
+use Rattle.program_frame.specs.declared.misuse.Misuse.{Misuse}
+use Rattle.program_frame.specs.declared.misuse.Misuse.TheVariants.{Argument, Missing, Invalid, Misplaced}
+use Rattle.program_frame.specs.declared.os.Os.{Os}
+use Rattle.paths_commands.specs.Options.{has_value, spelled}
+use Rattle.paths_commands.specs.Task.{IsChecked, name_of, name_word, operands_of_task}
 use Rattle.paths_commands.specs.declared.command.Command.{Command}
-use Rattle.paths_commands.specs.declared.command.Command.TheVariants.{Ask, Help}
+use Rattle.paths_commands.specs.declared.command.Command.TheVariants.{Ask, Help, Version}
+use Rattle.paths_commands.specs.declared.command.Name.{Name}
+use Rattle.paths_commands.specs.declared.command.Name.TheVariants as task_name
+use Rattle.paths_commands.specs.declared.option.PathsOption.{PathsOption}
+use Rattle.paths_commands.specs.declared.option.PathsOption.TheVariants as option
+use Rattle.paths_commands.specs.declared.task.Task.{Task}
 
--- the arguments after the program's name that make up the command
-abbrev pub words_of : Command → List (List ℕ)
-words_of (Ask task os) = task_word task ∷ os_word os ∷ operands_of task
-words_of Help = codes "--help" ∷ []
+-- options and operands, as they were given
+abbrev pub Line : Type 0
+Line = List (Given PathsOption)
+
+-- neither help nor the version is requested
+abbrev pub IsOfPaths : Line → Type 0
+IsOfPaths given = (¬ (HasOption option.Help given)) × (¬ (HasOption option.Version given))
+
+-- the operands are the name of a task, a platform and these
+abbrev pub HasOperands : Line → Name → Os → List (List ℕ) → Type 0
+HasOperands given name os more = operands_of given ≡ name_word name ∷ os_word os ∷ more
+
+-- the task has this name, is checked where that is requested, and has these operands
+abbrev pub IsTaskOf : Name → Bool → List (List ℕ) → Task → Type 0
+IsTaskOf name is_checked operands task = (name_of task ≡ name) × ((IsChecked task ↔ (is_checked ≡ true)) × (operands ≡ operands_of_task task))
+
+-- the task of this name needs an operand, which is called this
+abbrev pub Needs : Name → List ℕ → Type 0
+Needs task_name.Components what = ⊥
+Needs task_name.Parent what = ⊥
+Needs task_name.Name what = ⊥
+Needs task_name.Stem what = ⊥
+Needs task_name.Extension what = ⊥
+Needs task_name.Normalize what = ⊥
+Needs task_name.Clean what = ⊥
+Needs task_name.Join what = what ≡ codes "BASE"
+Needs task_name.Relative what = what ≡ codes "BASE"
+Needs task_name.Convert what = what ≡ codes "platform to convert to"
+
+-- what is missing: a command, a platform after it, or the operand that the task needs
+abbrev pub IsMissing : Line → List ℕ → Type 0
+IsMissing given what =
+    ((what ≡ codes "command") × (operands_of given ≡ []))
+    ⊎ (((what ≡ codes "platform (unix, windows or wasm)") × ((word : List ℕ) × (operands_of given ≡ word ∷ [])))
+    ⊎ ((name : Name) × ((os : Os) × (HasOperands given name os [] × Needs name what))))
+
+-- which word is no command or no platform
+abbrev pub IsInvalid : Line → List ℕ → List ℕ → Type 0
+IsInvalid given what word =
+    ((what ≡ codes "command") × (((name : Name) → word ≢ name_word name) × ((more : List (List ℕ)) × (operands_of given ≡ word ∷ more))))
+    ⊎ ((what ≡ codes "platform") × (((os : Os) → word ≢ os_word os) × (
+    ((command : List ℕ) × ((more : List (List ℕ)) × (operands_of given ≡ command ∷ word ∷ more)))
+    ⊎ ((os : Os) × HasOperands given task_name.Convert os (word ∷ [])))))
+
+-- `--checked` is given, and isn't for the task that is named
+abbrev pub IsMisplaced : Line → List ℕ → List ℕ → Type 0
+IsMisplaced given word where_to =
+    (word ≡ codes "--checked")
+    × (HasOption option.Checked given
+    × ((name : Name) × ((os : Os) × ((more : List (List ℕ)) × (HasOperands given name os more × ((where_to ≡ name_word name) × (name ≢ task_name.Join)))))))
+
+-- an operand is one too many: some tasks need one after the platform, the others none
+abbrev pub IsTooMany : Line → List ℕ → Type 0
+IsTooMany given word = (name : Name) × ((os : Os) × ((more : List (List ℕ)) × (
+    ((operand : List ℕ) × HasOperands given name os (operand ∷ word ∷ more))
+    ⊎ (((what : List ℕ) → ¬ (Needs name what)) × HasOperands given name os (word ∷ more)))))
+
+-- the error for an operand too many
+abbrev pub IsSurplus : List ℕ → Misuse → Type 0
+IsSurplus word (Argument error) = fault_of error ≡ UnexpectedArgument (Value word)
+IsSurplus word (Missing what) = ⊥
+IsSurplus word (Invalid what other) = ⊥
+IsSurplus word (Misplaced option where_to) = ⊥
+
+-- why these request nothing
+abbrev pub IsMisuse : Line → Misuse → Type 0
+IsMisuse given (Argument error) = (word : List ℕ) × (IsTooMany given word × (fault_of error ≡ UnexpectedArgument (Value word)))
+IsMisuse given (Missing what) = IsMissing given what.now
+IsMisuse given (Invalid what word) = IsInvalid given what.now word.now
+IsMisuse given (Misplaced word where_to) = IsMisplaced given word.now where_to.now
+
+-- these request the command: help, at any position; the version; or a task. The operands are then the task's name, a platform and what the task needs
+abbrev pub AsksFor : Line → Command → Type 0
+AsksFor given (Ask task os keeps_going) =
+    IsOfPaths given
+    × (HasOperands given (name_of task) os (operands_of_task task)
+    × ((IsChecked task ↔ HasOption option.Checked given)
+    × ((keeps_going ≡ true) ↔ HasOption option.KeepGoing given)))
+AsksFor given Help = HasOption option.Help given
+AsksFor given Version = (¬ (HasOption option.Help given)) × HasOption option.Version given
+
+-- these request no command
+abbrev pub RequestsNothing : Line → Type 0
+RequestsNothing given = (command : Command) → ¬ (AsksFor given command)
+
+-- the arguments are no options and operands that request a command
+abbrev pub RequestNothing : List (List ℕ) → Type 0
+RequestNothing words = (given : Line) → AreGiven spelled has_value words given → RequestsNothing given
 
 -- how many bytes a path may have
 abbrev pub longest_path : ℕ

@@ -1,22 +1,39 @@
--- The text of each reason why a path or the words are refused.
+-- The text of each reason why a path or the arguments are rejected.
 use Rattle.std.specs.Prelude.{ℕ, List, ◌++◌, codes, decimal}
+use Rattle.std.specs.Fmt.Cut.{IsTextOrCut}
+use Rattle.std.specs.Fmt.InlineText.{inline_text}
 use Rattle.os_str_bytes.specs.FaultText.{fault_text}
+use Rattle.path_building.specs.ErrorText.{join_error_text}
 use Rattle.paths_commands.specs.declared.fault.Refusal.{Refusal}
-use Rattle.paths_commands.specs.declared.fault.Refusal.TheVariants.{NoString, NoNormalForm, NoRelativePath, NoComponent, NoStringThere}
-use Rattle.paths_commands.specs.declared.fault.Usage.{Usage}
+use Rattle.paths_commands.specs.declared.fault.Refusal.TheVariants.{NoString, NoNormalForm, NoRelativePath, NoJoin, NoComponent, NoStringThere}
+use Rattle.paths_commands.specs.declared.fault.CommandFault.{CommandFault}
+use Rattle.paths_commands.specs.declared.fault.CommandFault.TheVariants.{Unreadable, Misuse, PassedOver}
+use Rattle.program_frame.specs.Misuse.{misuse_text}
+use Rattle.program_frame.specs.declared.misuse.Misuse as misuse
 
 -- what the program prints of the reason why a path is refused
 abbrev pub refusal_text : Refusal → List ℕ
 refusal_text (NoString error) = fault_text error
 refusal_text NoNormalForm = codes "no name before a .."
 refusal_text NoRelativePath = codes "no path from the base leads there"
+refusal_text (NoJoin error) = join_error_text error
 refusal_text (NoComponent index) = codes "no path there can have the component at index " ++ decimal index
 refusal_text (NoStringThere error) = codes "no path there: " ++ fault_text error
 
--- the arguments make up no command
-abbrev pub usage : Usage
-usage = record {}
+-- what the program prints of why it ends, beside faults of lists
+abbrev pub words_text : CommandFault → List ℕ
+words_text Unreadable = codes "an argument isn't valid UTF-8"
+words_text (Misuse text) = inline_text text ++ codes "; paths --help lists the commands"
+words_text (PassedOver count) = codes "refused paths: " ++ decimal count
 
--- what the program prints for arguments that make up no command
-abbrev pub usage_text : List ℕ
-usage_text = codes "usage: paths components|parent|name|stem|extension|normalize|clean|join|relative|convert unix|windows|wasm [BASE|PLATFORM]; paths --help tells more"
+-- the status that the program ends with then
+abbrev pub words_status : CommandFault → ℕ
+words_status Unreadable = 2
+words_status (Misuse text) = 2
+words_status (PassedOver count) = 1
+
+-- the fault has the text of the misuse, which is cut if it is longer than 400 bytes
+abbrev pub IsOfMisuse : misuse.Misuse → CommandFault → Type 0
+IsOfMisuse why Unreadable = ⊥
+IsOfMisuse why (Misuse text) = IsTextOrCut 400 (misuse_text why) (inline_text text)
+IsOfMisuse why (PassedOver count) = ⊥

@@ -1,3 +1,4 @@
+pub mod Options
 pub mod Styles
 pub mod Task
 pub mod Fault

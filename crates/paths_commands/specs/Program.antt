@@ -1,28 +1,38 @@
--- The whole program, from the words after its name to its exit status.
-use Rattle.std.specs.Prelude.{◌≡◌, ◌⊎◌, ℕ, List, codes, Option, Result, Err, ⊤}
+-- The whole program, from the arguments after its name to its exit status.
+use Rattle.std.specs.Prelude.{◌≡◌, ◌⊎◌, ℕ, ◌<◌, Bool, true, false, List, Option, Result, Ok, Err, ⊤, IfErr, IsOk}
+use Rattle.os_args.specs.Views.{fault_of}
+use Rattle.os_args.specs.declared.error.ArgumentError.{ArgumentError}
+use Rattle.os_str_bytes.specs.Wasm.{Wasm}
+use Rattle.os_str_bytes.specs.WasmPlatform.TheImpl as wasm
+use Rattle.platform_str.specs.declared.os_str.OsStr.{OsStr}
+use Rattle.program_frame.specs.Arguments.{AreGiven, HasFault}
 use Rattle.program_frame.specs.ListRun.{Runs}
+use Rattle.program_frame.specs.ProgramFault.{EndsRunOf}
+use Rattle.program_frame.specs.Rules.{ListRules, passing}
 use Rattle.program_frame.specs.Strings.{strings}
 use Rattle.program_frame.specs.Written.{WritesText}
-use Rattle.program_frame.specs.declared.fault.Failure.TheVariants.{Write}
+use Rattle.program_frame.specs.declared.fault.Failure.TheVariants.{Memory, Write}
 use Rattle.program_frame.specs.declared.lists.fault.ListFault.TheVariants.{Run}
-use Rattle.paths_commands.specs.Command.{words_of, longest_path}
+use Rattle.program_frame.specs.declared.lists.program_fault.Fault as program_fault
+use Rattle.program_frame.specs.declared.lists.program_fault.Fault.TheVariants.{List as OfList, Words}
+use Rattle.program_frame.specs.declared.misuse.Misuse as misuse
+use Rattle.program_frame.specs.declared.misuse.Misuse.TheVariants.{Argument}
+use Rattle.program_frame.specs.declared.os.Os.{Os}
+use Rattle.paths_commands.specs.Command.{AsksFor, IsMisuse, Line, RequestNothing, RequestsNothing, longest_path}
+use Rattle.paths_commands.specs.Fault.{IsOfMisuse}
+use Rattle.paths_commands.specs.Options.{has_value, spelled}
 use Rattle.paths_commands.specs.Styles.{style_of}
 use Rattle.paths_commands.specs.Task.{rules_of}
 use Rattle.paths_commands.specs.declared.command.Command.{Command}
-use Rattle.paths_commands.specs.declared.command.Command.TheVariants.{Ask, Help}
-use Rattle.program_frame.specs.declared.lists.program_fault.Fault as program_fault
-use Rattle.program_frame.specs.declared.lists.program_fault.Fault.TheVariants.{List as OfList, Words}
-use Rattle.paths_commands.specs.Fault.{usage}
+use Rattle.paths_commands.specs.declared.command.Command.TheVariants.{Ask, Help, Version}
+use Rattle.paths_commands.specs.declared.fault.CommandFault.{CommandFault}
+use Rattle.paths_commands.specs.declared.fault.CommandFault.TheVariants.{PassedOver}
 use Rattle.paths_commands.specs.declared.fault.Refusal.{Refusal}
-use Rattle.paths_commands.specs.declared.fault.Usage.{Usage}
+use Rattle.paths_commands.specs.declared.task.Task.{Task}
 
 -- what keeps the program from its output
 abbrev pub Fault : Type 0
-Fault = program_fault.Fault Refusal Usage
-
--- what `paths --help` writes
-abbrev pub help_text : List ℕ
-help_text = codes "paths: lists of paths, taken apart path by path\n\npaths components unix|windows|wasm  paths ended by NUL in, the escape of each component out, one a line,\n                                    and an empty line after those of a path\npaths parent     unix|windows|wasm  paths ended by NUL in, each without its last component out, ended by NUL\npaths name       unix|windows|wasm  the last component, where that is a name\npaths stem       unix|windows|wasm  that name without its extension\npaths extension  unix|windows|wasm  the extension of that name\npaths normalize  unix|windows|wasm  paths in, their normal forms out: .. takes the name before it away,\n                                    and a path with a .. that has none is refused\npaths clean      unix|windows|wasm  the same, where such a .. stays, or goes at a root, and nothing is .\npaths join       .. BASE            paths in, each after BASE out: one with a root or a prefix replaces it\npaths relative   .. BASE            paths in, each as it is reached from BASE out, and one that no path leads\n                                    to is refused\npaths convert    .. PLATFORM        paths in, paths of that platform with their components out, and one with a\n                                    component that it can't have is refused\npaths --help                        this text\n\nEach path has one answer, which is empty where it has no such part. The last path may lack its NUL. A path\nhas at most 1048576 bytes.\n\nThe answers are those of Rust's std::path: empty parts and . name nothing, but for a . at the start, and ..\nis resolved by normalize and clean alone. An extension comes after the last dot of a name, if that isn't\nits first byte. On windows / and \\ separate, and a path may begin with a prefix: C:, \\\\server\\share,\n\\\\?\\C:, \\\\?\\UNC\\server\\share, \\\\?\\name or \\\\.\\name.\n\nStatus: 0, or 1 where a path is refused, 2 for other words, 3 where memory is refused, 4 where a read or\nwrite fails. The first refused path is told with its number, from 1.\n"
+Fault = program_fault.Fault Refusal CommandFault
 
 -- what is done: a relation of the bytes that a reader had left and has left, of what a writer held and holds, as far as they are known, and of the result
 abbrev pub Doing : Type 1
@@ -32,13 +42,66 @@ Doing = Option (List ℕ) → Option (List ℕ) → Option (List ℕ) → Option
 abbrev pub EndsAtOnce : Fault → Doing
 EndsAtOnce fault input left old new answer = (answer ≡ Err fault) × ((left ≡ input) × (new ≡ old))
 
+-- what is done with each path of the platform
+abbrev pub rules_on : Os → Task → ListRules Refusal
+rules_on os task = rules_of (strings os) (style_of os) task longest_path
+
+-- the result of a run that passed over this number of paths: if it passed over some, that is its fault
+abbrev pub IsAfter : ℕ → Result ⊤ Fault → Result ⊤ Fault → Type 0
+IsAfter count (Ok done) answer = ((count ≡ 0) × IsOk answer) ⊎ ((0 < count) × (answer ≡ Err (Words (PassedOver count))))
+IsAfter count (Err fault) answer = answer ≡ Err fault
+
+-- the run passes over the paths that are refused, and writes the results of the others, in order. No such path ends it
+pub record RunsPast (list : ListRules Refusal) (input left old new : Option (List ℕ)) (answer : Result ⊤ Fault) : Type 0 where
+  pub count : ℕ
+  pub ran : Result ⊤ Fault
+  pub run : Runs (passing count list) OfList input left old new ran
+  pub ends : IfErr ran (λ fault. EndsRunOf ⊥ fault)
+  pub after : IsAfter count ran answer
+
+-- a text is written, and nothing is read
+abbrev pub WritesSomeText : Doing
+WritesSomeText input left old new answer = (left ≡ input) × ((text : List ℕ) × WritesText text (OfList (Run Write)) old new answer)
+
+-- the task's result for a list of paths of the platform, where those that are refused may be passed over
+abbrev pub RunsTask : Bool → Os → Task → Doing
+RunsTask false os task input left old new answer = Runs (rules_on os task) OfList input left old new answer
+RunsTask true os task input left old new answer = RunsPast (rules_on os task) input left old new answer
+
 -- what the command does
 abbrev pub Does : Command → Doing
-Does (Ask task os) input left old new answer = Runs (rules_of (strings os) (style_of os) task longest_path) OfList input left old new answer
-Does Help input left old new answer = WritesText help_text (OfList (Run Write)) old new answer
+Does (Ask task os keeps_going) input left old new answer = RunsTask keeps_going os task input left old new answer
+Does Help input left old new answer = WritesSomeText input left old new answer
+Does Version input left old new answer = WritesSomeText input left old new answer
 
--- the command that has these arguments has this result; arguments of no command are rejected
+-- the options and operands request no command, and the run ends at once with what is wrong
+abbrev pub RejectsLine : Line → Doing
+RejectsLine given input left old new answer =
+    RequestsNothing given
+    × ((wrong : misuse.Misuse) × ((why : CommandFault) × ((IsMisuse given wrong × IsOfMisuse wrong why) × EndsAtOnce (Words why) input left old new answer)))
+
+-- the options and operands request a command, with this result
+abbrev pub RunsCommand : Line → Doing
+RunsCommand given input left old new answer = (command : Command) × (AsksFor given command × Does command input left old new answer)
+
+-- the options and operands request a command, which has this result, or none
+abbrev pub RunsLine : Line → Doing
+RunsLine given input left old new answer = RejectsLine given input left old new answer ⊎ RunsCommand given input left old new answer
+
+-- the arguments have a fault, and the run ends at once with the first
+abbrev pub RejectsWords : List (List ℕ) → Doing
+RejectsWords words input left old new answer = (error : ArgumentError (OsStr Wasm wasm.ghosts)) × ((why : CommandFault) × ((HasFault spelled has_value words (fault_of error) × IsOfMisuse (Argument error) why) × EndsAtOnce (Words why) input left old new answer))
+
+-- the arguments request no command, however they are read, and the run ends at once: they have a fault, or their options and operands request nothing
+abbrev pub Rejects : List (List ℕ) → Doing
+Rejects words input left old new answer =
+    RequestNothing words
+    × (RejectsWords words input left old new answer
+    ⊎ ((given : Line) × (AreGiven spelled has_value words given × RejectsLine given input left old new answer)))
+
+-- the arguments request a command, with this result, or none; memory may be refused first
 abbrev pub RunsTo : List (List ℕ) → Doing
 RunsTo words input left old new answer =
-    (((command : Command) → ¬ (words ≡ words_of command)) × EndsAtOnce (Words usage) input left old new answer)
-    ⊎ ((command : Command) × ((words ≡ words_of command) × Does command input left old new answer))
+    EndsAtOnce (OfList (Run Memory)) input left old new answer
+    ⊎ (Rejects words input left old new answer
+    ⊎ ((given : Line) × (AreGiven spelled has_value words given × RunsCommand given input left old new answer)))

@@ -1,5 +1,5 @@
 -- What each task requests of a path, and with which faults a path is rejected.
-use Rattle.std.specs.Prelude.{◌≡◌, ◌⊎◌, ℕ, List, [], ◌∷◌, ◌++◌, codes, Some, None}
+use Rattle.std.specs.Prelude.{◌≡◌, ◌≢◌, ◌⊎◌, ℕ, List, [], ◌∷◌, ◌++◌, codes, Some, None}
 use Rattle.std.specs.Borrow.{Bor}
 use Rattle.os_str_bytes.specs.Platform.{Ghosts}
 use Rattle.os_str_bytes.specs.EncodingError.{EncodingError}
@@ -8,10 +8,12 @@ use Rattle.path_rules.specs.declared.rules.Style.{Style}
 use Rattle.path_rules.specs.Component.{Item, Prefix, RootDir, CurDir, ParentDir, Normal}
 use Rattle.path_rules.specs.Components.{AreComponents}
 use Rattle.path_rules.specs.Parent.{IsParent, HasNoParent, HasFileName, HasNoFileName}
+use Rattle.path_building.specs.Checked.{IsBelowBase, IsCheckedJoin, IsJoinFault}
 use Rattle.path_building.specs.Cleaned.{IsCleaned}
 use Rattle.path_building.specs.Join.{IsJoin}
 use Rattle.path_building.specs.Normalized.{IsNormalized, HasNoNormalForm}
 use Rattle.path_building.specs.Relative.{IsRelativeFrom}
+use Rattle.path_building.specs.declared.checked.JoinError.TheVariants as join
 use Rattle.path_building.specs.Restyled.{IsRestyled}
 use Rattle.path_rules.specs.StyleRules.{main_separator}
 use Rattle.os_path.specs.Names.{HasFileStem, HasExtension, LacksExtension}
@@ -24,34 +26,65 @@ use Rattle.program_frame.specs.Rules.{ListRules}
 use Rattle.paths_commands.specs.Styles.{style_of}
 use Rattle.paths_commands.specs.declared.fault.Refusal.{Refusal}
 use Rattle.paths_commands.specs.declared.fault.Refusal.TheVariants as refusal
+use Rattle.paths_commands.specs.declared.command.Name.{Name as DeclaredName}
+use Rattle.paths_commands.specs.declared.command.Name.TheVariants as name
 use Rattle.paths_commands.specs.declared.task.Task.{Task}
-use Rattle.paths_commands.specs.declared.task.Task.TheVariants.{Components, Parent, Name, Stem, Extension, Normalize, Clean, Join, Relative, Convert}
+use Rattle.paths_commands.specs.declared.task.Task.TheVariants.{Components, Parent, Name, Stem, Extension, Normalize, Clean, Join, JoinChecked, Relative, Convert}
 
--- the argument that requests this of each path
-abbrev pub task_word : Task → List ℕ
-task_word Components = codes "components"
-task_word Parent = codes "parent"
-task_word Name = codes "name"
-task_word Stem = codes "stem"
-task_word Extension = codes "extension"
-task_word Normalize = codes "normalize"
-task_word Clean = codes "clean"
-task_word (Join base) = codes "join"
-task_word (Relative base) = codes "relative"
-task_word (Convert to) = codes "convert"
+-- the name of the task
+abbrev pub name_of : Task → DeclaredName
+name_of Components = name.Components
+name_of Parent = name.Parent
+name_of Name = name.Name
+name_of Stem = name.Stem
+name_of Extension = name.Extension
+name_of Normalize = name.Normalize
+name_of Clean = name.Clean
+name_of (Join base) = name.Join
+name_of (JoinChecked base) = name.Join
+name_of (Relative base) = name.Relative
+name_of (Convert to) = name.Convert
 
--- the words that come after the platform's
-abbrev pub operands_of : Task → List (List ℕ)
-operands_of Components = []
-operands_of Parent = []
-operands_of Name = []
-operands_of Stem = []
-operands_of Extension = []
-operands_of Normalize = []
-operands_of Clean = []
-operands_of (Join base) = base.now ∷ []
-operands_of (Relative base) = base.now ∷ []
-operands_of (Convert to) = os_word to ∷ []
+-- the argument that is the name
+abbrev pub name_word : DeclaredName → List ℕ
+name_word name.Components = codes "components"
+name_word name.Parent = codes "parent"
+name_word name.Name = codes "name"
+name_word name.Stem = codes "stem"
+name_word name.Extension = codes "extension"
+name_word name.Normalize = codes "normalize"
+name_word name.Clean = codes "clean"
+name_word name.Join = codes "join"
+name_word name.Relative = codes "relative"
+name_word name.Convert = codes "convert"
+
+-- the task joins no path that could leave the base
+abbrev pub IsChecked : Task → Type 0
+IsChecked Components = ⊥
+IsChecked Parent = ⊥
+IsChecked Name = ⊥
+IsChecked Stem = ⊥
+IsChecked Extension = ⊥
+IsChecked Normalize = ⊥
+IsChecked Clean = ⊥
+IsChecked (Join base) = ⊥
+IsChecked (JoinChecked base) = Unit {0}
+IsChecked (Relative base) = ⊥
+IsChecked (Convert to) = ⊥
+
+-- the operands after the platform's
+abbrev pub operands_of_task : Task → List (List ℕ)
+operands_of_task Components = []
+operands_of_task Parent = []
+operands_of_task Name = []
+operands_of_task Stem = []
+operands_of_task Extension = []
+operands_of_task Normalize = []
+operands_of_task Clean = []
+operands_of_task (Join base) = base.now ∷ []
+operands_of_task (JoinChecked base) = base.now ∷ []
+operands_of_task (Relative base) = base.now ∷ []
+operands_of_task (Convert to) = os_word to ∷ []
 
 -- a component as it is written (std's `Component::as_os_str`)
 abbrev pub component_text : Style → Item → List ℕ
@@ -60,6 +93,10 @@ component_text style RootDir = main_separator style ∷ []
 component_text style CurDir = codes "."
 component_text style ParentDir = codes ".."
 component_text style (Normal s) = s
+
+-- the path after the base, with the components of the base and then names alone
+abbrev pub IsJoinedBelow : Style → List ℕ → List ℕ → List ℕ → Type 0
+IsJoinedBelow style base path joined = IsCheckedJoin style base path joined × IsBelowBase style base joined
 
 -- the result of the task: the requested part, and nothing where the path has none. Or a form of the path, the path after a base or as it is reached from one, or a path of another platform with its components
 abbrev pub IsAnswer : Style → Task → List ℕ → List ℕ → Type 0
@@ -71,6 +108,7 @@ IsAnswer style Extension path answer = HasExtension style path answer ⊎ (Lacks
 IsAnswer style Normalize path answer = IsNormalized style path answer
 IsAnswer style Clean path answer = IsCleaned style path answer
 IsAnswer style (Join base) path answer = IsJoin style base.now path answer
+IsAnswer style (JoinChecked base) path answer = IsJoinedBelow style base.now path answer
 IsAnswer style (Relative base) path answer = IsRelativeFrom style path base.now (Some answer)
 IsAnswer style (Convert to) path answer = (strings to).well_formed answer × IsRestyled style (style_of to) path answer
 
@@ -79,14 +117,25 @@ abbrev pub IsUnconverted : Style → Style → (List ℕ → EncodingError → T
 IsUnconverted from to is_fault path (refusal.NoString error) = ⊥
 IsUnconverted from to is_fault path refusal.NoNormalForm = ⊥
 IsUnconverted from to is_fault path refusal.NoRelativePath = ⊥
+IsUnconverted from to is_fault path (refusal.NoJoin error) = ⊥
 IsUnconverted from to is_fault path (refusal.NoComponent index) = IsConvertFault from to is_fault path (convert.Component index)
 IsUnconverted from to is_fault path (refusal.NoStringThere error) = IsConvertFault from to is_fault path (convert.Encoding error)
+
+-- why a path isn't joined to the base, and that isn't that memory was refused
+abbrev pub IsUnjoined : Style → List ℕ → List ℕ → Refusal → Type 0
+IsUnjoined style base path (refusal.NoString error) = ⊥
+IsUnjoined style base path refusal.NoNormalForm = ⊥
+IsUnjoined style base path refusal.NoRelativePath = ⊥
+IsUnjoined style base path (refusal.NoJoin error) = (error ≢ join.Memory) × IsJoinFault style base path error
+IsUnjoined style base path (refusal.NoComponent index) = ⊥
+IsUnjoined style base path (refusal.NoStringThere error) = ⊥
 
 -- why there is no result for a string of the platform
 abbrev pub IsUnanswered : Style → Task → List ℕ → Refusal → Type 0
 IsUnanswered style task path (refusal.NoString error) = ⊥
 IsUnanswered style task path refusal.NoNormalForm = (task ≡ Normalize) × HasNoNormalForm style path
 IsUnanswered style task path refusal.NoRelativePath = (base : Bor (List ℕ)) × ((task ≡ Relative base) × IsRelativeFrom style path base.now None)
+IsUnanswered style task path (refusal.NoJoin error) = (base : Bor (List ℕ)) × ((task ≡ JoinChecked base) × IsUnjoined style base.now path (refusal.NoJoin error))
 IsUnanswered style task path (refusal.NoComponent index) = (to : Os) × ((task ≡ Convert to) × IsUnconverted style (style_of to) (strings to).first_fault path (refusal.NoComponent index))
 IsUnanswered style task path (refusal.NoStringThere error) = (to : Os) × ((task ≡ Convert to) × IsUnconverted style (style_of to) (strings to).first_fault path (refusal.NoStringThere error))
 
@@ -122,6 +171,7 @@ module _ {E : Type 0} (p : Ghosts E) (style : Style) where
   IsRefusal task path (refusal.NoString error) = p.first_fault path error
   IsRefusal task path refusal.NoNormalForm = IsUnanswered style task path refusal.NoNormalForm
   IsRefusal task path refusal.NoRelativePath = IsUnanswered style task path refusal.NoRelativePath
+  IsRefusal task path (refusal.NoJoin error) = IsUnanswered style task path (refusal.NoJoin error)
   IsRefusal task path (refusal.NoComponent index) = IsUnanswered style task path (refusal.NoComponent index)
   IsRefusal task path (refusal.NoStringThere error) = IsUnanswered style task path (refusal.NoStringThere error)
 

@@ -1,62 +1,255 @@
-//! Commands, and the arguments that make them up.
-ghost use Rattle.std.specs.Prelude.{◌≡◌, ◌≢◌, IfOk, OnErr, map, string_bytes};
-ghost use Rattle.paths_commands.specs.declared.command.Command.{Command};
-ghost use Rattle.paths_commands.specs.Command.{words_of};
+//! Commands, and the options and operands that make them up.
+ghost use Rattle.std.specs.Prelude.{◌≡◌, ◌≢◌, ◌↔◌, ◌∷◌, [], true, false, IfErr, IfOk, MatchOption, OnErr};
+ghost use Rattle.program_frame.specs.Arguments.{HasOption, operands_of};
+ghost use Rattle.paths_commands.specs.Command.{AsksFor, HasOperands, IsMisuse, IsOfPaths, IsSurplus, IsTaskOf, RequestsNothing};
+ghost use Rattle.paths_commands.specs.Task.{IsChecked, name_of, name_word, operands_of_task};
+ghost use Rattle.paths_commands.specs.declared.command.Name.{Name as DeclaredName};
+ghost use Rattle.paths_commands.specs.declared.command.Name.TheVariants.{Join as JoinName};
+ghost use Rattle.paths_commands.specs.declared.option.PathsOption.TheVariants.{Checked};
 
-use crate::fault::Usage;
+use crate::option::PathsOption;
 use crate::task::Task;
+use os_args::Word;
+use os_str_bytes::OsStr;
+use program_frame::arguments::{Given, has, next_operand};
+use program_frame::misuse::Misuse;
 use program_frame::os::Os;
+
+/// Options and operands, as they were given.
+pub type Line<'s, 'a> = &'s [Given<'a, PathsOption>];
 
 /// What the program does.
 #[derive(Clone, Copy, PartialEq, Eq)]
 pub enum Command<'a> {
-    /// Reads paths of the platform, each ended by NUL, and writes the result for each.
-    Ask(Task<'a>, Os),
+    /// Reads paths of the platform, each ended by NUL, and writes the result for each. The last
+    /// field is whether paths that are refused are passed over.
+    Ask(Task<'a>, Os, bool),
     /// `--help`: writes what the commands are.
     Help,
+    /// `--version`: writes the version.
+    Version,
 }
 
 impl<'a> Command<'a> {
-    /// Parses the arguments after the program's name, and nothing else, as a command. It takes no
-    /// memory.
+    /// The command that options and operands make up. It doesn't allocate.
+    ///
+    /// `--help` and `--version` are commands wherever they stand. Otherwise the operands are a
+    /// command, a platform and, for `join`, `relative` and `convert`, one more. Options stand
+    /// anywhere: `--keep-going`, and `--checked` for `join`.
     ///
     /// # Errors
     ///
-    /// [`Usage`] for all other words.
+    /// What is wrong: something is missing, a word is invalid, `--checked` isn't for the command, or
+    /// an operand is one too many.
     ///
     /// ```
     /// use paths_commands::command::Command;
+    /// use paths_commands::option::PathsOption;
     /// use paths_commands::task::Task;
+    /// use program_frame::arguments::Given;
     /// use program_frame::os::Os;
     ///
-    /// let mut words = Vec::new(alloc);
-    /// for word in ["parent", "unix"] {
-    ///     words.push(String::from_str(alloc, word)?)?;
-    /// }
-    /// assert!(rt; Command::parse(&words) == Ok(Command::Ask(Task::Parent, Os::Unix)));
-    /// assert!(rt; Command::parse(&words[..1]).is_err());
+    /// let going = Given::Flag(PathsOption::KeepGoing);
+    /// let given = [Given::Operand("parent"), going, Given::Operand("unix")];
+    /// let Ok(command) = Command::parse(&given) else { return Ok(()) };
+    /// assert!(rt; command == Command::Ask(Task::Parent, Os::Unix, true));
+    /// let Err(error) = Command::parse(&given[..1]) else { return Ok(()) };
+    /// let text = "missing platform (unix, windows or wasm)";
+    /// assert_eq!(rt; format!(in alloc; "{error}")?.as_str(), text);
     /// ```
-    pub fn parse(words: &'a [String]) -> Result<Command<'a>, Usage>
-        ensures command { IfOk result (λ command. map string_bytes words.now ≡ words_of command) }
-        ensures no_command { OnErr result ((command : Command)
-            → map string_bytes words.now ≢ words_of command) }
+    #[tactic(auto, using(crate::proofs::lemmas::NeverBoth::never_both))]
+    pub fn parse(given: Line<'_, 'a>) -> Result<Command<'a>, Misuse<'a>>
+        ensures command { IfOk result (λ command. AsksFor given.entry.now command) }
+        ensures misuse { IfErr result (λ misuse. IsMisuse given.entry.now misuse) }
+        ensures no_command { OnErr result (RequestsNothing given.entry.now) }
     {
-        match words {
-            [name] => match name.as_str() {
-                "--help" => Ok(Command::Help),
-                _ => Err(Usage),
-            },
-            [name, os] => {
-                let task = Task::named(name.as_str()).ok_or(Usage)?;
-                let os = Os::named(os.as_str()).ok_or(Usage)?;
-                Ok(Command::Ask(task, os))
-            }
-            [name, os, operand] => {
-                let task = Task::with_operand(name.as_str(), operand.as_str()).ok_or(Usage)?;
-                let os = Os::named(os.as_str()).ok_or(Usage)?;
-                Ok(Command::Ask(task, os))
-            }
-            _ => Err(Usage),
+        if has(given, PathsOption::Help) {
+            return Ok(Command::Help);
+        }
+        if has(given, PathsOption::Version) {
+            return Ok(Command::Version);
+        }
+        match question(given) {
+            Ok(command) => Ok(command),
+            Err(misuse) => Err(misuse),
         }
     }
+}
+
+/// The command for paths that options and operands make up, if neither help nor the version is
+/// requested.
+fn question<'a>(given: Line<'_, 'a>) -> Result<Command<'a>, Misuse<'a>>
+    requires { IsOfPaths given.now }
+    ensures command { IfOk result (λ command. AsksFor given.entry.now command) }
+    ensures misuse { IfErr result (λ misuse. IsMisuse given.entry.now misuse) }
+{
+    let Some((word, after)) = next_operand(given) else {
+        return Err(Misuse::Missing("command"));
+    };
+    let Some(name) = Name::named(word) else {
+        return Err(Misuse::Invalid("command", word));
+    };
+    let Some((platform, more)) = next_operand(after) else {
+        return Err(Misuse::Missing("platform (unix, windows or wasm)"));
+    };
+    let Some(os) = Os::named(platform) else {
+        return Err(Misuse::Invalid("platform", platform));
+    };
+    match task_of(given, name, os, more) {
+        Ok(task) => Ok(Command::Ask(task, os, has(given, PathsOption::KeepGoing))),
+        Err(misuse) => Err(misuse),
+    }
+}
+
+/// The name of a task.
+#[derive(Clone, Copy, PartialEq, Eq)]
+pub enum Name {
+    /// `components`.
+    Components,
+    /// `parent`.
+    Parent,
+    /// `name`.
+    Name,
+    /// `stem`.
+    Stem,
+    /// `extension`.
+    Extension,
+    /// `normalize`.
+    Normalize,
+    /// `clean`.
+    Clean,
+    /// `join`.
+    Join,
+    /// `relative`.
+    Relative,
+    /// `convert`.
+    Convert,
+}
+
+impl Name {
+    /// The name that this word is.
+    fn named(word: &str) -> Option<Name>
+        ensures { MatchOption result ((name : DeclaredName) → word.now ≢ name_word name)
+            (λ name. word.now ≡ name_word name) }
+    {
+        match word {
+            "components" => Some(Name::Components),
+            "parent" => Some(Name::Parent),
+            "name" => Some(Name::Name),
+            "stem" => Some(Name::Stem),
+            "extension" => Some(Name::Extension),
+            "normalize" => Some(Name::Normalize),
+            "clean" => Some(Name::Clean),
+            "join" => Some(Name::Join),
+            "relative" => Some(Name::Relative),
+            "convert" => Some(Name::Convert),
+            _ => None,
+        }
+    }
+
+    /// The word.
+    fn word(self) -> &'static str
+        ensures { result.now ≡ name_word self }
+    {
+        match self {
+            Name::Components => "components",
+            Name::Parent => "parent",
+            Name::Name => "name",
+            Name::Stem => "stem",
+            Name::Extension => "extension",
+            Name::Normalize => "normalize",
+            Name::Clean => "clean",
+            Name::Join => "join",
+            Name::Relative => "relative",
+            Name::Convert => "convert",
+        }
+    }
+}
+
+/// The task of this name with the operands of `more`.
+fn task_of<'a>(
+    given: Line<'_, 'a>,
+    name: Name,
+    os: Os,
+    more: Line<'_, 'a>,
+) -> Result<Task<'a>, Misuse<'a>>
+    requires { HasOperands given.now name os (operands_of more.now) }
+    ensures task { IfOk result (λ task. (name_of task ≡ name)
+        × ((IsChecked task ↔ HasOption Checked given.entry.now)
+        × (operands_of more.entry.now ≡ operands_of_task task))) }
+    ensures misuse { IfErr result (λ misuse. IsMisuse given.entry.now misuse) }
+{
+    let is_checked = has(given, PathsOption::Checked);
+    if is_checked && name != Name::Join {
+        return Err(Misuse::Misplaced("--checked", name.word()));
+    }
+    match next_operand(more) {
+        None => without_operand(given, name, os),
+        Some((operand, rest)) => match next_operand(rest) {
+            None => with_operand(given, name, is_checked, os, operand),
+            Some((word, _)) => Err(surplus(word)),
+        },
+    }
+}
+
+/// The task of this name without an operand, which isn't checked.
+fn without_operand<'a>(given: Line<'_, 'a>, name: Name, os: Os) -> Result<Task<'a>, Misuse<'a>>
+    requires { HasOperands given.now name os [] }
+    ensures task { IfOk result (λ task. IsTaskOf name false [] task) }
+    ensures misuse { IfErr result (λ misuse. IsMisuse given.entry.now misuse) }
+{
+    match name {
+        Name::Components => Ok(Task::Components),
+        Name::Parent => Ok(Task::Parent),
+        Name::Name => Ok(Task::Name),
+        Name::Stem => Ok(Task::Stem),
+        Name::Extension => Ok(Task::Extension),
+        Name::Normalize => Ok(Task::Normalize),
+        Name::Clean => Ok(Task::Clean),
+        Name::Join | Name::Relative => Err(Misuse::Missing("BASE")),
+        Name::Convert => Err(Misuse::Missing("platform to convert to")),
+    }
+}
+
+/// The task of this name with an operand. Only `join` is checked.
+#[tactic(auto, using(crate::proofs::lemmas::Surplus::surplus_unneeded))]
+fn with_operand<'a>(
+    given: Line<'_, 'a>,
+    name: Name,
+    is_checked: bool,
+    os: Os,
+    operand: &'a str,
+) -> Result<Task<'a>, Misuse<'a>>
+    requires operands { HasOperands given.now name os (operand.now ∷ []) }
+    requires join { is_checked ≡ true → name ≡ JoinName }
+    ensures task { IfOk result (λ task. IsTaskOf name is_checked (operand.now ∷ []) task) }
+    ensures misuse { IfErr result (λ misuse. IsMisuse given.entry.now misuse) }
+{
+    match name {
+        Name::Join => {
+            if is_checked {
+                return Ok(Task::JoinChecked(operand));
+            }
+            Ok(Task::Join(operand))
+        }
+        Name::Relative => Ok(Task::Relative(operand)),
+        Name::Convert => match Os::named(operand) {
+            Some(to) => Ok(Task::Convert(to)),
+            None => Err(Misuse::Invalid("platform", operand)),
+        },
+        Name::Components
+        | Name::Parent
+        | Name::Name
+        | Name::Stem
+        | Name::Extension
+        | Name::Normalize
+        | Name::Clean => Err(surplus(operand)),
+    }
+}
+
+/// The error for an operand too many.
+fn surplus<'a>(word: &'a str) -> Misuse<'a>
+    ensures { IsSurplus word.now result }
+{
+    Misuse::Argument(Word::Value(OsStr::new(word)).unexpected())
 }

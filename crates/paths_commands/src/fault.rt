@@ -1,12 +1,15 @@
 //! What keeps the program from its output.
+ghost use Rattle.paths_commands.specs.Fault.{IsOfMisuse};
 
+use os_path::JoinError;
 use os_str_bytes::EncodingError;
 use program_frame::fault::write_number;
 use program_frame::lists::fault::ItemRefusal;
 use program_frame::lists::program_fault;
 use program_frame::lists::program_fault::WordsRefusal;
+use program_frame::misuse::Misuse;
 use std::fmt;
-use std::fmt::Display as _;
+use std::fmt::{Display as _, InlineText};
 
 /// Why a path is refused.
 #[derive(Clone, Copy, PartialEq, Eq)]
@@ -17,18 +20,48 @@ pub enum Refusal {
     NoNormalForm,
     /// No path leads to it from the base.
     NoRelativePath,
+    /// It isn't joined to the base, for this reason, which is never that memory was refused.
+    NoJoin(JoinError),
     /// The other platform's paths can't have the component at this index, the first such.
     NoComponent(usize),
     /// The bytes with its components aren't a string of the other platform: their first fault.
     NoStringThere(EncodingError),
 }
 
-/// The arguments make up no command.
-#[derive(Clone, Copy, PartialEq, Eq)]
-pub struct Usage;
+/// How many bytes the text of a misuse may have; a longer one is cut, and ends in three dots.
+pub const ROOM: usize = 400;
 
-/// The reason why a run of the program ended before its input did.
-pub type Fault = program_fault::Fault<Refusal, Usage>;
+/// Why the program ends, beside what [`ListFault`](program_frame::lists::fault::ListFault) states.
+#[derive(Clone, Copy)]
+pub enum CommandFault {
+    /// The arguments aren't available: one of them isn't valid UTF-8.
+    Unreadable,
+    /// They request nothing that the program does: what is wrong with them.
+    Misuse(InlineText<ROOM>),
+    /// As many paths as this were refused and passed over.
+    PassedOver(u64),
+}
+
+impl CommandFault {
+    /// The fault for a misuse of the arguments.
+    ///
+    /// ```
+    /// use paths_commands::fault::{CommandFault, Fault};
+    /// use program_frame::misuse::Misuse;
+    ///
+    /// let fault: Fault = Fault::Words(CommandFault::of(Misuse::Missing("BASE")));
+    /// let text = "missing BASE; paths --help lists the commands";
+    /// assert_eq!(rt; fault.to_string(alloc)?.as_str(), text);
+    /// ```
+    pub fn of(misuse: Misuse<'_>) -> CommandFault
+        ensures { IsOfMisuse misuse.entry result }
+    {
+        CommandFault::Misuse(InlineText::of(misuse))
+    }
+}
+
+/// The reason why a run of the program ended before its input did, or that paths were passed over.
+pub type Fault = program_fault::Fault<Refusal, CommandFault>;
 
 impl ItemRefusal for Refusal {
     ghost use Rattle.std.specs.Prelude.{codes};
@@ -47,6 +80,7 @@ impl ItemRefusal for Refusal {
             Refusal::NoString(error) => error.fmt(f),
             Refusal::NoNormalForm => f.write_str("no name before a .."),
             Refusal::NoRelativePath => f.write_str("no path from the base leads there"),
+            Refusal::NoJoin(error) => error.fmt(f),
             Refusal::NoComponent(index) => {
                 f.write_str("no path there can have the component at index ")?;
                 write_number(index, f)
@@ -59,26 +93,38 @@ impl ItemRefusal for Refusal {
     }
 }
 
-impl WordsRefusal for Usage {
-    ghost use Rattle.paths_commands.specs.Fault.{usage, usage_text};
+impl WordsRefusal for CommandFault {
+    ghost use Rattle.paths_commands.specs.Fault.{words_status, words_text};
+    ghost use Rattle.paths_commands.specs.declared.fault.CommandFault.{CommandFault};
 
-    ghost usage = { usage };
+    ghost usage = { CommandFault.Unreadable };
 
-    ghost text_of = { λ _. usage_text };
+    ghost text_of = { words_text };
 
-    ghost status_of = { λ _. 2 };
+    ghost status_of = { words_status };
 
-    fn usage() -> Usage {
-        Usage
+    fn usage() -> CommandFault {
+        CommandFault::Unreadable
     }
 
     fn status(&self) -> u8 {
-        2
+        match self {
+            CommandFault::Unreadable | CommandFault::Misuse(_) => 2,
+            CommandFault::PassedOver(_) => 1,
+        }
     }
 
     fn write<W: fmt::Write>(&self, f: &mut fmt::Formatter<W>) -> fmt::Result {
-        f.write_str(
-            "usage: paths components|parent|name|stem|extension|normalize|clean|join|relative|convert unix|windows|wasm [BASE|PLATFORM]; paths --help tells more",
-        )
+        match self {
+            CommandFault::Unreadable => f.write_str("an argument isn't valid UTF-8"),
+            CommandFault::Misuse(text) => {
+                f.write_str(text.as_str())?;
+                f.write_str("; paths --help lists the commands")
+            }
+            CommandFault::PassedOver(count) => {
+                f.write_str("refused paths: ")?;
+                write_number(*count as usize, f)
+            }
+        }
     }
 }

@@ -1,24 +1,25 @@
 //! What is written for one path.
-ghost use Rattle.std.specs.Prelude.{◌≡◌, ◌⊎◌, ◌∷◌, ◌++◌, [], ℕ, List, Some, None, OnOk, OnErr, IfErr};
+ghost use Rattle.std.specs.Prelude.{◌≡◌, ◌≢◌, ◌⊎◌, ◌∷◌, ◌++◌, [], ℕ, List, Some, None, OnOk, OnErr, IfErr};
 ghost use Rattle.program_frame.specs.declared.lists.fault.ItemFault.TheVariants.{Refused, Memory};
 ghost use Rattle.path_building.specs.Cleaned.{IsCleaned};
 ghost use Rattle.path_building.specs.Join.{IsJoin};
 ghost use Rattle.path_building.specs.Normalized.{IsNormalized, HasNoNormalForm};
 ghost use Rattle.path_building.specs.Relative.{IsRelativeFrom};
 ghost use Rattle.path_building.specs.Restyled.{IsRestyled};
+ghost use Rattle.path_building.specs.declared.checked.JoinError.TheVariants as join_error;
 ghost use Rattle.paths_commands.specs.declared.fault.Refusal as why;
-ghost use Rattle.paths_commands.specs.declared.fault.Refusal.TheVariants.{NoNormalForm, NoRelativePath};
+ghost use Rattle.paths_commands.specs.declared.fault.Refusal.TheVariants.{NoJoin, NoNormalForm, NoRelativePath};
 ghost use Rattle.program_frame.specs.Rules.{IsItemFault};
 ghost use Rattle.program_frame.specs.Strings.{strings};
 ghost use Rattle.paths_commands.specs.Styles.{style_of};
-ghost use Rattle.paths_commands.specs.Task.{rules_of, IsText, IsPathText, IsComponentsText, IsUnanswered, IsUnconverted};
+ghost use Rattle.paths_commands.specs.Task.{rules_of, IsText, IsPathText, IsComponentsText, IsJoinedBelow, IsUnanswered, IsUnconverted, IsUnjoined};
 ghost use Rattle.platform_str.specs.Strings.{path_bytes};
 
 use crate::answers::{parent, part};
 use crate::components::push_components;
 use crate::fault::Refusal;
 use crate::task::Task;
-use os_path::{ConvertError, NormalizeError, PathExt, PathStyle};
+use os_path::{ConvertError, JoinError, NormalizeError, PathExt, PathStyle};
 use os_str_bytes::{OsStr, Path, Platform, Unix, Wasm, Windows};
 use program_frame::lists::fault::ItemFault;
 use program_frame::lists::items::push_ended;
@@ -68,6 +69,7 @@ fn write_path<E: PathStyle, A: Allocator + Copy>(
         Task::Normalize => write_normal::<E, A>(alloc, path, output),
         Task::Clean => write_clean::<E, A>(alloc, path, output),
         Task::Join(base) => write_joined::<E, A>(alloc, base, path, output),
+        Task::JoinChecked(base) => write_checked::<E, A>(alloc, base, path, output),
         Task::Relative(base) => write_relative::<E, A>(alloc, base, path, output),
         Task::Convert(to) => write_on::<E, A>(alloc, to, path, output),
     }
@@ -145,6 +147,37 @@ fn write_joined<E: PathStyle, A: Allocator + Copy>(
     match Path::new(OsStr::new(base)).join(alloc, path) {
         Ok(joined) => write_answer(joined.as_os_str().as_encoded_bytes(), output),
         Err(_) => Err(ItemFault::Memory),
+    }
+}
+
+/// Appends a path below a base, and NUL.
+fn write_checked<E: PathStyle, A: Allocator + Copy>(
+    alloc: A,
+    base: &str,
+    path: Path<'_, E>,
+    output: &mut Vec<u8, A>,
+) -> Result<(), ItemFault<Refusal>>
+    ensures ok { OnOk result ((joined : List ℕ)
+        × (IsJoinedBelow E.follows base.now (path_bytes path.entry) joined
+        × (output.new.items ≡ output.old.items ++ (joined ++ 0 ∷ [])))) }
+    ensures fault { IfErr result (λ fault. (fault ≡ Memory) ⊎ ((why : why.Refusal)
+        × ((fault ≡ Refused why) × IsUnjoined E.follows base.now (path_bytes path.entry) why))) }
+    ensures unchanged { OnErr result (output.new.items ≡ output.old.items) }
+{
+    match Path::new(OsStr::new(base)).join_checked(alloc, path) {
+        Ok(joined) => write_answer(joined.as_os_str().as_encoded_bytes(), output),
+        Err(error) => Err(unjoined(error)),
+    }
+}
+
+/// The fault of a path that isn't joined to a base.
+fn unjoined(error: JoinError) -> ItemFault<Refusal>
+    ensures { (result ≡ Memory)
+        ⊎ ((error ≢ join_error.Memory) × (result ≡ Refused (NoJoin error))) }
+{
+    match error {
+        JoinError::Memory => ItemFault::Memory,
+        reason => ItemFault::Refused(Refusal::NoJoin(reason)),
     }
 }
 

@@ -1,39 +1,63 @@
 //! The whole program, over ends of any kind.
-ghost use Rattle.std.specs.Prelude.{◌≡◌, ◌↔◌, true, false, Err};
-ghost use Rattle.program_frame.specs.Marked.{marked_inner, has_failed};
-ghost use Rattle.program_frame.specs.Strings.{strings};
-ghost use Rattle.program_frame.specs.declared.fault.Failure.{Failure};
-ghost use Rattle.program_frame.specs.declared.lists.fault.ListFault.{ListFault};
-ghost use Rattle.program_frame.specs.declared.lists.program_fault.Fault.{Fault};
-ghost use Rattle.program_frame.specs.declared.lists.program_fault.Fault.TheVariants.{List as OfList};
+ghost use Rattle.std.specs.Prelude.{◌≡◌, false, IfErr};
 ghost use Rattle.program_frame.specs.ListRun.{Runs};
-ghost use Rattle.paths_commands.specs.Program.{Does};
-ghost use Rattle.paths_commands.specs.Command.{longest_path};
-ghost use Rattle.paths_commands.specs.Styles.{style_of};
-ghost use Rattle.paths_commands.specs.Task.{rules_of};
+ghost use Rattle.program_frame.specs.Marked.{marked_inner, has_failed};
+ghost use Rattle.program_frame.specs.ProgramFault.{BlamesEnds, EndsRunOf};
+ghost use Rattle.program_frame.specs.Rules.{passing};
+ghost use Rattle.program_frame.specs.declared.lists.program_fault.Fault.TheVariants.{List as OfList};
+ghost use Rattle.paths_commands.specs.Program.{Does, IsAfter, RunsLine, RunsPast, rules_on};
 
 use crate::command::Command;
-use crate::fault::{Fault, Refusal, Usage};
+use crate::fault::{CommandFault, Fault, Refusal};
+use crate::help::{HELP, VERSION};
+use crate::option::PathsOption;
 use crate::task::{OnPlatform, Task};
 use os_str_bytes::{Unix, Wasm, Windows};
-use program_frame::lists::answers::{run_list, write_help};
+use program_frame::arguments::{Given, ReadFault, read_arguments};
+use program_frame::fault::Failure;
+use program_frame::lists::answers::{run_list_with, write_help};
+use program_frame::lists::fault::ListFault;
 use program_frame::lists::program::ListProgram;
+use program_frame::lists::refusals::{KeepGoing, Refusals, Stop};
 use program_frame::marked::Marked;
+use program_frame::misuse::Misuse;
 use program_frame::os::Os;
 use std::alloc::Allocator;
-use std::io::{Read, Write};
+use std::io::{Eprint, Read, Write};
 
 /// How many bytes a path may have.
 const LONGEST_PATH: usize = 0x10_0000;
 
-/// The program `paths`: its words are those of a command ([`Command::parse`]).
+/// The program `paths`: its arguments are those of a command ([`Command::parse`]).
 /// [`program_frame::lists::program::execute`] runs it.
-pub struct Paths;
+#[derive(Drop)]
+pub struct Paths<'a, P> {
+    errors: &'a P,
+}
 
-impl ListProgram for Paths {
+impl<'a, P: Eprint> Paths<'a, P> {
+    /// The program. With `--keep-going` it prints a line to `errors` for each path that is refused.
+    ///
+    /// ```
+    /// use paths_commands::fault::{CommandFault, Fault};
+    /// use paths_commands::program::Paths;
+    /// use program_frame::lists::program::ListProgram;
+    /// use program_frame::marked::Marked;
+    ///
+    /// let mut taken = Vec::new(alloc);
+    /// let (mut reader, mut writer) = (Marked::new(b"a".as_slice()), Marked::new(&mut taken));
+    /// let ended = Paths::new(&rt).run_words(alloc, &[], &mut reader, &mut writer);
+    /// assert!(rt; matches!(ended, Err(Fault::Words(CommandFault::Misuse(_)))));
+    /// ```
+    pub fn new(errors: &'a P) -> Paths<'a, P> {
+        Paths { errors }
+    }
+}
+
+impl<'a, P: Eprint> ListProgram for Paths<'a, P> {
     type Refusal = Refusal;
 
-    type Words = Usage;
+    type Words = CommandFault;
 
     ghost use Rattle.std.specs.Prelude.{codes};
     ghost use Rattle.paths_commands.specs.Program.{RunsTo};
@@ -53,16 +77,41 @@ impl ListProgram for Paths {
         reader: &mut Marked<R>,
         writer: &mut Marked<W>,
     ) -> Result<(), Fault> {
-        match Command::parse(words) {
-            Ok(command) => run_command(alloc, command, reader, writer),
-            Err(usage) => Err(Fault::Words(usage)),
+        match read_arguments::<PathsOption, A>(alloc, words) {
+            Ok(given) => run_line(alloc, self.errors, &given, reader, writer),
+            Err(ReadFault::Misuse(error)) => {
+                Err(Fault::Words(CommandFault::of(Misuse::Argument(error))))
+            }
+            Err(ReadFault::Memory) => Err(Fault::List(ListFault::Run(Failure::Memory))),
         }
     }
 }
 
-/// Returns the result of the run of a command.
-fn run_command<A: Allocator, R: Read, W: Write>(
+/// Returns the result for options and operands.
+fn run_line<P: Eprint, A: Allocator + Copy, R: Read, W: Write>(
     alloc: A,
+    errors: &P,
+    given: &[Given<'_, PathsOption>],
+    reader: &mut Marked<R>,
+    writer: &mut Marked<W>,
+) -> Result<(), Fault>
+    requires reader_unmarked { has_failed reader.old ≡ false }
+    requires writer_unmarked { has_failed writer.old ≡ false }
+    ensures run { RunsLine given.now (R.remaining (marked_inner reader.old))
+        (R.remaining (marked_inner reader.new)) (W.contents (marked_inner writer.old))
+        (W.contents (marked_inner writer.new)) result }
+    ensures ends { BlamesEnds result (has_failed reader.new) (has_failed writer.new) }
+{
+    match Command::parse(given) {
+        Ok(command) => run_command(alloc, errors, command, reader, writer),
+        Err(misuse) => Err(Fault::Words(CommandFault::of(misuse))),
+    }
+}
+
+/// Returns the result of the run of a command.
+fn run_command<P: Eprint, A: Allocator, R: Read, W: Write>(
+    alloc: A,
+    errors: &P,
     command: Command<'_>,
     reader: &mut Marked<R>,
     writer: &mut Marked<W>,
@@ -72,22 +121,18 @@ fn run_command<A: Allocator, R: Read, W: Write>(
     ensures run { Does command.entry (R.remaining (marked_inner reader.old))
         (R.remaining (marked_inner reader.new)) (W.contents (marked_inner writer.old))
         (W.contents (marked_inner writer.new)) result }
-    ensures read { (result ≡ Err (Fault.List (ListFault.Run Failure.Read)))
-        ↔ (has_failed reader.new ≡ true) }
-    ensures write { (result ≡ Err (Fault.List (ListFault.Run Failure.Write)))
-        ↔ (has_failed writer.new ≡ true) }
+    ensures ends { BlamesEnds result (has_failed reader.new) (has_failed writer.new) }
 {
     match command {
-        Command::Ask(task, os) => run_on(alloc, os, task, reader, writer),
-        Command::Help => write_help(
-            "paths: lists of paths, taken apart path by path\n\npaths components unix|windows|wasm  paths ended by NUL in, the escape of each component out, one a line,\n                                    and an empty line after those of a path\npaths parent     unix|windows|wasm  paths ended by NUL in, each without its last component out, ended by NUL\npaths name       unix|windows|wasm  the last component, where that is a name\npaths stem       unix|windows|wasm  that name without its extension\npaths extension  unix|windows|wasm  the extension of that name\npaths normalize  unix|windows|wasm  paths in, their normal forms out: .. takes the name before it away,\n                                    and a path with a .. that has none is refused\npaths clean      unix|windows|wasm  the same, where such a .. stays, or goes at a root, and nothing is .\npaths join       .. BASE            paths in, each after BASE out: one with a root or a prefix replaces it\npaths relative   .. BASE            paths in, each as it is reached from BASE out, and one that no path leads\n                                    to is refused\npaths convert    .. PLATFORM        paths in, paths of that platform with their components out, and one with a\n                                    component that it can't have is refused\npaths --help                        this text\n\nEach path has one answer, which is empty where it has no such part. The last path may lack its NUL. A path\nhas at most 1048576 bytes.\n\nThe answers are those of Rust's std::path: empty parts and . name nothing, but for a . at the start, and ..\nis resolved by normalize and clean alone. An extension comes after the last dot of a name, if that isn't\nits first byte. On windows / and \\ separate, and a path may begin with a prefix: C:, \\\\server\\share,\n\\\\?\\C:, \\\\?\\UNC\\server\\share, \\\\?\\name or \\\\.\\name.\n\nStatus: 0, or 1 where a path is refused, 2 for other words, 3 where memory is refused, 4 where a read or\nwrite fails. The first refused path is told with its number, from 1.\n",
-            writer,
-        ),
+        Command::Ask(task, os, true) => run_past(alloc, errors, os, task, reader, writer),
+        Command::Ask(task, os, false) => run_to_refusal(alloc, os, task, reader, writer),
+        Command::Help => write_help(HELP, writer),
+        Command::Version => write_help(VERSION, writer),
     }
 }
 
-/// Returns the result of the run on a platform.
-fn run_on<A: Allocator, R: Read, W: Write>(
+/// Returns the result of the run that ends at the first path that is refused.
+fn run_to_refusal<A: Allocator, R: Read, W: Write>(
     alloc: A,
     os: Os,
     task: Task<'_>,
@@ -96,30 +141,86 @@ fn run_on<A: Allocator, R: Read, W: Write>(
 ) -> Result<(), Fault>
     requires reader_unmarked { has_failed reader.old ≡ false }
     requires writer_unmarked { has_failed writer.old ≡ false }
-    ensures run { Runs (rules_of (strings os) (style_of os) task.entry longest_path) OfList
+    ensures run { Runs (rules_on os task.entry) OfList
         (R.remaining (marked_inner reader.old)) (R.remaining (marked_inner reader.new))
         (W.contents (marked_inner writer.old)) (W.contents (marked_inner writer.new)) result }
-    ensures read { (result ≡ Err (Fault.List (ListFault.Run Failure.Read)))
-        ↔ (has_failed reader.new ≡ true) }
-    ensures write { (result ≡ Err (Fault.List (ListFault.Run Failure.Write)))
-        ↔ (has_failed writer.new ≡ true) }
+    ensures ends { BlamesEnds result (has_failed reader.new) (has_failed writer.new) }
+{
+    run_on(alloc, os, task, &mut Stop, reader, writer)
+}
+
+/// Returns the result of the run that passes over the paths that are refused.
+fn run_past<P: Eprint, A: Allocator, R: Read, W: Write>(
+    alloc: A,
+    errors: &P,
+    os: Os,
+    task: Task<'_>,
+    reader: &mut Marked<R>,
+    writer: &mut Marked<W>,
+) -> Result<(), Fault>
+    requires reader_unmarked { has_failed reader.old ≡ false }
+    requires writer_unmarked { has_failed writer.old ≡ false }
+    ensures run { RunsPast (rules_on os task.entry)
+        (R.remaining (marked_inner reader.old)) (R.remaining (marked_inner reader.new))
+        (W.contents (marked_inner writer.old)) (W.contents (marked_inner writer.new)) result }
+    ensures ends { BlamesEnds result (has_failed reader.new) (has_failed writer.new) }
+{
+    let mut refusals = KeepGoing::new("paths", errors);
+    let ran = run_on(alloc, os, task, &mut refusals, reader, writer);
+    after(refusals.count(), ran)
+}
+
+/// The result of a run that has passed over this number of paths.
+fn after(count: u64, ran: Result<(), Fault>) -> Result<(), Fault>
+    ensures { IsAfter count ran result }
+{
+    match ran {
+        Ok(()) => {
+            if count == 0 {
+                return Ok(());
+            }
+            Err(Fault::Words(CommandFault::PassedOver(count)))
+        }
+        Err(fault) => Err(fault),
+    }
+}
+
+/// Returns the result of the run on a platform.
+fn run_on<N: Refusals<Refusal>, A: Allocator, R: Read, W: Write>(
+    alloc: A,
+    os: Os,
+    task: Task<'_>,
+    refusals: &mut N,
+    reader: &mut Marked<R>,
+    writer: &mut Marked<W>,
+) -> Result<(), Fault>
+    requires reader_unmarked { has_failed reader.old ≡ false }
+    requires writer_unmarked { has_failed writer.old ≡ false }
+    ensures run { Runs (passing (N.passed refusals.new) (rules_on os task.entry)) OfList
+        (R.remaining (marked_inner reader.old)) (R.remaining (marked_inner reader.new))
+        (W.contents (marked_inner writer.old)) (W.contents (marked_inner writer.new)) result }
+    ensures stops { IfErr result (λ fault. EndsRunOf N.stops fault) }
+    ensures ends { BlamesEnds result (has_failed reader.new) (has_failed writer.new) }
 {
     match os {
-        Os::Unix => run_list(
+        Os::Unix => run_list_with(
             alloc,
             &OnPlatform::<Unix>::new(task, LONGEST_PATH),
+            refusals,
             reader,
             writer,
         ),
-        Os::Windows => run_list(
+        Os::Windows => run_list_with(
             alloc,
             &OnPlatform::<Windows>::new(task, LONGEST_PATH),
+            refusals,
             reader,
             writer,
         ),
-        Os::Wasm => run_list(
+        Os::Wasm => run_list_with(
             alloc,
             &OnPlatform::<Wasm>::new(task, LONGEST_PATH),
+            refusals,
             reader,
             writer,
         ),

@@ -1,7 +1,6 @@
 //! What the program writes for each path of the input.
-ghost use Rattle.std.specs.Prelude.{◌≡◌, ◌≢◌, ◌∷◌, [], IfSome, IfNone};
-ghost use Rattle.paths_commands.specs.Task.{rules_of, task_word, operands_of};
-ghost use Rattle.paths_commands.specs.declared.task.Task.{Task};
+ghost use Rattle.std.specs.Prelude.{◌≡◌};
+ghost use Rattle.paths_commands.specs.Task.{rules_of};
 
 use crate::fault::Refusal;
 use crate::item::write_item;
@@ -32,68 +31,15 @@ pub enum Task<'a> {
     Clean,
     /// The path after this base, as std's `Path::join`.
     Join(&'a str),
+    /// The path below this base, as typed-path's `join_checked`; one that could leave the base is
+    /// refused.
+    JoinChecked(&'a str),
     /// The path as it is reached from this base, as the crate pathdiff's `diff_paths`; one that no
     /// path leads to is refused.
     Relative(&'a str),
     /// The path of this platform with the same components; one with a component that the platform's
     /// paths can't have is refused.
     Convert(Os),
-}
-
-impl<'a> Task<'a> {
-    /// The question that this word names, without an operand.
-    ///
-    /// ```
-    /// use paths_commands::task::Task;
-    ///
-    /// assert!(rt; Task::named("stem") == Some(Task::Stem) && Task::named("prefix").is_none());
-    /// assert!(rt; Task::named("join").is_none());
-    /// ```
-    pub fn named(word: &str) -> Option<Task<'a>>
-        ensures some { IfSome result (λ task.
-            (word.now ≡ task_word task) × (operands_of task ≡ [])) }
-        ensures none { IfNone result ((task : Task)
-            → operands_of task ≡ [] → word.now ≢ task_word task) }
-    {
-        match word {
-            "components" => Some(Task::Components),
-            "parent" => Some(Task::Parent),
-            "name" => Some(Task::Name),
-            "stem" => Some(Task::Stem),
-            "extension" => Some(Task::Extension),
-            "normalize" => Some(Task::Normalize),
-            "clean" => Some(Task::Clean),
-            _ => None,
-        }
-    }
-
-    /// The question that this word names, with this operand.
-    ///
-    /// ```
-    /// use paths_commands::task::Task;
-    /// use program_frame::os::Os;
-    ///
-    /// assert!(rt; Task::with_operand("join", "/usr") == Some(Task::Join("/usr")));
-    /// assert!(rt; Task::with_operand("convert", "windows") == Some(Task::Convert(Os::Windows)));
-    /// assert!(rt; Task::with_operand("convert", "/usr").is_none());
-    /// assert!(rt; Task::with_operand("stem", "/usr").is_none());
-    /// ```
-    pub fn with_operand(word: &str, operand: &'a str) -> Option<Task<'a>>
-        ensures some { IfSome result (λ task.
-            (word.now ≡ task_word task) × (operands_of task ≡ operand.now ∷ [])) }
-        ensures none { IfNone result ((task : Task)
-            → operands_of task ≡ operand.now ∷ [] → word.now ≢ task_word task) }
-    {
-        match word {
-            "join" => Some(Task::Join(operand)),
-            "relative" => Some(Task::Relative(operand)),
-            "convert" => match Os::named(operand) {
-                Some(os) => Some(Task::Convert(os)),
-                None => None,
-            },
-            _ => None,
-        }
-    }
 }
 
 /// What the program writes for each path of a list of a platform, and how long a path may be.

@@ -9,8 +9,9 @@ use crate::ended::ProgramFault;
 use std::fmt::{InlineText, Write as _};
 use std::io::Write;
 
-/// How many bytes a message may have; the longest of the programs' has 133.
-const ROOM: usize = 160;
+/// How many bytes a message may have. The text of a program's fault has at most 400, and its name at
+/// most 7.
+const ROOM: usize = 512;
 
 /// Writes the message of a fault, and returns whether all of it was taken. Otherwise a beginning of
 /// it was. It doesn't allocate.

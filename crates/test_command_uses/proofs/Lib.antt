@@ -1,4 +1,5 @@
 pub mod KnownIgnore
 pub mod KnownNames
 pub mod KnownPaths
+pub mod Requested
 pub mod TurnsEnded

@@ -1,5 +1,5 @@
 //! Lists of paths: the arguments of commands, the result for one path, and one that is rejected.
-ghost use Rattle.std.specs.Prelude.{◌≡◌, ◌≢◌, ◌∷◌, ◌++◌, ◌⊎◌, [], ℕ, List, false, Some, IsOk, IfErr, OnOk, map, string_bytes};
+ghost use Rattle.std.specs.Prelude.{◌≡◌, ◌≢◌, ◌∷◌, ◌++◌, ◌⊎◌, [], ℕ, List, true, false, Some, IsOk, IfErr, OnOk};
 ghost use Rattle.std.specs.Io.KnownBytes.{Appends};
 ghost use Rattle.os_str_bytes.specs.EncodingError.{EncodingError};
 ghost use Rattle.path_building.specs.Join.{IsJoin};
@@ -9,33 +9,39 @@ ghost use Rattle.path_building.specs.Restyled.{IsRestyled};
 ghost use Rattle.program_frame.specs.Items.{Lacks};
 ghost use Rattle.program_frame.specs.ListRun.{IsOutput, StopsOn};
 ghost use Rattle.program_frame.specs.Marked.{marked_inner, has_failed};
+ghost use Rattle.program_frame.specs.Rules.{EndsRun, passing};
 ghost use Rattle.program_frame.specs.Strings.{strings};
 ghost use Rattle.program_frame.specs.declared.fault.Failure.TheVariants.{Write as WriteFailure};
+ghost use Rattle.program_frame.specs.declared.misuse.Misuse.{Misuse as DeclaredMisuse};
 ghost use Rattle.program_frame.specs.declared.lists.fault.ListFault.TheVariants.{Refused, Run};
-ghost use Rattle.paths_commands.specs.Command.{words_of};
+ghost use Rattle.paths_commands.specs.Command.{AsksFor, IsMisuse, RequestsNothing};
 ghost use Rattle.paths_commands.specs.Styles.{style_of};
 ghost use Rattle.paths_commands.specs.Task.{rules_of, IsAnswer, IsComponentsText};
-ghost use Rattle.paths_commands.specs.declared.command.Command.{Command};
+ghost use Rattle.paths_commands.specs.declared.command.Command.{Command as DeclaredCommand};
 ghost use Rattle.paths_commands.specs.declared.fault.Refusal.TheVariants.{NoString};
 ghost use Rattle.paths_commands.specs.declared.task.Task.TheVariants.{Components};
 
 use os_path::PathStyle;
 use os_str_bytes::Platform;
-use paths_commands::command::Command;
-use paths_commands::fault::{Refusal, Usage};
+use paths_commands::command::{Command, Line};
+use paths_commands::fault::Refusal;
 use paths_commands::task::{OnPlatform, Task};
 use program_frame::lists::fault::ListFault;
-use program_frame::lists::run::run;
+use program_frame::lists::refusals::KeepGoing;
+use program_frame::lists::run::{run, run_with};
 use program_frame::marked::Marked;
 use program_frame::os::Os;
 use std::alloc::Allocator;
-use std::io::Write;
+use std::io::{Eprint, Write};
 
-/// The command of known words.
-pub fn known_question(words: &[String]) -> Result<Command<'_>, Usage>
-    ensures { (command : Command) → map string_bytes words.now ≡ words_of command → IsOk result }
+/// Whether options and operands request a command; otherwise they request none, and something is
+/// wrong with them.
+pub fn requests_a_command(given: Line<'_, '_>) -> bool
+    ensures some { result ≡ true → (command : DeclaredCommand) × AsksFor given.entry.now command }
+    ensures none { result ≡ false → RequestsNothing given.entry.now
+        × ((misuse : DeclaredMisuse) × IsMisuse given.entry.now misuse) }
 {
-    Command::parse(words)
+    Command::parse(given).is_ok()
 }
 
 /// A run over bytes.
@@ -58,6 +64,30 @@ fn ask<E: PathStyle, A: Allocator, W: Write>(
 {
     let mut reader = Marked::new(input);
     run(alloc, &OnPlatform::<E>::new(task, max), &mut reader, writer)
+}
+
+/// A run over bytes that passes over paths that are refused, and how many were: no such path ends it,
+/// and what is written is the output of the others.
+pub fn asked_on<E: PathStyle, P: Eprint, A: Allocator, W: Write>(
+    alloc: A,
+    errors: &P,
+    task: Task<'_>,
+    max: usize,
+    input: &[u8],
+    writer: &mut Marked<W>,
+) -> (u64, Result<(), ListFault<Refusal>>)
+    requires { has_failed writer.old ≡ false }
+    ensures written { OnOk result.1 ((output : List ℕ) × (IsOutput
+        (passing result.0 (rules_of ⟦<E as Platform>⟧ E.follows task.entry max)) input.now output
+        × Appends (W.contents (marked_inner writer.old)) (W.contents (marked_inner writer.new))
+        output)) }
+    ensures ends { IfErr result.1 (λ fault. EndsRun ⊥ fault) }
+{
+    let mut reader = Marked::new(input);
+    let mut refusals = KeepGoing::new("paths", errors);
+    let on = OnPlatform::<E>::new(task, max);
+    let ran = run_with(alloc, &on, &mut refusals, &mut reader, writer);
+    (refusals.count(), ran)
 }
 
 /// Runs a task other than the one for components on one path: the result is written with NUL.

@@ -8,9 +8,9 @@ ghost use Rattle.program_frame.specs.Marked.{has_failed, marked_inner};
 ghost use Rattle.program_frame.specs.Words.{words_after_name};
 ghost use Rattle.program_frame.specs.declared.fault.Failure.{Failure};
 ghost use Rattle.program_frame.specs.declared.lists.program_fault.Fault.TheVariants.{List as OfList, Words};
-ghost use Rattle.paths_commands.specs.Command.{words_of};
-ghost use Rattle.paths_commands.specs.Fault.{usage};
-ghost use Rattle.paths_commands.specs.declared.command.Command.{Command};
+ghost use Rattle.paths_commands.specs.Command.{RequestNothing};
+ghost use Rattle.paths_commands.specs.declared.fault.CommandFault.{CommandFault};
+ghost use Rattle.test_command_uses.specs.Requests.{RequestsSome, RunsSome};
 
 use names_commands::fault::Fault as NamesFault;
 use names_commands::program::Names;
@@ -166,34 +166,72 @@ pub fn paths_without_arguments<P: Eprint, A: Allocator + Copy, R: Read, W: Outpu
     requires reader_unmarked { has_failed reader.old ≡ false }
     requires writer_unmarked { has_failed writer.old ≡ false }
     ensures told { result.0 ≡ true → Appends (E.contents errors.old) (E.contents errors.new)
-        (codes "paths: usage: paths components|parent|name|stem|extension|normalize|clean|join|relative|convert unix|windows|wasm [BASE|PLATFORM]; paths --help tells more\n") }
+        (codes "paths: an argument isn't valid UTF-8\n") }
     ensures status { exit_status result.1 ≡ 2 }
     ensures unread { reader.new ≡ reader.old }
     ensures kept { writer.new ≡ writer.old }
 {
     let arguments = Err(io::Error::from(ErrorKind::InvalidInput));
-    let ended = execute_list(&Paths, alloc, arguments, reader, writer, errors);
+    let ended = execute_list(&Paths::new(rt), alloc, arguments, reader, writer, errors);
     let told = ended.told();
     (told, ended.report(rt))
 }
 
-/// The program for paths with words that no command has: nothing is read or written.
-pub fn paths_refused<A: Allocator + Copy, R: Read, W: Output, E: Messages>(
+/// The program for paths with arguments that request no command: nothing is read or written.
+pub fn paths_refused<P: Eprint, A: Allocator + Copy, R: Read, W: Output, E: Messages>(
+    rt: &P,
     alloc: A,
     arguments: Args,
     reader: &mut Marked<R>,
     writer: &mut Marked<W>,
     errors: &mut E,
 ) -> Result<(), PathsFault>
-    requires words { (command : Command) → words_after_name arguments ≢ words_of command }
+    requires words { RequestNothing (words_after_name arguments) }
     requires reader_unmarked { has_failed reader.old ≡ false }
     requires writer_unmarked { has_failed writer.old ≡ false }
-    ensures refused { (result ≡ Err (Words usage))
+    ensures refused { ((why : CommandFault) × (result ≡ Err (Words why)))
         ⊎ (result ≡ Err (OfList (ListFault.Run Failure.Memory))) }
     ensures unread { R.remaining (marked_inner reader.new) ≡ R.remaining (marked_inner reader.old) }
     ensures kept { W.contents (marked_inner writer.new) ≡ W.contents (marked_inner writer.old) }
 {
-    execute_list(&Paths, alloc, Ok(arguments), reader, writer, errors).outcome()
+    execute_list(
+        &Paths::new(rt),
+        alloc,
+        Ok(arguments),
+        reader,
+        writer,
+        errors,
+    )
+    .outcome()
+}
+
+/// The program for paths with arguments that request a command: it runs such a command, unless
+/// memory is refused.
+#[tactic(auto, using(crate::proofs::Requested::requested))]
+pub fn paths_requested<P: Eprint, A: Allocator + Copy, R: Read, W: Output, E: Messages>(
+    rt: &P,
+    alloc: A,
+    arguments: Args,
+    reader: &mut Marked<R>,
+    writer: &mut Marked<W>,
+    errors: &mut E,
+) -> Result<(), PathsFault>
+    requires words { RequestsSome (words_after_name arguments) }
+    requires reader_unmarked { has_failed reader.old ≡ false }
+    requires writer_unmarked { has_failed writer.old ≡ false }
+    ensures { RunsSome (words_after_name arguments) (R.remaining (marked_inner reader.old))
+        (R.remaining (marked_inner reader.new)) (W.contents (marked_inner writer.old))
+        (W.contents (marked_inner writer.new)) result }
+{
+    execute_list(
+        &Paths::new(rt),
+        alloc,
+        Ok(arguments),
+        reader,
+        writer,
+        errors,
+    )
+    .outcome()
 }
 
 /// The end of a program after a fault: whether it printed it, and its status.

@@ -1,21 +1,23 @@
 -- Why a path is refused, by what its question asks.
 use Rattle.std.proofs.Common.{◌≡◌, ℕ, List}
+use denote.Ref.{Bor}
 use Rattle.os_str_bytes.specs.Platform.{Ghosts}
 use Rattle.path_rules.specs.declared.rules.Style.{Style}
 use Rattle.program_frame.specs.Strings.{strings}
 use Rattle.program_frame.specs.declared.os.Os.{Os}
 use Rattle.paths_commands.specs.Styles.{style_of}
-use Rattle.paths_commands.specs.Task.{IsRefusal, IsUnanswered, IsUnconverted}
+use Rattle.paths_commands.specs.Task.{IsRefusal, IsUnanswered, IsUnconverted, IsUnjoined}
 use Rattle.paths_commands.specs.declared.fault.Refusal.{Refusal}
-use Rattle.paths_commands.specs.declared.fault.Refusal.TheVariants.{NoString, NoNormalForm, NoRelativePath, NoComponent, NoStringThere}
+use Rattle.paths_commands.specs.declared.fault.Refusal.TheVariants.{NoString, NoNormalForm, NoRelativePath, NoJoin, NoComponent, NoStringThere}
 use Rattle.paths_commands.specs.declared.task.Task.{Task}
-use Rattle.paths_commands.specs.declared.task.Task.TheVariants.{Convert}
+use Rattle.paths_commands.specs.declared.task.Task.TheVariants.{Convert, JoinChecked}
 
 -- a string without an answer is refused
 pub unanswered_refused : {E : Type 0} (p : Ghosts E) (style : Style) (task : Task) (path : List ℕ) (why : Refusal) → IsUnanswered style task path why → IsRefusal p style task path why
 unanswered_refused p style task path (NoString error) none = absurd none
 unanswered_refused p style task path NoNormalForm none = none
 unanswered_refused p style task path NoRelativePath none = none
+unanswered_refused p style task path (NoJoin error) none = none
 unanswered_refused p style task path (NoComponent index) none = none
 unanswered_refused p style task path (NoStringThere error) none = none
 
@@ -25,5 +27,15 @@ pub unconverted_unanswered : (style : Style) (task : Task) (to : Os) (path : Lis
 unconverted_unanswered style task to path (NoString error) is none = none
 unconverted_unanswered style task to path NoNormalForm is none = absurd none
 unconverted_unanswered style task to path NoRelativePath is none = absurd none
+unconverted_unanswered style task to path (NoJoin error) is none = absurd none
 unconverted_unanswered style task to path (NoComponent index) is none = (to, (is, none))
 unconverted_unanswered style task to path (NoStringThere error) is none = (to, (is, none))
+
+-- a path that isn't joined to the base has no answer
+pub unjoined_unanswered : (style : Style) (task : Task) (base : Bor (List ℕ)) (path : List ℕ) (why : Refusal) → task ≡ JoinChecked base → IsUnjoined style base.now path why → IsUnanswered style task path why
+unjoined_unanswered style task base path (NoString error) is none = none
+unjoined_unanswered style task base path NoNormalForm is none = absurd none
+unjoined_unanswered style task base path NoRelativePath is none = absurd none
+unjoined_unanswered style task base path (NoJoin error) is none = (base, (is, none))
+unjoined_unanswered style task base path (NoComponent index) is none = absurd none
+unjoined_unanswered style task base path (NoStringThere error) is none = absurd none

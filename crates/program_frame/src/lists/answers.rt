@@ -126,7 +126,7 @@ pub fn run_list_with<T: ListTask, N: Refusals<T::Refusal>, U, A: Allocator, R: R
 ///
 /// let mut taken = Vec::new(alloc);
 /// let answer: Result<(), Fault> = write_help("help\n", &mut Marked::new(&mut taken));
-/// assert!(rt; answer == Ok(()));
+/// assert!(rt; answer.is_ok());
 /// assert_eq!(rt; taken.as_slice(), b"help\n".as_slice());
 /// ```
 pub fn write_help<F, U, W: Write>(text: &str, writer: &mut Marked<W>) -> Result<(), Fault<F, U>>

@@ -48,7 +48,7 @@ pub trait ListProgram {
     /// use paths_commands::program::Paths;
     /// use program_frame::lists::program::ListProgram;
     ///
-    /// assert_eq!(rt; Paths::name(), "paths");
+    /// assert_eq!(rt; Paths::<HostRuntime>::name(), "paths");
     /// ```
     fn name() -> &'static str
         ensures { result.now ≡ name };
@@ -61,15 +61,15 @@ pub trait ListProgram {
     /// What keeps the program from its output.
     ///
     /// ```
-    /// use paths_commands::fault::{Fault, Usage};
+    /// use paths_commands::fault::{CommandFault, Fault};
     /// use paths_commands::program::Paths;
     /// use program_frame::lists::program::ListProgram;
     /// use program_frame::marked::Marked;
     ///
     /// let mut taken = Vec::new(alloc);
     /// let (mut reader, mut writer) = (Marked::new(b"a".as_slice()), Marked::new(&mut taken));
-    /// let ended = Paths.run_words(alloc, &[], &mut reader, &mut writer);
-    /// assert!(rt; ended == Err(Fault::Words(Usage)));
+    /// let ended = Paths::new(&rt).run_words(alloc, &[], &mut reader, &mut writer);
+    /// assert!(rt; matches!(ended, Err(Fault::Words(CommandFault::Misuse(_)))));
     /// ```
     fn run_words<A: Allocator + Copy, R: Read, W: Write>(
         &self,

@@ -21,10 +21,10 @@ pub trait WordsRefusal: Copy {
     /// The refusal of arguments that name no command.
     ///
     /// ```
-    /// use paths_commands::fault::Usage;
+    /// use paths_commands::fault::CommandFault;
     /// use program_frame::lists::program_fault::WordsRefusal;
     ///
-    /// assert!(rt; Usage::usage() == Usage);
+    /// assert!(rt; matches!(CommandFault::usage(), CommandFault::Unreadable));
     /// ```
     fn usage() -> Self
         ensures { result ≡ usage };
@@ -93,13 +93,13 @@ impl<F: ItemRefusal, U: WordsRefusal> ProgramFault for Fault<F, U> {
     /// for a failed read or write. For rejected arguments it is the status of their refusal.
     ///
     /// ```
-    /// use paths_commands::fault::{Fault, Usage};
+    /// use paths_commands::fault::{CommandFault, Fault};
     /// use program_frame::ended::ProgramFault;
     /// use program_frame::lists::fault::ListFault;
     ///
     /// let fault: Fault = Fault::List(ListFault::TooLong(3, 255));
     /// assert_eq!(rt; fault.status(), 1);
-    /// let fault: Fault = Fault::Words(Usage);
+    /// let fault: Fault = Fault::Words(CommandFault::Unreadable);
     /// assert_eq!(rt; fault.status(), 2);
     /// ```
     fn status(&self) -> u8 {

@@ -6,7 +6,7 @@ use Rattle.platform_str.specs.Strings.{bytes, path_bytes}
 use Rattle.paths_commands.specs.Task.{IsAnswer}
 use Rattle.paths_commands.specs.declared.fault.Refusal.TheVariants.{NoNormalForm, NoRelativePath}
 use Rattle.paths_commands.proofs.lemmas.Answers.{part_or_nothing}
-use Rattle.paths_commands.proofs.lemmas.Refusals.{unconverted_unanswered}
+use Rattle.paths_commands.proofs.lemmas.Refusals.{unconverted_unanswered, unjoined_unanswered}
 use Rattle.paths_commands.proofs.item.write_path.Goals as goal
 
 pub returns-in-Components-clause-ok : goal.returns-in-Components-clause-ok
@@ -83,6 +83,22 @@ returns-in-Join-clause-ok g c =
     on_ok_weaker c.write_joined.result
     (λ joined. (joined.0 ++ 0 ∷ [], (inr (joined.0, (subst (λ t. IsAnswer S t path joined.0) (sym c.in-Join.is) joined.1.0, refl)), joined.1.1)))
     c.write_joined.ensures.ok
+
+pub returns-in-JoinChecked-clause-ok : goal.returns-in-JoinChecked-clause-ok
+returns-in-JoinChecked-clause-ok g c =
+    let S = g.E.PathStyle.follows in
+    let path = path_bytes c.args.path in
+    on_ok_weaker c.write_checked.result
+    (λ joined. (joined.0 ++ 0 ∷ [], (inr (joined.0, (subst (λ t. IsAnswer S t path joined.0) (sym c.in-JoinChecked.is) joined.1.0, refl)), joined.1.1)))
+    c.write_checked.ensures.ok
+
+pub returns-in-JoinChecked-clause-fault : goal.returns-in-JoinChecked-clause-fault
+returns-in-JoinChecked-clause-fault g c =
+    let S = g.E.PathStyle.follows in
+    let path = path_bytes c.args.path in
+    IfErr-weaker c.write_checked.result _ _
+    (λ fault. ⊎_elim (λ memory. inl memory) (λ none. inr (none.0, (none.1.0, unjoined_unanswered S c.args.task _ path none.0 c.in-JoinChecked.is none.1.1))))
+    c.write_checked.ensures.fault
 
 pub returns-in-Relative-clause-ok : goal.returns-in-Relative-clause-ok
 returns-in-Relative-clause-ok g c =

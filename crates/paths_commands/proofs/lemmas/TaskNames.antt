@@ -1,0 +1,55 @@
+-- Names of tasks: different names are different words.
+use Rattle.std.proofs.Common.{◌≡◌, ◌∙◌, ℕ, ◌+◌, List, get_or, refl, sym, ap, arith}
+use Rattle.paths_commands.specs.Task.{name_word}
+use Rattle.paths_commands.specs.declared.command.Name.{Name as DeclaredName}
+use Rattle.paths_commands.specs.declared.command.Name.TheVariants.{Components, Parent, Name, Stem, Extension, Normalize, Clean, Join, Relative, Convert}
+
+-- the sum of the first letter and the third
+abbrev letters : DeclaredName → ℕ
+letters Components = 208
+letters Parent = 226
+letters Name = 219
+letters Stem = 216
+letters Extension = 217
+letters Normalize = 224
+letters Clean = 200
+letters Join = 211
+letters Relative = 222
+letters Convert = 209
+
+letters_are : (name : DeclaredName) → letters name ≡ get_or (name_word name) 0 0 + get_or (name_word name) 2 0
+letters_are Components = refl
+letters_are Parent = refl
+letters_are Name = refl
+letters_are Stem = refl
+letters_are Extension = refl
+letters_are Normalize = refl
+letters_are Clean = refl
+letters_are Join = refl
+letters_are Relative = refl
+letters_are Convert = refl
+
+same_letters : (name other : DeclaredName) → name_word name ≡ name_word other → letters name ≡ letters other
+same_letters name other e = letters_are name ∙ ap (λ word. get_or word 0 0 + get_or word 2 0) e ∙ sym (letters_are other)
+
+pub same_name : (name other : DeclaredName) → name_word name ≡ name_word other → name ≡ other
+same_name Components Components e = refl
+same_name Parent Parent e = refl
+same_name Name Name e = refl
+same_name Stem Stem e = refl
+same_name Extension Extension e = refl
+same_name Normalize Normalize e = refl
+same_name Clean Clean e = refl
+same_name Join Join e = refl
+same_name Relative Relative e = refl
+same_name Convert Convert e = refl
+same_name Components other e = let sums = same_letters Components other e in absurd (omega arith)
+same_name Parent other e = let sums = same_letters Parent other e in absurd (omega arith)
+same_name Name other e = let sums = same_letters Name other e in absurd (omega arith)
+same_name Stem other e = let sums = same_letters Stem other e in absurd (omega arith)
+same_name Extension other e = let sums = same_letters Extension other e in absurd (omega arith)
+same_name Normalize other e = let sums = same_letters Normalize other e in absurd (omega arith)
+same_name Clean other e = let sums = same_letters Clean other e in absurd (omega arith)
+same_name Join other e = let sums = same_letters Join other e in absurd (omega arith)
+same_name Relative other e = let sums = same_letters Relative other e in absurd (omega arith)
+same_name Convert other e = let sums = same_letters Convert other e in absurd (omega arith)

@@ -1,0 +1,49 @@
+//! What the program prints of itself.
+
+/// What `paths --version` writes.
+pub const VERSION: &str = "paths 0.2.0\n";
+
+/// What `paths --help` writes.
+pub const HELP: &str = "\
+paths: lists of paths, taken apart and built path by path
+
+  find . -print0 | paths parent unix | sort -zu            the folders, each once
+  find . -print0 | paths relative unix . --keep-going      how each is reached from here
+  tar tf a.tar | tr '\\n' '\\0' | paths join --checked unix /srv/a --keep-going
+                                                           names from outside, below /srv/a
+
+paths components PLATFORM          writes the escape of each component on a line, then an empty line
+paths parent     PLATFORM          writes the path without its last component
+paths name       PLATFORM          writes the last component, where that is a name
+paths stem       PLATFORM          writes that name without its extension
+paths extension  PLATFORM          writes the extension of that name
+paths normalize  PLATFORM          writes the path without . and ..; a .. takes the name before it away, and a
+                                   path with a .. that has none is refused
+paths clean      PLATFORM          as normalize, but such a .. stays, or goes at a root
+paths join       PLATFORM BASE     writes the path after BASE; one with a root or a prefix replaces BASE, and ..
+                                   may leave it
+paths join --checked PLATFORM BASE writes the path below BASE, and refuses one that could leave it
+paths relative   PLATFORM BASE     writes the path as it is reached from BASE, and refuses one that no path
+                                   leads to
+paths convert    PLATFORM TO       writes the path of the platform TO with the same components, and refuses one
+                                   with a component that TO can't have
+
+Each reads paths that are ended by NUL; the last may lack it. Each writes one result for a path, ended by NUL,
+which is empty where the path has no such part. PLATFORM and TO are unix, windows or wasm. Options may stand
+anywhere; -- ends them.
+
+  --checked        join: for names from outside, as in an archive or a request
+  --keep-going     pass over paths that are refused: a line for each on standard error, and their number at the
+                   end; the status is 1 then
+  -h, --help       this text
+  -V, --version    the version
+
+A path has at most 1048576 bytes; a longer one ends the run in any case. The results are those of Rust's
+std::path: empty parts and . name nothing, but for a . at the start, and .. is resolved by normalize, clean and
+join --checked alone. An extension comes after the last dot of a name, if that isn't its first byte. On windows
+/ and \\ separate, and a path may begin with a prefix: C:, \\\\server\\share, \\\\?\\C:, \\\\?\\UNC\\server\\share,
+\\\\?\\name or \\\\.\\name.
+
+Status: 0; 1 for a path that is refused, with its number, from 1; 2 for wrong arguments; 3 if out of memory; 4 if
+a read or write fails.
+";

@@ -1,0 +1,72 @@
+//! The options of the program.
+ghost use Rattle.std.specs.Prelude.{◌≡◌, MatchOption};
+ghost use Rattle.os_args.specs.Word.{Long, Short};
+ghost use Rattle.paths_commands.specs.Options.{spelled};
+ghost use Rattle.paths_commands.specs.declared.option.PathsOption.{PathsOption};
+
+use os_args::Word;
+use os_str_bytes::{OsStr, Wasm};
+use program_frame::arguments::ProgramOption;
+
+/// An option of the program.
+#[derive(Clone, Copy, PartialEq, Eq)]
+pub enum PathsOption {
+    /// `-h`, `--help`: writes what the commands are.
+    Help,
+    /// `-V`, `--version`: writes the version.
+    Version,
+    /// `--checked`: `join` refuses a path that could leave the base.
+    Checked,
+    /// `--keep-going`: refused paths are passed over.
+    KeepGoing,
+}
+
+impl ProgramOption for PathsOption {
+    ghost use Rattle.paths_commands.specs.Options.{has_value, spelled};
+
+    ghost spelled = { spelled };
+
+    ghost has_value = { has_value };
+
+    fn named<'a>(argument: Word<'a, OsStr<'a, Wasm>>) -> Option<PathsOption> {
+        match argument {
+            Word::Long(name) => long_option(name),
+            Word::Short(flag) => short_option(flag),
+            Word::LongBytes(_) | Word::ShortBytes(_) | Word::Value(_) => None,
+        }
+    }
+
+    fn takes_value(self) -> bool {
+        false
+    }
+
+    fn is(self, other: PathsOption) -> bool {
+        self == other
+    }
+}
+
+/// The option of this name.
+fn long_option(name: &str) -> Option<PathsOption>
+    ensures { MatchOption result ((option : PathsOption) → ¬ (spelled option (Long name.now)))
+        (λ option. spelled option (Long name.now)) }
+{
+    match name {
+        "help" => Some(PathsOption::Help),
+        "version" => Some(PathsOption::Version),
+        "checked" => Some(PathsOption::Checked),
+        "keep-going" => Some(PathsOption::KeepGoing),
+        _ => None,
+    }
+}
+
+/// The option of this flag.
+fn short_option(flag: char) -> Option<PathsOption>
+    ensures { MatchOption result ((option : PathsOption) → ¬ (spelled option (Short flag)))
+        (λ option. spelled option (Short flag)) }
+{
+    match flag {
+        'h' => Some(PathsOption::Help),
+        'V' => Some(PathsOption::Version),
+        _ => None,
+    }
+}
