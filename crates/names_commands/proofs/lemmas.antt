@@ -1,8 +1,9 @@
 pub mod Lines
+pub mod NeverBoth
 pub mod Back
+pub mod Commands
 pub mod EscapesBack
 pub mod Ignored
-pub mod NoCommand
 pub mod Picked
 pub mod Picks
 pub mod Words

@@ -1,62 +1,205 @@
--- The arguments of each command, and what it does with each item.
-use Rattle.std.specs.Prelude.{◌≡◌, ◌⊎◌, ℕ, ◌<◌, ◌^◌, List, [], ◌∷◌, Option, None, Some, codes, map, string_bytes}
+-- What the options and operands of the command line request.
+use Rattle.std.specs.Prelude.{◌≡◌, ◌≢◌, ◌⊎◌, ℕ, ◌<◌, ◌^◌, List, [], ◌∷◌, ◌++◌, Option, None, Some, codes}
 use Rattle.std.specs.Str.Parse.{IsNumeral, digits_value, without_leading_plus}
 use Rattle.glob_patterns.specs.declared.options.GlobOptions.{GlobOptions}
 use Rattle.glob_patterns.specs.Options.{usual_options}
+use Rattle.os_args.specs.Reading.{UnexpectedArgument}
+use Rattle.os_args.specs.Views.{fault_of}
+use Rattle.os_args.specs.Word.{Value}
 use Rattle.wildcards.specs.declared.separators.Separators.TheVariants.{Slash, SlashAndBackslash}
+use Rattle.program_frame.specs.Arguments.{HasOption, LastValue, operands_of}
 use Rattle.program_frame.specs.Os.{os_word}
+use Rattle.program_frame.specs.declared.arguments.Given.{Given}
+use Rattle.program_frame.specs.declared.arguments.Given.TheVariants.{Operand, Flag, Valued}
+use Rattle.program_frame.specs.declared.misuse.Misuse.{Misuse}
+use Rattle.program_frame.specs.declared.misuse.Misuse.TheVariants.{Argument, Missing, Invalid, Misplaced}
 use Rattle.program_frame.specs.declared.os.Os.{Os}
 use Rattle.program_frame.specs.declared.os.Os.TheVariants.{Unix, Windows, Wasm}
+use Rattle.names_commands.specs.Options.{word_of}
+use Rattle.names_commands.specs.Pick.{TakesIgnore, glob_words}
 use Rattle.names_commands.specs.declared.command.Command.{Command}
-use Rattle.names_commands.specs.declared.command.Command.TheVariants.{ListNames, ListWords, Filter, Join, JoinWords, Check, Help}
+use Rattle.names_commands.specs.declared.command.Command.TheVariants.{ListNames, ListWords, Filter, Join, JoinWords, Check, Help, Version}
+use Rattle.names_commands.specs.declared.command.Name.{Name}
+use Rattle.names_commands.specs.declared.command.Name.TheVariants as name
 use Rattle.names_commands.specs.declared.command.Request.{Request}
+use Rattle.names_commands.specs.declared.option.NamesOption.{NamesOption}
+use Rattle.names_commands.specs.declared.option.NamesOption.TheVariants as option
 use Rattle.names_commands.specs.declared.pick.Pick.{Pick}
-use Rattle.names_commands.specs.declared.pick.Pick.TheVariants.{Glob, Options}
 use Rattle.names_commands.specs.declared.task.LastLine.{LastLine}
 use Rattle.names_commands.specs.declared.task.LastLine.TheVariants.{MustEnd, MayLackEnd}
 use Rattle.names_commands.specs.declared.task.WordForm.{WordForm}
 use Rattle.names_commands.specs.declared.task.WordForm.TheVariants.{Posix, OneLine}
 
--- the argument for this form
-abbrev pub form_word : WordForm → List ℕ
-form_word Posix = codes "--sh"
-form_word OneLine = codes "--sh-line"
+-- options and operands, as they were given
+abbrev pub Line : Type 0
+Line = List (Given NamesOption)
 
--- the arguments that state whether the last line may lack its newline
-abbrev pub last_words : LastLine → List (List ℕ)
-last_words MustEnd = []
-last_words MayLackEnd = codes "--unterminated" ∷ []
+-- the word of a command
+abbrev pub name_word : Name → List ℕ
+name_word name.List = codes "list"
+name_word name.Filter = codes "filter"
+name_word name.Join = codes "join"
+name_word name.Check = codes "check"
 
--- the words that pick names, and none where all are picked
-abbrev pub pick_words : Pick → List (List ℕ)
-pick_words (Glob pattern) = pattern.now ∷ []
-pick_words (Options option value rest) = option.now ∷ value.now ∷ map string_bytes rest.now
+-- the command takes the option
+abbrev pub TakesOption : Name → NamesOption → Type 0
+TakesOption command option.Help = Unit {0}
+TakesOption command option.Version = Unit {0}
+TakesOption command option.Max = Unit {0}
+TakesOption name.List option.Sh = Unit {0}
+TakesOption name.Join option.Sh = Unit {0}
+TakesOption name.Filter option.Sh = ⊥
+TakesOption name.Check option.Sh = ⊥
+TakesOption name.List option.ShLine = Unit {0}
+TakesOption name.Join option.ShLine = Unit {0}
+TakesOption name.Filter option.ShLine = ⊥
+TakesOption name.Check option.ShLine = ⊥
+TakesOption name.List option.Unterminated = ⊥
+TakesOption name.Join option.Unterminated = Unit {0}
+TakesOption name.Filter option.Unterminated = ⊥
+TakesOption name.Check option.Unterminated = ⊥
+TakesOption name.List option.Glob = Unit {0}
+TakesOption name.Join option.Glob = ⊥
+TakesOption name.Filter option.Glob = Unit {0}
+TakesOption name.Check option.Glob = ⊥
+TakesOption name.List option.Ignore = Unit {0}
+TakesOption name.Join option.Ignore = ⊥
+TakesOption name.Filter option.Ignore = Unit {0}
+TakesOption name.Check option.Ignore = ⊥
 
-abbrev pub all_words : Option Pick → List (List ℕ)
-all_words None = []
-all_words (Some pick) = pick_words pick
+-- the command takes the option, if this is one
+abbrev pub FitsOne : Name → Given NamesOption → Type 0
+FitsOne command (Operand word) = Unit {0}
+FitsOne command (Flag option) = TakesOption command option
+FitsOne command (Valued option value) = TakesOption command option
 
--- the arguments after the program's name that make up the command
-abbrev pub words_of : Command → List (List ℕ)
-words_of (ListNames os pick) = codes "list" ∷ os_word os ∷ all_words pick
-words_of (ListWords form pick) = codes "list" ∷ form_word form ∷ os_word Unix ∷ all_words pick
-words_of (Filter os pick) = codes "filter" ∷ os_word os ∷ pick_words pick
-words_of (Join os last) = codes "join" ∷ os_word os ∷ last_words last
-words_of (JoinWords last) = codes "join" ∷ form_word Posix ∷ os_word Unix ∷ last_words last
-words_of (Check os) = codes "check" ∷ os_word os ∷ []
-words_of Help = codes "--help" ∷ []
+-- the command takes each option of these
+abbrev pub Fits : Name → Line → Type 0
+Fits command [] = Unit {0}
+Fits command (one ∷ given) = FitsOne command one × Fits command given
 
--- the text states this number of bytes, as std reads a `usize`: digits, after a `+` or not
+-- the operands are the command, a platform and these
+abbrev pub HasOperands : Line → Name → Os → List (List ℕ) → Type 0
+HasOperands given command os more = operands_of given ≡ name_word command ∷ os_word os ∷ more
+
+-- some names are picked: by a pattern that is an operand, by patterns of options, or by ignore files
+abbrev pub SomePicked : Line → List (List ℕ) → Type 0
+SomePicked given more = (more ≢ []) ⊎ (HasOption option.Glob given ⊎ HasOption option.Ignore given)
+
+-- this picks names: the pattern that is an operand, beside the options
+pub record IsPick (given : Line) (os : Os) (more : List (List ℕ)) (pick : Pick) : Type 0 where
+  pub glob : more ≡ glob_words pick.glob
+  pub some : SomePicked given more
+  pub ignores : HasOption option.Ignore given → TakesIgnore os
+
+-- it does, or all names are picked
+abbrev pub IsMaybePick : Line → Os → List (List ℕ) → Option Pick → Type 0
+IsMaybePick given os more None = ¬ (SomePicked given more)
+IsMaybePick given os more (Some pick) = IsPick given os more pick
+
+-- how words of a shell are written: each on one line where that is requested
+abbrev pub IsForm : Line → WordForm → Type 0
+IsForm given Posix = HasOption option.Sh given × (¬ (HasOption option.ShLine given))
+IsForm given OneLine = HasOption option.ShLine given
+
+-- neither option for words of a shell is given
+abbrev pub NoWords : Line → Type 0
+NoWords given = (¬ (HasOption option.Sh given)) × (¬ (HasOption option.ShLine given))
+
+-- whether the last line may lack its newline
+abbrev pub IsLast : Line → LastLine → Type 0
+IsLast given MustEnd = ¬ (HasOption option.Unterminated given)
+IsLast given MayLackEnd = HasOption option.Unterminated given
+
+-- the command that these make up
+abbrev pub MakesUp : Line → Command → Type 0
+MakesUp given (ListNames os pick) = (more : List (List ℕ)) × (HasOperands given name.List os more × (Fits name.List given × (NoWords given × IsMaybePick given os more pick)))
+MakesUp given (ListWords form pick) = (more : List (List ℕ)) × (HasOperands given name.List Unix more × (Fits name.List given × (IsForm given form × IsMaybePick given Unix more pick)))
+MakesUp given (Filter os pick) = (more : List (List ℕ)) × (HasOperands given name.Filter os more × (Fits name.Filter given × IsPick given os more pick))
+MakesUp given (Join os last) = HasOperands given name.Join os [] × (Fits name.Join given × (NoWords given × IsLast given last))
+MakesUp given (JoinWords last) = HasOperands given name.Join Unix [] × (Fits name.Join given × ((¬ (NoWords given)) × IsLast given last))
+MakesUp given (Check os) = HasOperands given name.Check os [] × Fits name.Check given
+MakesUp given Help = ⊥
+MakesUp given Version = ⊥
+
+-- the text is this number of bytes, as std reads a `usize`: digits, after a `+` or not
 pub record IsLimit (text : List ℕ) (max : ℕ) : Type 0 where
   pub digits : IsNumeral 10 (without_leading_plus text)
   pub value : max ≡ digits_value 10 (without_leading_plus text)
   pub fits : max < 2 ^ 64
 
--- the words after the program's name make the request: a command's, or `--max`, a limit and a command's
-abbrev pub AsksFor : List (List ℕ) → Request → Type 0
-AsksFor words r =
-    ((words ≡ words_of r.command) × (r.max ≡ 1048576))
-    ⊎ ((number : List ℕ) × ((words ≡ codes "--max" ∷ number ∷ words_of r.command) × IsLimit number r.max))
+-- how many bytes a name may have: what the last `--max` states, or 1,048,576
+abbrev pub IsMax : Line → ℕ → Type 0
+IsMax given max =
+    (LastValue option.Max given None None × (max ≡ 1048576))
+    ⊎ ((number : List ℕ) × (LastValue option.Max given None (Some number) × IsLimit number max))
+
+-- these make up the request: help, wherever its option is; the version; or a command
+abbrev pub AsksFor : Line → Request → Type 0
+AsksFor given r =
+    (HasOption option.Help given × (r.command ≡ Help))
+    ⊎ ((¬ (HasOption option.Help given)) × (
+    (HasOption option.Version given × (r.command ≡ Version))
+    ⊎ ((¬ (HasOption option.Version given)) × (IsMax given r.max × MakesUp given r.command))
+    ))
+
+-- what is missing: a command, a platform after it, or what filter picks
+abbrev pub IsMissing : Line → List ℕ → Type 0
+IsMissing given what =
+    ((what ≡ codes "command (list, filter, join or check)") × (operands_of given ≡ []))
+    ⊎ (((what ≡ codes "platform (unix, windows or wasm)") × ((word : List ℕ) × (operands_of given ≡ word ∷ [])))
+    ⊎ ((what ≡ codes "GLOB, --glob or --ignore") × ((os : Os) × (HasOperands given name.Filter os [] × (¬ (SomePicked given []))))))
+
+-- which word is no command, no platform or no number of bytes
+abbrev pub IsInvalid : Line → List ℕ → List ℕ → Type 0
+IsInvalid given what word =
+    ((what ≡ codes "command") × (((command : Name) → word ≢ name_word command) × ((more : List (List ℕ)) × (operands_of given ≡ word ∷ more))))
+    ⊎ (((what ≡ codes "platform") × (((os : Os) → word ≢ os_word os) × ((command : List ℕ) × (more : List (List ℕ)) × (operands_of given ≡ command ∷ word ∷ more))))
+    ⊎ ((what ≡ codes "number of bytes") × (LastValue option.Max given None (Some word) × ((max : ℕ) → ¬ (IsLimit word max)))))
+
+-- the platform takes the option: words of a shell are for Unix, and ignore files aren't for Windows
+abbrev pub IsForPlatform : Os → NamesOption → Type 0
+IsForPlatform os option.Help = Unit {0}
+IsForPlatform os option.Version = Unit {0}
+IsForPlatform os option.Max = Unit {0}
+IsForPlatform os option.Sh = os ≡ Unix
+IsForPlatform os option.ShLine = os ≡ Unix
+IsForPlatform os option.Unterminated = Unit {0}
+IsForPlatform os option.Glob = Unit {0}
+IsForPlatform os option.Ignore = TakesIgnore os
+
+-- which option isn't for the command that is given, or for its platform
+pub record IsMisplaced (given : Line) (word where_to : List ℕ) : Type 0 where
+  pub it : NamesOption
+  pub command : Name
+  pub os : Os
+  pub more : List (List ℕ)
+  pub word_is : word ≡ word_of it
+  pub has : HasOption it given
+  pub operands : HasOperands given command os more
+  pub unfit : ((where_to ≡ name_word command) × (¬ (TakesOption command it))) ⊎ ((where_to ≡ os_word os) × (¬ (IsForPlatform os it)))
+
+-- an operand is one too many: list and filter take a pattern after the platform, the others nothing
+abbrev pub IsTooMany : Line → List ℕ → Type 0
+IsTooMany given word = (command : Name) × (os : Os) × (more : List (List ℕ)) × (
+    (TakesOption command option.Glob × ((glob : List ℕ) × HasOperands given command os (glob ∷ word ∷ more)))
+    ⊎ ((¬ (TakesOption command option.Glob)) × HasOperands given command os (word ∷ more)))
+
+-- the option is given, and is for words of a shell
+abbrev pub IsWordOption : Line → NamesOption → Type 0
+IsWordOption given it = HasOption it given × ((os : Os) → os ≢ Unix → ¬ (IsForPlatform os it))
+
+-- why these make up no command
+abbrev pub IsMisuse : Line → Misuse → Type 0
+IsMisuse given (Argument error) = (word : List ℕ) × (IsTooMany given word × (fault_of error ≡ UnexpectedArgument (Value word)))
+IsMisuse given (Missing what) = IsMissing given what.now
+IsMisuse given (Invalid what word) = IsInvalid given what.now word.now
+IsMisuse given (Misplaced word where_to) = IsMisplaced given word.now where_to.now
+
+-- these make up no request, and this is wrong with them
+pub record IsRejected (given : Line) (misuse : Misuse) : Type 0 where
+  pub no_request : (request : Request) → ¬ (AsksFor given request)
+  pub wrong : IsMisuse given misuse
 
 -- how a pattern is matched on the platform: `\` is a separator on Windows alone
 abbrev pub options_of : Os → GlobOptions

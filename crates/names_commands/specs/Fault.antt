@@ -1,7 +1,10 @@
 -- The text of each reason why an item or the words are refused.
 use Rattle.std.specs.Prelude.{ℕ, List, ◌++◌, codes, decimal}
 use Rattle.glob_patterns.specs.ErrorText as glob
-use Rattle.glob_patterns.specs.declared.error.GlobError.TheVariants as glob_error
+use Rattle.std.specs.Fmt.Cut.{IsTextOrCut}
+use Rattle.std.specs.Fmt.InlineText.{inline_text}
+use Rattle.program_frame.specs.Misuse.{misuse_text}
+use Rattle.program_frame.specs.declared.misuse.Misuse as misuse
 use Rattle.glob_patterns.specs.declared.set_error.GlobSetError.TheVariants as set_error
 use Rattle.os_command_line.specs.ErrorText as words
 use Rattle.os_quote.specs.ErrorText.{error_text}
@@ -10,7 +13,7 @@ use Rattle.os_str_bytes.specs.FaultText.{fault_text}
 use Rattle.names_commands.specs.declared.fault.Refusal.{Refusal}
 use Rattle.names_commands.specs.declared.fault.Refusal.TheVariants.{NoString, BadEscape, NotCanonical, HasNul, BadWords}
 use Rattle.names_commands.specs.declared.fault.CommandFault.{CommandFault}
-use Rattle.names_commands.specs.declared.fault.CommandFault.TheVariants.{Usage, Pattern, Numbered, NoFile, Unread}
+use Rattle.names_commands.specs.declared.fault.CommandFault.TheVariants.{Unreadable, Misuse, Pattern, NoFile, Unread}
 
 -- what the program prints of the reason why an item is refused
 abbrev pub refusal_text : Refusal → List ℕ
@@ -20,18 +23,26 @@ refusal_text NotCanonical = error_text quote.NotCanonical
 refusal_text HasNul = codes "the name has a NUL"
 refusal_text (BadWords fault) = words.fault_text fault
 
--- what the program prints of the reason why its words are refused
+-- what the program prints of the reason why its arguments are rejected
 abbrev pub words_text : CommandFault → List ℕ
-words_text Usage = codes "usage: names [--max N] list|filter|join|check unix|windows|wasm [GLOB|OPTIONS], list|join --sh unix; names --help tells more"
-words_text (Pattern why) = codes "pattern: " ++ glob.error_text (glob_error.Pattern why)
-words_text (Numbered number why) = glob.set_error_text (set_error.Pattern number why)
+words_text Unreadable = codes "an argument isn't valid UTF-8"
+words_text (Misuse text) = inline_text text ++ codes "; names --help lists the commands"
+words_text (Pattern number why) = glob.set_error_text (set_error.Pattern number why)
 words_text (NoFile number) = codes "ignore file " ++ (decimal number ++ codes ": no such file")
 words_text (Unread number) = codes "ignore file " ++ (decimal number ++ codes ": read failed")
 
 -- the status that the program ends with then
 abbrev pub words_status : CommandFault → ℕ
-words_status Usage = 2
-words_status (Pattern why) = 2
-words_status (Numbered number why) = 2
+words_status Unreadable = 2
+words_status (Misuse text) = 2
+words_status (Pattern number why) = 2
 words_status (NoFile number) = 4
 words_status (Unread number) = 4
+
+-- the fault has the text of the misuse, which is cut if it is longer than 400 bytes
+abbrev pub IsOfMisuse : misuse.Misuse → CommandFault → Type 0
+IsOfMisuse why Unreadable = ⊥
+IsOfMisuse why (Misuse text) = IsTextOrCut 400 (misuse_text why) (inline_text text)
+IsOfMisuse why (Pattern number fault) = ⊥
+IsOfMisuse why (NoFile number) = ⊥
+IsOfMisuse why (Unread number) = ⊥

@@ -1,10 +1,20 @@
 -- The whole program, from the words after its name to its exit status.
-use Rattle.std.specs.Prelude.{◌≡◌, ◌⊎◌, ◌+◌, ℕ, List, codes, Option, None, Some, Result, Err, ⊤}
+use Rattle.std.specs.Prelude.{◌≡◌, ◌⊎◌, ◌+◌, ℕ, List, Option, None, Some, Result, Err, ⊤}
 use Rattle.os_str_bytes.specs.Platform.{Ghosts}
 use Rattle.os_ignore.specs.declared.file.File.{File}
 use Rattle.glob_text.specs.declared.fault.PatternFault.{PatternFault}
 use Rattle.glob_text.specs.Marks.{Mark}
+use Rattle.os_args.specs.Views.{fault_of}
+use Rattle.os_args.specs.declared.error.ArgumentError.{ArgumentError}
+use Rattle.os_str_bytes.specs.Wasm.{Wasm}
+use Rattle.os_str_bytes.specs.WasmPlatform.TheImpl as wasm
+use Rattle.platform_str.specs.declared.os_str.OsStr.{OsStr}
+use Rattle.program_frame.specs.Arguments.{AreGiven, HasFault}
 use Rattle.program_frame.specs.Files.{KnownFiles}
+use Rattle.program_frame.specs.declared.misuse.Misuse as misuse
+use Rattle.program_frame.specs.declared.misuse.Misuse.TheVariants.{Argument}
+use Rattle.names_commands.specs.Fault.{IsOfMisuse}
+use Rattle.names_commands.specs.Options.{has_value, spelled}
 use Rattle.program_frame.specs.Marked.{marked_inner}
 use Rattle.program_frame.specs.declared.marked.Marked.{Marked}
 use Rattle.program_frame.specs.Strings.{strings}
@@ -15,23 +25,23 @@ use Rattle.program_frame.specs.ListRun.{Runs}
 use Rattle.program_frame.specs.declared.fault.Failure.TheVariants.{Memory, Write}
 use Rattle.program_frame.specs.declared.lists.fault.ListFault.TheVariants.{Run}
 use Rattle.names_commands.specs.declared.command.Command.{Command}
-use Rattle.names_commands.specs.declared.command.Command.TheVariants.{ListNames, ListWords, Filter, Join, JoinWords, Check, Help}
+use Rattle.names_commands.specs.declared.command.Command.TheVariants.{ListNames, ListWords, Filter, Join, JoinWords, Check, Help, Version}
 use Rattle.program_frame.specs.declared.lists.program_fault.Fault as program_fault
 use Rattle.program_frame.specs.declared.lists.program_fault.Fault.TheVariants.{List as OfList, Words}
 use Rattle.names_commands.specs.declared.fault.Refusal.{Refusal}
 use Rattle.names_commands.specs.declared.fault.CommandFault.{CommandFault}
-use Rattle.names_commands.specs.declared.fault.CommandFault.TheVariants.{Usage, Pattern, Numbered, NoFile, Unread}
+use Rattle.names_commands.specs.declared.fault.CommandFault.TheVariants.{Unreadable, Misuse, Pattern, NoFile, Unread}
 use Rattle.names_commands.specs.declared.task.Task.{Task}
 use Rattle.names_commands.specs.declared.task.Task.TheVariants as task
 use Rattle.names_commands.specs.declared.matching.Form.{Form}
-use Rattle.names_commands.specs.declared.matching.Form.TheVariants.{Line, Name, Word}
+use Rattle.names_commands.specs.declared.matching.Form.TheVariants as form
 use Rattle.names_commands.specs.declared.pick.Pick.{Pick}
-use Rattle.names_commands.specs.declared.pick.Pick.TheVariants.{Glob, Options}
+use Rattle.names_commands.specs.declared.plan.Plan.{Plan}
 use Rattle.names_commands.specs.Ignoring.{AreRead, IsFirstUnread}
 use Rattle.names_commands.specs.Matching.{picking, AreWrittenOut, IsChosen, IsFirstFault, IsPicked}
 use Rattle.names_commands.specs.Pick.{AreChosen}
 use Rattle.names_commands.specs.declared.command.Request.{Request}
-use Rattle.names_commands.specs.Command.{AsksFor, options_of}
+use Rattle.names_commands.specs.Command.{AsksFor, IsRejected, Line, options_of}
 use Rattle.names_commands.specs.Task.{rules_of}
 
 -- what keeps the program from its output
@@ -58,14 +68,9 @@ UnlessOutOfMemory Done input left old new answer = EndsAtOnce (OfList (Run Memor
 abbrev pub RunsTask : Os → Task → ℕ → Doing
 RunsTask os what max input left old new answer = Runs (rules_of (strings os) (record { task = what; max = max })) OfList input left old new answer
 
--- the fault of the pattern at this index
-abbrev pub fault_of : Pick → ℕ → PatternFault → CommandFault
-fault_of (Glob pattern) index fault = Pattern fault
-fault_of (Options option value rest) index fault = Numbered (index + 1) fault
-
--- what `names --help` writes
-abbrev pub help_text : List ℕ
-help_text = codes "names: lists of file names, escaped one a line, and back\n\nnames list   unix|windows|wasm [GLOB]  names ended by NUL in, the escape of each out, one a line;\n                                       with GLOB of those that it matches\nnames list   --sh unix [GLOB]          the same with words that every POSIX shell reads as the names\nnames list   --sh-line unix [GLOB]     the same, each on one line, for bash, zsh, ksh93, mksh and busybox\nnames filter unix|windows|wasm GLOB    names ended by NUL in, those that GLOB matches out, ended by NUL\nnames list|filter .. OPTIONS           the same for names that OPTIONS pick, in place of GLOB: each --glob GLOB\n                                       picks those that it matches, each --ignore FILE (unix, wasm) leaves out\n                                       those that the lines of a .gitignore file ignore\nnames join   unix|windows|wasm         such lines in, names ended by NUL out\nnames join   --sh unix                 lines of words in, as such a shell reads them, names out\nnames join   .. --unterminated         the same, where the last line may lack its newline\nnames check  unix|windows|wasm         names ended by NUL in, nothing out: the status tells\nnames --help                           this text\nnames --max N ..                       one of these, for names of at most N bytes, not 1048576\n\nThe last name may lack its NUL. A last line without its newline is refused, since a list that was\ncut off ends with one. A line has at most six times as many bytes as a name,\na line of words four times and three more. With --sh a name with a newline has it in its word, and so\ntwo lines; join refuses what some shell would expand.\n\nGLOB matches a whole name, ./ and folders too, component by component: * is any run of symbols, ? one\nsymbol, [a-z] one of these and [!a-z] one of the others, none of them a separator; ** as a whole component\nis any number of components; {a,b} is a or b; \\ quotes the character after it. The separator is /. On\nwindows \\ is one as well, in GLOB too, where it quotes nothing. So **/*.rs matches ./src/a.rs, *.rs doesn't.\n\nFILE is read as git reads a .gitignore at the top of the tree; a later one decides over those before it. Names\nare paths from there, with or without ./ at the start. A name that ends with / is a directory, another isn't:\nout/ ignores ./out/ and ./out/a, but not ./out.\n\nStatus: 0, or 1 where a name or line is refused, 2 for other words or a GLOB that is refused, 3 where\nmemory is refused, 4 where a read or write fails, or a FILE can't be read. The first refused name is\ntold with its number, from 1.\n"
+-- a text of the program's own is written, and nothing is read
+abbrev pub WritesSomeText : Doing
+WritesSomeText input left old new answer = (left ≡ input) × ((text : List ℕ) × WritesText text (OfList (Run Write)) old new answer)
 
 -- why the ignore file with this number and this name can't be read
 abbrev pub IsFaultOfOne : KnownFiles → ℕ → List ℕ → Fault → Type 0
@@ -75,9 +80,9 @@ IsFaultOfOne known number name fault = (fault ≡ OfList (Run Memory)) ⊎ (((fa
 module _ (known : KnownFiles) (A : Type 0) where
   -- why an ignore file can't be read: no file has the name, or it isn't read
   abbrev pub IsFileFault : List (List ℕ) → CommandFault → Type 0
-  IsFileFault names Usage = ⊥
-  IsFileFault names (Pattern why) = ⊥
-  IsFileFault names (Numbered number why) = ⊥
+  IsFileFault names Unreadable = ⊥
+  IsFileFault names (Misuse text) = ⊥
+  IsFileFault names (Pattern number why) = ⊥
   IsFileFault names (NoFile number) = (name : List ℕ) × IsFirstUnread A known names number name × known.lacks name
   IsFileFault names (Unread number) = (name : List ℕ) × IsFirstUnread A known names number name
 
@@ -87,49 +92,65 @@ module _ (known : KnownFiles) (A : Type 0) where
 
   -- the run ends with the first ignore file that can't be read. Or it writes these names, but for those that the files ignore, on a platform that states this of its strings, where a name may have `max` bytes
   abbrev pub RunsBut : {E : Type 0} → Ghosts E → Form → ℕ → (List ℕ → Type 0) → List (List ℕ) → Doing
-  RunsBut p form max Chosen names input left old new answer =
+  RunsBut p shape max Chosen names input left old new answer =
       ((why : CommandFault) × IsFileFault names why × EndsAtOnce (Words why) input left old new answer)
-      ⊎ ((files : List (File A)) × AreRead known names files × Runs (picking p form max (IsPicked Chosen files)) OfList input left old new answer)
+      ⊎ ((files : List (File A)) × AreRead known names files × Runs (picking p shape max (IsPicked Chosen files)) OfList input left old new answer)
 
-  -- on such a platform:
-  module _ {E : Type 0} (p : Ghosts E) (os : Os) (form : Form) (pick : Pick) (max : ℕ) where
+  -- on such a platform, where a plan states what is done:
+  module _ {E : Type 0} (p : Ghosts E) (plan : Plan) where
     -- the run ends with the first of the patterns that has a fault. Or it writes the names that one of them matches, or all where there are none, but for those that the files ignore
     abbrev pub RunsPatterns : List (List ℕ) → List (List ℕ) → Doing
     RunsPatterns globs names input left old new answer =
-        ((index : ℕ) × (fault : PatternFault) × IsFirstFault p (options_of os) globs index fault × EndsAtOnce (Words (fault_of pick index fault)) input left old new answer)
-        ⊎ ((written : List (List (List Mark))) × AreWrittenOut p (options_of os) globs written × RunsBut p form max (IsChosen p (options_of os) written) names input left old new answer)
+        ((index : ℕ) × (fault : PatternFault) × IsFirstFault p (options_of plan.os) globs index fault × EndsAtOnce (Words (Pattern (index + 1) fault)) input left old new answer)
+        ⊎ ((written : List (List (List Mark))) × AreWrittenOut p (options_of plan.os) globs written × RunsBut p plan.form plan.max (IsChosen p (options_of plan.os) written) names input left old new answer)
 
-    -- the result for the patterns and the ignore files that pick names
-    abbrev pub RunsChosen : Doing
-    RunsChosen input left old new answer = (globs : List (List ℕ)) × (names : List (List ℕ)) × AreChosen os pick globs names × RunsPatterns globs names input left old new answer
+  -- where these options and operands are given:
+  module _ (given : Line) where
+    -- on a platform that states this of its strings, the result for the patterns and the ignore files that pick names
+    abbrev pub RunsChosen : {E : Type 0} → Ghosts E → Plan → Doing
+    RunsChosen p plan input left old new answer = (globs : List (List ℕ)) × (names : List (List ℕ)) × AreChosen given plan.pick globs names × RunsPatterns p plan globs names input left old new answer
 
-    -- the result for what picks names: that it is neither a pattern nor options, or that for its patterns and ignore files, unless memory is refused first
-    abbrev pub RunsPick : Doing
-    RunsPick input left old new answer =
-        (((globs names : List (List ℕ)) → ¬ (AreChosen os pick globs names)) × EndsAtOnce (Words Usage) input left old new answer)
-        ⊎ UnlessOutOfMemory RunsChosen input left old new answer
+    -- that result, unless memory is refused first
+    abbrev pub RunsPick : {E : Type 0} → Ghosts E → Plan → Doing
+    RunsPick p plan input left old new answer = UnlessOutOfMemory (RunsChosen p plan) input left old new answer
 
-  -- on the platform that a command names
-  abbrev pub RunsPickOn : Os → Form → Pick → ℕ → Doing
-  RunsPickOn os form pick max input left old new answer = RunsPick (strings os) os form pick max input left old new answer
+    -- on the platform of the plan
+    abbrev pub RunsPlan : Plan → Doing
+    RunsPlan plan input left old new answer = RunsPick (strings plan.os) plan input left old new answer
 
-  -- the result of a run over all items, or over the names that are picked, in this form
-  abbrev pub RunsNames : Os → Task → Form → Option Pick → ℕ → Doing
-  RunsNames os what form None max input left old new answer = RunsTask os what max input left old new answer
-  RunsNames os what form (Some pick) max input left old new answer = RunsPickOn os form pick max input left old new answer
+    -- a run over all items, or over the names that are picked, in this form
+    abbrev pub RunsNames : Os → Task → Form → Option Pick → ℕ → Doing
+    RunsNames os what shape None max input left old new answer = RunsTask os what max input left old new answer
+    RunsNames os what shape (Some pick) max input left old new answer = RunsPlan (record { os = os; form = shape; pick = pick; max = max }) input left old new answer
 
-  -- what the command does where a name may have `max` bytes
-  abbrev pub Does : Command → ℕ → Doing
-  Does (ListNames os pick) max input left old new answer = RunsNames os task.ListAll Line pick max input left old new answer
-  Does (ListWords form pick) max input left old new answer = RunsNames Unix (task.ListWords form) (Word form) pick max input left old new answer
-  Does (Filter os pick) max input left old new answer = RunsPickOn os Name pick max input left old new answer
-  Does (Join os last) max input left old new answer = RunsTask os (task.Join last) max input left old new answer
-  Does (JoinWords last) max input left old new answer = RunsTask Unix (task.JoinWords last) max input left old new answer
-  Does (Check os) max input left old new answer = RunsTask os task.Check max input left old new answer
-  Does Help max input left old new answer = WritesText help_text (OfList (Run Write)) old new answer
+    -- what the command does where a name may have `max` bytes
+    abbrev pub Does : Command → ℕ → Doing
+    Does (ListNames os pick) max input left old new answer = RunsNames os task.ListAll form.Line pick max input left old new answer
+    Does (ListWords shape pick) max input left old new answer = RunsNames Unix (task.ListWords shape) (form.Word shape) pick max input left old new answer
+    Does (Filter os pick) max input left old new answer = RunsPlan (record { os = os; form = form.Name; pick = pick; max = max }) input left old new answer
+    Does (Join os last) max input left old new answer = RunsTask os (task.Join last) max input left old new answer
+    Does (JoinWords last) max input left old new answer = RunsTask Unix (task.JoinWords last) max input left old new answer
+    Does (Check os) max input left old new answer = RunsTask os task.Check max input left old new answer
+    Does Help max input left old new answer = WritesSomeText input left old new answer
+    Does Version max input left old new answer = WritesSomeText input left old new answer
 
-  -- the request that these arguments make has this result; arguments that make none are rejected
+  -- the options and operands make up no request, and the run ends at once with what is wrong
+  abbrev pub RejectsLine : Line → Doing
+  RejectsLine given input left old new answer = (wrong : misuse.Misuse) × (why : CommandFault) × ((IsRejected given wrong × IsOfMisuse wrong why) × EndsAtOnce (Words why) input left old new answer)
+
+  -- the options and operands make up a request, which has this result, or none
+  abbrev pub RunsLine : Line → Doing
+  RunsLine given input left old new answer =
+      RejectsLine given input left old new answer
+      ⊎ ((request : Request) × (AsksFor given request × Does given request.command request.max input left old new answer))
+
+  -- the arguments have a fault, and the run ends at once with the first
+  abbrev pub RejectsWords : List (List ℕ) → Doing
+  RejectsWords words input left old new answer = (error : ArgumentError (OsStr Wasm wasm.ghosts)) × (why : CommandFault) × ((HasFault spelled has_value words (fault_of error) × IsOfMisuse (Argument error) why) × EndsAtOnce (Words why) input left old new answer)
+
+  -- the arguments are options and operands, with this result, or have a fault; memory may be refused first
   abbrev pub RunsTo : List (List ℕ) → Doing
   RunsTo words input left old new answer =
-      (((request : Request) → ¬ (AsksFor words request)) × EndsAtOnce (Words Usage) input left old new answer)
-      ⊎ ((request : Request) × (AsksFor words request × Does request.command request.max input left old new answer))
+      EndsAtOnce (OfList (Run Memory)) input left old new answer
+      ⊎ (RejectsWords words input left old new answer
+      ⊎ ((given : Line) × (AreGiven spelled has_value words given × RunsLine given input left old new answer)))

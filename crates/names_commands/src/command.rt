@@ -1,21 +1,32 @@
-//! Commands, and the arguments that make them up.
-ghost use Rattle.std.specs.Prelude.{◌≡◌, ◌≢◌, ◌∷◌, [], ℕ, IfOk, OnErr, MatchOption, map, string_bytes};
+//! Commands, and the options and operands that make them up.
+ghost use Rattle.std.specs.Prelude.{◌≡◌, ◌≢◌, ◌↔◌, ◌∷◌, [], ℕ, List, Option, map, IfOk, IfErr, IsTrue, MatchOption, OnErr, OnOk};
+ghost use Rattle.os_args.specs.Reading.{UnexpectedArgument};
+ghost use Rattle.os_args.specs.Views.{fault_of};
+ghost use Rattle.os_args.specs.Word.{Value};
+ghost use Rattle.program_frame.specs.Arguments.{HasOption, IsOf, operands_of};
 ghost use Rattle.program_frame.specs.Os.{os_word};
-ghost use Rattle.program_frame.specs.declared.os.Os.TheVariants.{Unix};
-ghost use Rattle.names_commands.specs.declared.command.Command.{Command};
-ghost use Rattle.names_commands.specs.declared.command.Request.{Request};
-ghost use Rattle.names_commands.specs.declared.task.LastLine.{LastLine as DeclaredLast};
-ghost use Rattle.names_commands.specs.declared.task.WordForm.{WordForm as DeclaredForm};
-ghost use Rattle.names_commands.specs.Command.{words_of, form_word, last_words, AsksFor, IsLimit, options_of};
+ghost use Rattle.names_commands.specs.Command.{AsksFor, IsWordOption, Fits, FitsOne, HasOperands, IsForm, IsLast, IsLimit, IsMax, IsMaybePick, IsMisplaced, IsMisuse, IsRejected, MakesUp, NoWords, SomePicked, TakesOption, name_word, options_of};
+ghost use Rattle.names_commands.specs.Options.{word_of};
+ghost use Rattle.names_commands.specs.Pick.{TakesIgnore};
+ghost use Rattle.names_commands.specs.declared.command.Name.{Name as DeclaredName};
+ghost use Rattle.names_commands.specs.declared.command.Name.TheVariants.{Check as CheckName, Filter as FilterName, Join as JoinName, List as ListName};
+ghost use Rattle.names_commands.specs.declared.option.NamesOption.TheVariants.{Glob, Ignore};
 
-use crate::fault::Usage;
+use crate::option::NamesOption;
 use crate::pick::Pick;
 use crate::task::{LastLine, WordForm};
 use glob_patterns::{GlobOptions, Separators};
+use os_args::{ArgumentError, Word};
+use os_str_bytes::{OsStr, Wasm};
+use program_frame::arguments::{Given, has, last_value, next_operand};
+use program_frame::misuse::Misuse;
 use program_frame::os::Os;
 
 /// How many bytes a name may have where the arguments state no limit.
 const LONGEST_NAME: usize = 0x10_0000;
+
+/// Options and operands, as they were given.
+pub type Line<'s, 'a> = &'s [Given<'a, NamesOption>];
 
 /// What the program does, and how long a name may be.
 #[derive(Clone, Copy, PartialEq, Eq)]
@@ -27,71 +38,127 @@ pub struct Request<'a> {
 }
 
 impl<'a> Request<'a> {
-    /// The request that the words after the program's name make: those of a command, or `--max`, a
-    /// number as [`usize`] is parsed from a text, and those of a command. Without `--max` a name may
-    /// have 1,048,576 bytes. It takes no memory.
+    /// The request that options and operands make up. It doesn't allocate.
+    ///
+    /// `--help` and `--version` are requests wherever they stand. Otherwise the operands are a
+    /// command, a platform and, for `list` and `filter`, a pattern. Options stand anywhere. The last
+    /// `--max` counts, and without one a name may have 1,048,576 bytes.
     ///
     /// # Errors
     ///
-    /// [`Usage`] for all other words.
+    /// What is wrong: something is missing, a word is invalid, an option isn't for the command or
+    /// the platform, or an operand is one too many. Arguments that make up a request aren't rejected.
     ///
     /// ```
     /// use names_commands::command::{Command, Request};
+    /// use names_commands::option::NamesOption;
+    /// use program_frame::arguments::Given;
     /// use program_frame::os::Os;
     ///
-    /// let mut words = Vec::new(alloc);
-    /// for word in ["--max", "255", "check", "wasm"] {
-    ///     words.push(String::from_str(alloc, word)?)?;
-    /// }
-    /// let request = Request {
-    ///     command: Command::Check(Os::Wasm),
-    ///     max: 255,
-    /// };
-    /// assert!(rt; Request::parse(&words) == Ok(request));
-    /// assert!(rt; Request::parse(&words[1..]).is_err());
+    /// let max = Given::Valued(NamesOption::Max, "255");
+    /// let given = [Given::Operand("check"), Given::Operand("wasm"), max];
+    /// let Ok(request) = Request::parse(&given) else { return Ok(()) };
+    /// assert!(rt; request.command == Command::Check(Os::Wasm) && request.max == 255);
+    /// let Err(error) = Request::parse(&given[..1]) else { return Ok(()) };
+    /// let text = "missing platform (unix, windows or wasm)";
+    /// assert_eq!(rt; format!(in alloc; "{error}")?.as_str(), text);
     /// ```
-    pub fn parse(words: &'a [String]) -> Result<Request<'a>, Usage>
-        ensures request { IfOk result (λ request. AsksFor (map string_bytes words.now) request) }
-        ensures no_request { OnErr result ((request : Request)
-            → ¬ (AsksFor (map string_bytes words.now) request)) }
+    pub fn parse(given: Line<'_, 'a>) -> Result<Request<'a>, Misuse<'a>>
+        ensures request { IfOk result (λ request. AsksFor given.entry.now request) }
+        ensures misuse { IfErr result (λ misuse. IsRejected given.entry.now misuse) }
     {
-        match words {
-            [option, number, rest @ ..] => match option.as_str() {
-                "--max" => {
-                    let max = limit(number.as_str())?;
-                    let command = Command::parse(rest)?;
-                    Ok(Request { command, max })
-                }
-                _ => Request::with_default(words),
-            },
-            _ => Request::with_default(words),
+        if has(given, NamesOption::Help) {
+            let (command, max) = (Command::Help, LONGEST_NAME);
+            return Ok(Request { command, max });
         }
-    }
-
-    /// The request of the words of a command alone.
-    fn with_default(words: &'a [String]) -> Result<Request<'a>, Usage>
-        ensures command { IfOk result
-            (λ request. map string_bytes words.now ≡ words_of request.command) }
-        ensures max { IfOk result (λ request. request.max ≡ 1048576) }
-        ensures no_command { OnErr result ((command : Command)
-            → map string_bytes words.now ≢ words_of command) }
-    {
-        let command = Command::parse(words)?;
-        Ok(Request {
-            command,
-            max: LONGEST_NAME,
-        })
+        if has(given, NamesOption::Version) {
+            let (command, max) = (Command::Version, LONGEST_NAME);
+            return Ok(Request { command, max });
+        }
+        let max = match limit(given) {
+            Ok(max) => max,
+            Err(misuse) => return Err(misuse),
+        };
+        match Command::parse(given) {
+            Ok(command) => Ok(Request { command, max }),
+            Err(misuse) => Err(misuse),
+        }
     }
 }
 
-/// The limit that a text states.
-fn limit(number: &str) -> Result<usize, Usage>
-    ensures limit { IfOk result (λ max. IsLimit number.now max) }
-    ensures no_limit { OnErr result ((max : ℕ) → ¬ (IsLimit number.now max)) }
+/// The limit that options state.
+fn limit<'a>(given: Line<'_, 'a>) -> Result<usize, Misuse<'a>>
+    ensures limit { IfOk result (λ max. IsMax given.entry.now max) }
+    ensures misuse { IfErr result (λ misuse. IsMisuse given.entry.now misuse) }
 {
+    let Some(number) = last_value(given, NamesOption::Max) else {
+        return Ok(LONGEST_NAME);
+    };
     match number.parse::<usize>() {
         Ok(max) => Ok(max),
-        Err(_) => Err(Usage),
+        Err(_) => Err(Misuse::Invalid("number of bytes", number)),
+    }
+}
+
+/// The name of a command.
+#[derive(Clone, Copy, PartialEq, Eq)]
+pub enum Name {
+    /// `list`.
+    List,
+    /// `filter`.
+    Filter,
+    /// `join`.
+    Join,
+    /// `check`.
+    Check,
+}
+
+impl Name {
+    /// The command of this name.
+    fn named(word: &str) -> Option<Name>
+        ensures { MatchOption result ((command : DeclaredName) → word.now ≢ name_word command)
+            (λ command. word.now ≡ name_word command) }
+    {
+        match word {
+            "list" => Some(Name::List),
+            "filter" => Some(Name::Filter),
+            "join" => Some(Name::Join),
+            "check" => Some(Name::Check),
+            _ => None,
+        }
+    }
+
+    /// The word of the command.
+    fn word(self) -> &'static str
+        ensures { result.now ≡ name_word self }
+    {
+        match self {
+            Name::List => "list",
+            Name::Filter => "filter",
+            Name::Join => "join",
+            Name::Check => "check",
+        }
+    }
+
+    /// Whether the command takes an option.
+    fn takes(self, option: NamesOption) -> bool
+        ensures { IsTrue result ↔ TakesOption self option }
+    {
+        match option {
+            NamesOption::Help | NamesOption::Version | NamesOption::Max => true,
+            NamesOption::Sh | NamesOption::ShLine => match self {
+                Name::List | Name::Join => true,
+                Name::Filter | Name::Check => false,
+            },
+            NamesOption::Unterminated => match self {
+                Name::Join => true,
+                Name::List | Name::Filter | Name::Check => false,
+            },
+            NamesOption::Glob | NamesOption::Ignore => match self {
+                Name::List | Name::Filter => true,
+                Name::Join | Name::Check => false,
+            },
+        }
     }
 }
 
@@ -109,167 +176,262 @@ pub enum Command<'a> {
     /// `join`: reads what `list` writes, and writes the names, each ended by NUL. With
     /// `--unterminated` the last line may lack its newline.
     Join(Os, LastLine),
-    /// `join --sh`: reads lines of words, as `list --sh-line` writes them, and writes the names of Unix
-    /// that they are, each ended by NUL.
+    /// `join --sh` or `join --sh-line`: reads lines of words, as `list --sh-line` writes them, and
+    /// writes the names of Unix that they are, each ended by NUL.
     JoinWords(LastLine),
     /// `check`: reads names, each ended by NUL, and writes nothing.
     Check(Os),
     /// `--help`: writes what the commands are.
     Help,
+    /// `--version`: writes the version.
+    Version,
 }
 
 impl<'a> Command<'a> {
-    /// Parses the arguments after the program's name, and nothing else, as a command. It takes no
-    /// memory.
-    ///
-    /// # Errors
-    ///
-    /// [`Usage`] for all other words.
-    ///
-    /// ```
-    /// use names_commands::command::Command;
-    /// use names_commands::pick::Pick;
-    /// use program_frame::os::Os;
-    ///
-    /// let mut words = Vec::new(alloc);
-    /// for word in ["list", "unix", "*.rs"] {
-    ///     words.push(String::from_str(alloc, word)?)?;
-    /// }
-    /// let command = Command::ListNames(Os::Unix, Some(Pick::Glob("*.rs")));
-    /// assert!(rt; Command::parse(&words) == Ok(command));
-    /// assert!(rt; Command::parse(&words[..1]).is_err());
-    /// ```
-    pub fn parse(words: &'a [String]) -> Result<Command<'a>, Usage>
-        ensures command { IfOk result (λ command. map string_bytes words.now ≡ words_of command) }
-        ensures no_command { OnErr result ((command : Command)
-            → map string_bytes words.now ≢ words_of command) }
+    /// The command that options and operands make up.
+    fn parse(given: Line<'_, 'a>) -> Result<Command<'a>, Misuse<'a>>
+        ensures command { IfOk result (λ command. MakesUp given.entry.now command) }
+        ensures misuse { IfErr result (λ misuse. IsMisuse given.entry.now misuse) }
     {
-        match words {
-            [name] => match name.as_str() {
-                "--help" => Ok(Command::Help),
-                _ => Err(Usage),
-            },
-            [name, second, rest @ ..] => { Command::of_words(name.as_str(), second.as_str(), rest) }
-            [] => Err(Usage),
-        }
-    }
-
-    /// The command that a name, a second argument and others make up.
-    #[tactic(auto, using(crate::proofs::lemmas::NoCommand::no_second))]
-    fn of_words(name: &str, second: &str, rest: &'a [String]) -> Result<Command<'a>, Usage>
-        ensures command { IfOk result (λ command.
-            name.now ∷ second.now ∷ map string_bytes rest.now ≡ words_of command) }
-        ensures no_command { OnErr result ((command : Command)
-            → name.now ∷ second.now ∷ map string_bytes rest.now ≢ words_of command) }
-    {
-        if let Some(form) = WordForm::named(second) {
-            return Command::about_words(name, form, rest);
-        }
-        match Os::named(second) {
-            Some(os) => Command::about_names(name, os, rest),
-            None => Err(Usage),
-        }
-    }
-
-    /// The command that a name, a platform and other arguments make up.
-    #[tactic(auto, using(crate::proofs::lemmas::NoCommand::some_pick))]
-    fn about_names(name: &str, os: Os, rest: &'a [String]) -> Result<Command<'a>, Usage>
-        ensures command { IfOk result (λ command.
-            name.now ∷ os_word os ∷ map string_bytes rest.now ≡ words_of command) }
-        ensures no_command { OnErr result ((command : Command)
-            → name.now ∷ os_word os ∷ map string_bytes rest.now ≢ words_of command) }
-    {
-        match name {
-            "list" => Ok(Command::ListNames(os, Pick::of(rest))),
-            "filter" => match Pick::of(rest) {
-                Some(pick) => Ok(Command::Filter(os, pick)),
-                None => Err(Usage),
-            },
-            "join" => match LastLine::of(rest) {
-                Some(last) => Ok(Command::Join(os, last)),
-                None => Err(Usage),
-            },
-            "check" => match rest {
-                [] => Ok(Command::Check(os)),
-                _ => Err(Usage),
-            },
-            _ => Err(Usage),
-        }
-    }
-
-    /// The command about words of a shell that a name, a form and other arguments make up.
-    fn about_words(name: &str, form: WordForm, rest: &'a [String]) -> Result<Command<'a>, Usage>
-        ensures command { IfOk result (λ command.
-            name.now ∷ form_word form ∷ map string_bytes rest.now ≡ words_of command) }
-        ensures no_command { OnErr result ((command : Command)
-            → name.now ∷ form_word form ∷ map string_bytes rest.now ≢ words_of command) }
-    {
-        let [os, rest @ ..] = rest else {
-            return Err(Usage);
+        let Some((name, after)) = next_operand(given) else {
+            return Err(Misuse::Missing("command (list, filter, join or check)"));
         };
-        match os.as_str() {
-            "unix" => Command::about_unix_words(name, form, rest),
-            _ => Err(Usage),
+        let Some(command) = Name::named(name) else {
+            return Err(Misuse::Invalid("command", name));
+        };
+        let Some((platform, more)) = next_operand(after) else {
+            return Err(Misuse::Missing("platform (unix, windows or wasm)"));
+        };
+        let Some(os) = Os::named(platform) else {
+            return Err(Misuse::Invalid("platform", platform));
+        };
+        match fits(given, command) {
+            Ok(()) => Command::of(given, command, os, more),
+            Err(misuse) => Err(misuse),
         }
     }
 
-    /// The command about words of a shell that a name, a form and the arguments after the platform
-    /// make up.
-    fn about_unix_words(
-        name: &str,
-        form: WordForm,
-        rest: &'a [String],
-    ) -> Result<Command<'a>, Usage>
-        ensures command { IfOk result (λ command.
-            name.now ∷ form_word form ∷ os_word Unix ∷ map string_bytes rest.now
-            ≡ words_of command) }
-        ensures no_command { OnErr result ((command : Command)
-            → name.now ∷ form_word form ∷ os_word Unix ∷ map string_bytes rest.now
-            ≢ words_of command) }
+    /// The command of this name on a platform, with the operands of `more`.
+    fn of(
+        given: Line<'_, 'a>,
+        command: Name,
+        os: Os,
+        more: Line<'_, 'a>,
+    ) -> Result<Command<'a>, Misuse<'a>>
+        requires operands { HasOperands given.now command os (operands_of more.now) }
+        requires fits { Fits command given.now }
+        ensures command { IfOk result (λ command. MakesUp given.entry.now command) }
+        ensures misuse { IfErr result (λ misuse. IsMisuse given.entry.now misuse) }
     {
-        match name {
-            "list" => Ok(Command::ListWords(form, Pick::of(rest))),
-            "join" => match form {
-                WordForm::Posix => match LastLine::of(rest) {
-                    Some(last) => Ok(Command::JoinWords(last)),
-                    None => Err(Usage),
-                },
-                WordForm::OneLine => Err(Usage),
+        match command {
+            Name::List => Command::list(given, os, more),
+            Name::Filter => Command::filter(given, os, more),
+            Name::Join => Command::join(given, os, more),
+            Name::Check => match no_operand(given, Name::Check, os, more) {
+                Ok(()) => Ok(Command::Check(os)),
+                Err(misuse) => Err(misuse),
             },
-            _ => Err(Usage),
+        }
+    }
+
+    /// `list`.
+    fn list(given: Line<'_, 'a>, os: Os, more: Line<'_, 'a>) -> Result<Command<'a>, Misuse<'a>>
+        requires operands { HasOperands given.now ListName os (operands_of more.now) }
+        requires fits { Fits ListName given.now }
+        ensures command { IfOk result (λ command. MakesUp given.entry.now command) }
+        ensures misuse { IfErr result (λ misuse. IsMisuse given.entry.now misuse) }
+    {
+        let pick = match maybe_pick(given, Name::List, os, more) {
+            Ok(pick) => pick,
+            Err(misuse) => return Err(misuse),
+        };
+        let Some((form, option)) = form_of(given) else {
+            return Ok(Command::ListNames(os, pick));
+        };
+        match os {
+            Os::Unix => Ok(Command::ListWords(form, pick)),
+            Os::Windows => Err(Misuse::Misplaced(option.word(), "windows")),
+            Os::Wasm => Err(Misuse::Misplaced(option.word(), "wasm")),
+        }
+    }
+
+    /// `filter`.
+    fn filter(given: Line<'_, 'a>, os: Os, more: Line<'_, 'a>) -> Result<Command<'a>, Misuse<'a>>
+        requires operands { HasOperands given.now FilterName os (operands_of more.now) }
+        requires fits { Fits FilterName given.now }
+        ensures command { IfOk result (λ command. MakesUp given.entry.now command) }
+        ensures misuse { IfErr result (λ misuse. IsMisuse given.entry.now misuse) }
+    {
+        match maybe_pick(given, Name::Filter, os, more) {
+            Ok(Some(pick)) => Ok(Command::Filter(os, pick)),
+            Ok(None) => Err(Misuse::Missing("GLOB, --glob or --ignore")),
+            Err(misuse) => Err(misuse),
+        }
+    }
+
+    /// `join`.
+    fn join(given: Line<'_, 'a>, os: Os, more: Line<'_, 'a>) -> Result<Command<'a>, Misuse<'a>>
+        requires operands { HasOperands given.now JoinName os (operands_of more.now) }
+        requires fits { Fits JoinName given.now }
+        ensures command { IfOk result (λ command. MakesUp given.entry.now command) }
+        ensures misuse { IfErr result (λ misuse. IsMisuse given.entry.now misuse) }
+    {
+        match no_operand(given, Name::Join, os, more) {
+            Ok(()) => {}
+            Err(misuse) => return Err(misuse),
+        }
+        let last = last_line(given);
+        let Some((_, option)) = form_of(given) else {
+            return Ok(Command::Join(os, last));
+        };
+        match os {
+            Os::Unix => Ok(Command::JoinWords(last)),
+            Os::Windows => Err(Misuse::Misplaced(option.word(), "windows")),
+            Os::Wasm => Err(Misuse::Misplaced(option.word(), "wasm")),
         }
     }
 }
 
-impl LastLine {
-    /// Whether the last line may lack its newline, by the words after a platform.
-    fn of(words: &[String]) -> Option<LastLine>
-        ensures { MatchOption result
-            ((last : DeclaredLast) → map string_bytes words.now ≢ last_words last)
-            (λ last. map string_bytes words.now ≡ last_words last) }
-    {
-        match words {
-            [] => Some(LastLine::MustEnd),
-            [word] => match word.as_str() {
-                "--unterminated" => Some(LastLine::MayLackEnd),
-                _ => None,
-            },
-            _ => None,
+/// Checks that a command takes each option that was given.
+fn fits<'a>(given: Line<'_, 'a>, command: Name) -> Result<(), Misuse<'a>>
+    requires operands { (os : Os) × ((more : List (List ℕ)) × HasOperands given.now command os more) }
+    ensures fits { OnOk result (Fits command given.entry.now) }
+    ensures misuse { IfErr result (λ misuse. IsMisuse given.entry.now misuse) }
+{
+    match first_misplaced(given, command) {
+        Some(option) => Err(Misuse::Misplaced(option.word(), command.word())),
+        None => Ok(()),
+    }
+}
+
+/// The first option that the command doesn't take.
+fn first_misplaced(given: Line<'_, '_>, command: Name) -> Option<NamesOption>
+    ensures { MatchOption result (Fits command given.entry.now)
+        (λ option. HasOption option given.entry.now × (¬ (TakesOption command option))) }
+{
+    let mut left = given;
+    while let [first, rest @ ..] = left {
+        if let Some(option) = misplaced(first, command) {
+            return Some(option);
+        }
+        left = rest;
+    }
+    None
+}
+
+/// The option that was given here, if the command doesn't take it.
+fn misplaced(given: &Given<'_, NamesOption>, command: Name) -> Option<NamesOption>
+    ensures { MatchOption result (FitsOne command given.now)
+        (λ option. IsOf option given.now × (¬ (TakesOption command option))) }
+{
+    match given {
+        Given::Operand(_) => None,
+        Given::Flag(option) | Given::Valued(option, _) => {
+            if command.takes(*option) {
+                None
+            } else {
+                Some(*option)
+            }
         }
     }
 }
 
-impl WordForm {
-    /// The form of this word.
-    fn named(word: &str) -> Option<WordForm>
-        ensures { MatchOption result ((form : DeclaredForm) → word.now ≢ form_word form)
-            (λ form. word.now ≡ form_word form) }
-    {
-        match word {
-            "--sh" => Some(WordForm::Posix),
-            "--sh-line" => Some(WordForm::OneLine),
-            _ => None,
+/// What picks names, if anything does.
+fn maybe_pick<'a>(
+    given: Line<'_, 'a>,
+    command: Name,
+    os: Os,
+    more: Line<'_, 'a>,
+) -> Result<Option<Pick<'a>>, Misuse<'a>>
+    requires operands { HasOperands given.now command os (operands_of more.now) }
+    requires takes { TakesOption command Glob }
+    ensures pick { IfOk result
+        (λ pick. IsMaybePick given.entry.now os (operands_of more.entry.now) pick) }
+    ensures misuse { IfErr result (λ misuse. IsMisuse given.entry.now misuse) }
+{
+    match ignores(given, os) {
+        Ok(()) => {}
+        Err(misuse) => return Err(misuse),
+    }
+    let Some((glob, rest)) = next_operand(more) else {
+        if has(given, NamesOption::Glob) || has(given, NamesOption::Ignore) {
+            return Ok(Some(Pick { glob: None }));
         }
+        return Ok(None);
+    };
+    match next_operand(rest) {
+        Some((word, _)) => Err(Misuse::Argument(surplus(word))),
+        None => Ok(Some(Pick { glob: Some(glob) })),
+    }
+}
+
+/// Checks that ignore files are given only where the platform takes them: they are about names that
+/// `/` alone separates.
+fn ignores<'a>(given: Line<'_, 'a>, os: Os) -> Result<(), Misuse<'a>>
+    requires operands { (command : Name)
+        × ((more : List (List ℕ)) × HasOperands given.now command os more) }
+    ensures ignores { OnOk result (HasOption Ignore given.entry.now → TakesIgnore os) }
+    ensures misuse { IfErr result (λ misuse. IsMisuse given.entry.now misuse) }
+{
+    match os {
+        Os::Unix | Os::Wasm => Ok(()),
+        Os::Windows => {
+            if has(given, NamesOption::Ignore) {
+                Err(Misuse::Misplaced("--ignore", "windows"))
+            } else {
+                Ok(())
+            }
+        }
+    }
+}
+
+/// Checks that there is no operand more.
+fn no_operand<'a>(
+    given: Line<'_, 'a>,
+    command: Name,
+    os: Os,
+    more: Line<'_, 'a>,
+) -> Result<(), Misuse<'a>>
+    requires operands { HasOperands given.now command os (operands_of more.now) }
+    requires takes { ¬ (TakesOption command Glob) }
+    ensures none { OnOk result (operands_of more.entry.now ≡ []) }
+    ensures misuse { IfErr result (λ misuse. IsMisuse given.entry.now misuse) }
+{
+    match next_operand(more) {
+        Some((word, _)) => Err(Misuse::Argument(surplus(word))),
+        None => Ok(()),
+    }
+}
+
+/// The error for an operand too many.
+fn surplus<'a>(word: &'a str) -> ArgumentError<'a, OsStr<'a, Wasm>>
+    ensures { fault_of result ≡ UnexpectedArgument (Value word.now) }
+{
+    Word::Value(OsStr::new(word)).unexpected()
+}
+
+/// How words of a shell are written, and the option for it.
+fn form_of(given: Line<'_, '_>) -> Option<(WordForm, NamesOption)>
+    ensures { MatchOption result (NoWords given.entry.now)
+        (λ form. IsForm given.entry.now form.0 × IsWordOption given.entry.now form.1) }
+{
+    if has(given, NamesOption::ShLine) {
+        return Some((WordForm::OneLine, NamesOption::ShLine));
+    }
+    if has(given, NamesOption::Sh) {
+        return Some((WordForm::Posix, NamesOption::Sh));
+    }
+    None
+}
+
+/// Whether the last line may lack its newline.
+fn last_line(given: Line<'_, '_>) -> LastLine
+    ensures { IsLast given.entry.now result }
+{
+    if has(given, NamesOption::Unterminated) {
+        LastLine::MayLackEnd
+    } else {
+        LastLine::MustEnd
     }
 }
 

@@ -1,6 +1,10 @@
 //! What keeps the program from its output.
+ghost use Rattle.std.specs.Prelude.{◌++◌, codes};
+ghost use Rattle.std.specs.Fmt.{WritesStyledOnOk};
+ghost use Rattle.std.specs.Fmt.InlineText.{inline_text};
+ghost use Rattle.names_commands.specs.Fault.{IsOfMisuse};
 
-use glob_patterns::{GlobError, GlobSetError, PatternFault};
+use glob_patterns::{GlobSetError, PatternFault};
 use os_command_line::shell::WordsFault;
 use os_quote::QuoteError;
 use os_str_bytes::EncodingError;
@@ -8,8 +12,9 @@ use program_frame::fault::write_number;
 use program_frame::lists::fault::ItemRefusal;
 use program_frame::lists::program_fault;
 use program_frame::lists::program_fault::WordsRefusal;
+use program_frame::misuse::Misuse;
 use std::fmt;
-use std::fmt::Display as _;
+use std::fmt::{Display as _, InlineText};
 
 /// Why an item is refused.
 #[derive(Clone, Copy, PartialEq, Eq)]
@@ -27,24 +32,41 @@ pub enum Refusal {
     BadWords(WordsFault),
 }
 
-/// The arguments make up no command.
-#[derive(Clone, Copy, PartialEq, Eq)]
-pub struct Usage;
+/// How many bytes the text of a misuse may have; a longer one is cut, and ends in three dots.
+pub const ROOM: usize = 400;
 
-/// Why the words are refused.
-#[derive(Clone, Copy, PartialEq, Eq)]
+/// Why the arguments are rejected.
+#[derive(Clone, Copy)]
 pub enum CommandFault {
-    /// The arguments make up no command.
-    Usage,
-    /// The pattern is refused: its first fault.
-    Pattern(PatternFault),
-    /// Of the patterns of options the one with this number, counted from 1, is the first that is
-    /// refused: its first fault.
-    Numbered(usize, PatternFault),
+    /// The arguments aren't available: one of them isn't valid UTF-8.
+    Unreadable,
+    /// They make up no request: what is wrong with them.
+    Misuse(InlineText<ROOM>),
+    /// The pattern with this number, counted from 1, is the first that is rejected: its first
+    /// fault.
+    Pattern(usize, PatternFault),
     /// No file has the name of the ignore file with this number, counted from 1.
     NoFile(usize),
     /// The ignore file with this number couldn't be read.
     Unread(usize),
+}
+
+impl CommandFault {
+    /// The fault for a misuse of the arguments.
+    ///
+    /// ```
+    /// use names_commands::fault::{CommandFault, Fault};
+    /// use program_frame::misuse::Misuse;
+    ///
+    /// let fault: Fault = Fault::Words(CommandFault::of(Misuse::Invalid("platform", "linux")));
+    /// let text = "invalid platform 'linux'; names --help lists the commands";
+    /// assert_eq!(rt; fault.to_string(alloc)?.as_str(), text);
+    /// ```
+    pub fn of(misuse: Misuse<'_>) -> CommandFault
+        ensures { IsOfMisuse misuse.entry result }
+    {
+        CommandFault::Misuse(InlineText::of(misuse))
+    }
 }
 
 /// The reason why a run of the program ended before its input did.
@@ -77,43 +99,47 @@ impl WordsRefusal for CommandFault {
     ghost use Rattle.names_commands.specs.Fault.{words_status, words_text};
     ghost use Rattle.names_commands.specs.declared.fault.CommandFault.{CommandFault};
 
-    ghost usage = { CommandFault.Usage };
+    ghost usage = { CommandFault.Unreadable };
 
     ghost text_of = { words_text };
 
     ghost status_of = { words_status };
 
     fn usage() -> CommandFault {
-        CommandFault::Usage
+        CommandFault::Unreadable
     }
 
     fn status(&self) -> u8 {
         match self {
-            CommandFault::Usage | CommandFault::Pattern(_) | CommandFault::Numbered(_, _) => 2,
+            CommandFault::Unreadable | CommandFault::Misuse(_) | CommandFault::Pattern(_, _) => 2,
             CommandFault::NoFile(_) | CommandFault::Unread(_) => 4,
         }
     }
 
     fn write<W: fmt::Write>(&self, f: &mut fmt::Formatter<W>) -> fmt::Result {
-        match *self {
-            CommandFault::Usage => f.write_str(
-                "usage: names [--max N] list|filter|join|check unix|windows|wasm [GLOB|OPTIONS], list|join --sh unix; names --help tells more",
-            ),
-            CommandFault::Pattern(why) => {
-                f.write_str("pattern: ")?;
-                GlobError::Pattern(why).fmt(f)
-            }
-            CommandFault::Numbered(number, why) => GlobSetError::Pattern(number, why).fmt(f),
+        match self {
+            CommandFault::Unreadable => f.write_str("an argument isn't valid UTF-8"),
+            CommandFault::Misuse(text) => write_hinted(text, f),
+            CommandFault::Pattern(number, why) => GlobSetError::Pattern(*number, *why).fmt(f),
             CommandFault::NoFile(number) => {
                 f.write_str("ignore file ")?;
-                write_number(number, f)?;
+                write_number(*number, f)?;
                 f.write_str(": no such file")
             }
             CommandFault::Unread(number) => {
                 f.write_str("ignore file ")?;
-                write_number(number, f)?;
+                write_number(*number, f)?;
                 f.write_str(": read failed")
             }
         }
     }
+}
+
+/// Writes a text, and how help is got.
+fn write_hinted<W: fmt::Write>(text: &InlineText<ROOM>, f: &mut fmt::Formatter<W>) -> fmt::Result
+    ensures { WritesStyledOnOk W.write_str_gives f.old result
+        (inline_text text.now ++ codes "; names --help lists the commands") f.new }
+{
+    f.write_str(text.as_str())?;
+    f.write_str("; names --help lists the commands")
 }

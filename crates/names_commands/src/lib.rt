@@ -6,7 +6,7 @@
 //! may be empty. The last name may lack its end, and a last line where the settings allow it
 //! ([`task::LastLine`]).
 //!
-//! The arguments are a command ([`Command::parse`](command::Command::parse)). A run reads a block
+//! The arguments make up a request ([`Request::parse`](command::Request::parse)). A run reads a block
 //! at a time, and writes what the items that end in it become ([`program_frame::lists::run::run`]).
 //! So it keeps one item and what a block becomes. Where it ends early, the text of a
 //! [`Fault`](fault::Fault) states why, and for which item ([`program::execute`]).
@@ -17,12 +17,14 @@
 
 pub mod command;
 pub mod fault;
+pub mod help;
 mod ignoring;
 mod item;
 pub mod laws;
 pub mod matching;
 pub mod option;
 pub mod pick;
+pub mod plan;
 pub mod program;
 pub mod task;
 mod words;

@@ -9,8 +9,8 @@ use crate::ended::ProgramFault;
 use std::fmt::{InlineText, Write as _};
 use std::io::Write;
 
-/// How many bytes a message may have. The text of a program's fault has at most 400, and its name at
-/// most 7.
+/// How many bytes a message may have: 400 for what is wrong with the arguments, and room for what
+/// a program writes around it.
 const ROOM: usize = 512;
 
 /// Writes the message of a fault, and returns whether all of it was taken. Otherwise a beginning of

@@ -1,6 +1,6 @@
 -- What the program does for the words that filter names by one ignore file.
 use Rattle.std.proofs.Common.{◌≡◌, ◌≢◌, ◌⊎◌, inl, inr, ℕ, List, [], ◌∷◌, ◌++◌, ◌+◌, length, map, get_or, refl, sym, ap, ◌∙◌, subst, arith, Option, Some, Result, Ok, Err}
-use Rattle.std.specs.Prelude.{codes, OnOk, ⊤, string_bytes}
+use Rattle.std.specs.Prelude.{codes, OnOk, ⊤}
 use Rattle.std.specs.List.{AllByRecursion}
 use Rattle.std.specs.Io.KnownBytes.{Appends}
 use denote.Ref.{Bor}
@@ -20,25 +20,32 @@ use Rattle.program_frame.specs.declared.lists.fault.ListFault.TheVariants.{Run}
 use Rattle.program_frame.specs.declared.lists.program_fault.Fault.TheVariants.{List as OfList, Words}
 use Rattle.program_frame.specs.declared.os.Os.{Os}
 use Rattle.program_frame.specs.declared.os.Os.TheVariants.{Unix, Windows, Wasm}
-use Rattle.names_commands.specs.Command.{AsksFor, options_of, pick_words, words_of}
+use Rattle.names_commands.specs.Command.{AsksFor, HasOperands, IsMax, IsPick, Line, MakesUp, name_word, options_of}
 use Rattle.names_commands.specs.Fault.{words_status}
 use Rattle.names_commands.specs.Ignoring.{AreAdded, AreRead, FileRead, IsFirstUnread, IsIgnored, name_of}
 use Rattle.names_commands.specs.Matching.{IsChosen, IsPicked, picking}
-use Rattle.names_commands.specs.Pick.{AreOptions}
-use Rattle.names_commands.specs.Program.{Does, EndsAtOnce, Fault, IsFileFault, RunsBut, RunsPatterns, RunsPickOn, RunsTo, UnlessOutOfMemory}
+use Rattle.names_commands.specs.Options.{has_value, spelled}
+use Rattle.names_commands.specs.Pick.{glob_words}
+use Rattle.names_commands.specs.Program.{Does, EndsAtOnce, Fault, IsFileFault, RejectsLine, RunsBut, RunsLine, RunsPatterns, RunsPlan, RunsTo, UnlessOutOfMemory}
 use Rattle.names_commands.specs.declared.command.Command.{Command}
-use Rattle.names_commands.specs.declared.command.Command.TheVariants.{ListNames, ListWords, Filter, Join, JoinWords, Check, Help}
+use Rattle.names_commands.specs.declared.command.Command.TheVariants.{ListNames, ListWords, Filter, Join, JoinWords, Check, Help, Version}
+use Rattle.names_commands.specs.declared.command.Name.{Name as DeclaredName}
+use Rattle.names_commands.specs.declared.command.Name.TheVariants as name
 use Rattle.names_commands.specs.declared.command.Request.{Request}
 use Rattle.names_commands.specs.declared.fault.CommandFault.{CommandFault}
-use Rattle.names_commands.specs.declared.fault.CommandFault.TheVariants.{Usage, Pattern, Numbered, NoFile, Unread}
+use Rattle.names_commands.specs.declared.fault.CommandFault.TheVariants.{Unreadable, Misuse, Pattern, NoFile, Unread}
 use Rattle.names_commands.specs.declared.fault.Refusal.{Refusal}
 use Rattle.names_commands.specs.declared.matching.Form.TheVariants.{Name}
 use Rattle.names_commands.specs.declared.pick.Pick.{Pick}
-use Rattle.names_commands.specs.declared.pick.Pick.TheVariants.{Glob, Options}
+use Rattle.names_commands.specs.declared.plan.Plan.{Plan}
+use Rattle.names_commands.specs.declared.option.NamesOption.TheVariants as option
+use Rattle.os_args.specs.Views.{fault_of}
+use Rattle.program_frame.specs.Arguments.{AreGiven, AreValues, HasOption, LastValue}
+use Rattle.program_frame.specs.declared.arguments.Given.TheVariants.{Operand, Valued}
 use Rattle.test_command_uses.specs.OneFile.{only, filtering, IsFilteredBy, IsUnread}
+use Rattle.test_command_uses.proofs.GivenWords.{OneValue, OneWord, are_filtering, no_fault_of}
 use Rattle.test_command_uses.proofs.KnownNames.{known_filtered}
 
--- words that begin otherwise differ
 first : {x y : List ℕ} {xs ys : List (List ℕ)} → x ∷ xs ≡ y ∷ ys → x ≡ y
 first e = cc
 
@@ -63,12 +70,6 @@ not_check e =
     let no : 102 ≢ 99 = omega arith in
     no n
 
-not_dash : (rest : List ℕ) → codes "filter" ≡ 45 ∷ rest → ⊥
-not_dash rest e =
-    let n : 102 ≡ 45 = ap (λ l. get_or l 0 0) e in
-    let no : 102 ≢ 45 = omega arith in
-    no n
-
 not_windows : codes "unix" ≡ codes "windows" → ⊥
 not_windows e =
     let n : 117 ≡ 119 = ap (λ l. get_or l 0 0) e in
@@ -81,12 +82,6 @@ not_wasm e =
     let no : 117 ≢ 119 = omega arith in
     no n
 
-not_glob : codes "--ignore" ≡ codes "--glob" → ⊥
-not_glob e =
-    let n : 105 ≡ 103 = ap (λ l. get_or l 2 0) e in
-    let no : 105 ≢ 103 = omega arith in
-    no n
-
 nil_left : {X : Type 0} (xs ys : List X) → [] ≡ xs ++ ys → xs ≡ []
 nil_left [] ys e = refl
 nil_left (x ∷ xs) ys e = let never : [] ≡ x ∷ (xs ++ ys) = e in absurd (cc)
@@ -96,24 +91,65 @@ one_before word name [] after e = refl
 one_before word name (x ∷ []) after e = let never : [] ≡ name ∷ after = later e in absurd (cc)
 one_before word name (x ∷ y ∷ before) after e = let never : [] ≡ y ∷ (before ++ name ∷ after) = later e in absurd (cc)
 
--- the option chooses the file alone
-module _ (option value : List ℕ) (words globs files : List (List ℕ)) (is : option ≡ codes "--ignore") (none : words ≡ []) where
-  chosen_is : AreOptions Unix (option ∷ value ∷ words) globs files → (globs ≡ []) × (files ≡ value ∷ [])
-  chosen_is are = by are.4.0
+-- the file is the only one that the options state, and there is no pattern
+module _ (command platform value : Bor (List ℕ)) where
+  abbrev given_of : Line
+  given_of = Operand command ∷ Operand platform ∷ Valued option.Ignore value ∷ []
+
+  one_file : (files : List (List ℕ)) → AreValues option.Ignore given_of files → files ≡ value.now ∷ []
+  one_file files (inl k) = absurd k.2.0
+  one_file files (inr k) = by k.1
     where
-      others : (are.2 ≡ []) × (are.3 ≡ [])
-      others = subst (λ w. AreOptions Unix w are.2 are.3) none are.4.1.0
+      last : AreValues option.Ignore (Valued option.Ignore value ∷ []) files → files ≡ value.now ∷ []
+      last (inl k) = k.2.1.1 ∙ ap (λ x. k.0 ∷ x) k.2.1.0 ∙ ap (λ x. x ∷ []) (sym k.2.0.1)
+      last (inr k) = absurd (k.0 value.now (refl, refl))
 
-      by : ((option ≡ codes "--glob") × ((are.0 ≡ value ∷ []) × (are.1 ≡ []))) ⊎ ((option ≡ codes "--ignore") × (Unit {0} × ((are.0 ≡ []) × (are.1 ≡ value ∷ [])))) → (globs ≡ []) × (files ≡ value ∷ [])
-      by (inl g) = absurd (not_glob (sym is ∙ g.0))
-      by (inr f) = (
-        are.4.1.1.0 ∙ ap (λ x. x ++ are.2) f.1.1.0 ∙ others.0,
-        are.4.1.1.1 ∙ ap (λ x. x ++ are.3) f.1.1.1 ∙ ap (λ x. value ∷ x) others.1,
-      )
+      by : AreValues option.Ignore (Operand platform ∷ Valued option.Ignore value ∷ []) files → files ≡ value.now ∷ []
+      by (inl k) = absurd k.2.0
+      by (inr k) = last k.1
 
-module _ (option value : List ℕ) (words : List (List ℕ)) (is : option ≡ codes "--ignore") (none : words ≡ []) where
-  chosen : AreOptions Unix (option ∷ value ∷ words) [] (value ∷ [])
-  chosen = ([], value ∷ [], [], [], (inr (is, (tt, (refl, refl))), (subst (λ w. AreOptions Unix w [] []) (sym none) (refl, refl), (refl, refl))))
+  no_globs : (globs : List (List ℕ)) → AreValues option.Glob given_of globs → globs ≡ []
+  no_globs globs (inl k) = absurd k.2.0
+  no_globs globs (inr k) = by k.1
+    where
+      last : AreValues option.Glob (Valued option.Ignore value ∷ []) globs → globs ≡ []
+      last (inl k) = let never : option.Ignore ≡ option.Glob = k.2.0.0 in absurd (cc)
+      last (inr k) = k.1
+
+      by : AreValues option.Glob (Operand platform ∷ Valued option.Ignore value ∷ []) globs → globs ≡ []
+      by (inl k) = absurd k.2.0
+      by (inr k) = last k.1
+
+  no_limit : LastValue option.Max given_of None None
+  no_limit = inr (λ v h. h, inr (λ v h. h, inr (λ v h. let never : option.Ignore ≡ option.Max = h.0 in cc, refl)))
+
+  other_limit : (number : List ℕ) → ¬ (LastValue option.Max given_of None (Some number))
+  other_limit number (inl k) = k.1.0
+  other_limit number (inr k) = by k.1
+    where
+      last : ¬ (LastValue option.Max (Valued option.Ignore value ∷ []) None (Some number))
+      last (inl k) = let never : option.Ignore ≡ option.Max = k.1.0.0 in cc
+      last (inr k) = let never : Some number ≡ None = k.1 in cc
+
+      by : ¬ (LastValue option.Max (Operand platform ∷ Valued option.Ignore value ∷ []) None (Some number))
+      by (inl k) = k.1.0
+      by (inr k) = last k.1
+
+  usual_max : (max : ℕ) → IsMax given_of max → max ≡ 1048576
+  usual_max max (inl m) = m.1
+  usual_max max (inr m) = absurd (other_limit m.0 m.1.0)
+
+  no_help : ¬ (HasOption option.Help given_of)
+  no_help (inl h) = h
+  no_help (inr (inl h)) = h
+  no_help (inr (inr (inl h))) = let never : option.Ignore ≡ option.Help = h in cc
+  no_help (inr (inr (inr h))) = h
+
+  no_version : ¬ (HasOption option.Version given_of)
+  no_version (inl h) = h
+  no_version (inr (inl h)) = h
+  no_version (inr (inr (inl h))) = let never : option.Ignore ≡ option.Version = h in cc
+  no_version (inr (inr (inr h))) = h
 
 module _ (known : KnownFiles) (A : Type 0) (file : List ℕ) (input left old new : Option (List ℕ)) (answer : Result ⊤ Fault) where
   -- all names are written, but for those that the file ignores
@@ -125,57 +161,86 @@ module _ (known : KnownFiles) (A : Type 0) (file : List ℕ) (input left old new
   no_fault (x ∷ before) after text e = let never : [] ≡ x ∷ (before ++ text ∷ after) = e in cc
 
   -- no pattern has a fault where there is none
-  ran : (pick : Pick) → RunsPatterns known A (strings Unix) Unix Name pick 1048576 [] (file ∷ []) input left old new answer → Filters
-  ran pick (inl fault) = absurd (no_fault fault.2.before fault.2.after fault.2.text fault.2.joined)
-  ran pick (inr compiled) = inr (subst (λ w. RunsBut known A (strings Unix) Name 1048576 (IsChosen (strings Unix) (options_of Unix) w) (file ∷ []) input left old new answer) compiled.1 compiled.2)
+  ran : (plan : Plan) → plan.os ≡ Unix → plan.form ≡ Name → plan.max ≡ 1048576 → RunsPatterns known A (strings Unix) plan [] (file ∷ []) input left old new answer → Filters
+  ran plan os form max (inl fault) = absurd (no_fault fault.2.before fault.2.after fault.2.text fault.2.joined)
+  ran plan os form max (inr compiled) =
+      let runs = subst (λ w. RunsBut known A (strings Unix) plan.form plan.max (IsChosen (strings Unix) (options_of plan.os) w) (file ∷ []) input left old new answer) compiled.1 compiled.2 in
+      inr (subst (λ o. RunsBut known A (strings Unix) Name 1048576 (IsChosen (strings Unix) (options_of o) []) (file ∷ []) input left old new answer) os
+      (subst (λ f. RunsBut known A (strings Unix) f 1048576 (IsChosen (strings Unix) (options_of plan.os) []) (file ∷ []) input left old new answer) form
+      (subst (λ m. RunsBut known A (strings Unix) plan.form m (IsChosen (strings Unix) (options_of plan.os) []) (file ∷ []) input left old new answer) max runs)))
 
-  picked : (pick : Pick) → codes "--ignore" ∷ file ∷ [] ≡ pick_words pick → RunsPickOn known A Unix Name pick 1048576 input left old new answer → Filters
-  picked (Glob pattern) e runs = let never : file ∷ [] ≡ [] = later e in absurd (cc)
-  picked (Options option value rest) e (inl refused) =
-      let one : file ≡ value.now = first (later e) in
-      absurd (refused.0 [] (value.now ∷ []) (chosen option.now value.now (map string_bytes rest.now) (sym (first e)) (sym (later (later e)))))
-  picked (Options option value rest) e (inr (inl memory)) = inl memory
-  picked (Options option value rest) e (inr (inr chose)) =
-      let are = chosen_is option.now value.now (map string_bytes rest.now) chose.0 chose.1 (sym (first e)) (sym (later (later e))) chose.2 in
-      let one : chose.1 ≡ file ∷ [] = are.1 ∙ ap (λ v. v ∷ []) (sym (first (later e))) in
-      let Runs = RunsPatterns known A (strings Unix) Unix Name (Options option value rest) 1048576 in
-      ran (Options option value rest)
-      (subst (λ x. Runs [] x input left old new answer) one
-      (subst (λ x. Runs x chose.1 input left old new answer) are.0 chose.3))
+  module _ (command platform value : Bor (List ℕ)) (is_command : command.now ≡ codes "filter") (is_platform : platform.now ≡ codes "unix") (is_file : value.now ≡ file) where
+    abbrev given : Line
+    given = given_of command platform value
 
-  -- the words are those of one command
-  by_platform : (os : Os) (pick : Pick) → codes "unix" ≡ os_word os → codes "--ignore" ∷ file ∷ [] ≡ pick_words pick → RunsPickOn known A os Name pick 1048576 input left old new answer → Filters
-  by_platform Unix pick o e runs = picked pick e runs
-  by_platform Windows pick o e runs = absurd (not_windows o)
-  by_platform Wasm pick o e runs = absurd (not_wasm o)
+    picked : (pick : Pick) (max : ℕ) → max ≡ 1048576 → glob_words pick.glob ≡ [] → RunsPlan known A given (record { os = Unix; form = Name; pick = pick; max = max }) input left old new answer → Filters
+    picked pick max usual none (inl memory) = inl memory
+    picked pick max usual none (inr chose) =
+        let globs = chose.0 in
+        let names = chose.1 in
+        let patterns = chose.2.0 in
+        let more : patterns.0 ≡ [] = no_globs command platform value patterns.0 patterns.1.0 in
+        let globs_are : globs ≡ [] = patterns.1.1 ∙ ap (λ x. x ++ patterns.0) none ∙ more in
+        let names_are : names ≡ file ∷ [] = one_file command platform value names chose.2.1 ∙ ap (λ x. x ∷ []) is_file in
+        let plan : Plan = record { os = Unix; form = Name; pick = pick; max = max } in
+        ran plan refl refl usual
+        (subst (λ x. RunsPatterns known A (strings Unix) plan [] x input left old new answer) names_are
+        (subst (λ x. RunsPatterns known A (strings Unix) plan x names input left old new answer) globs_are chose.3))
 
-  by_command : (command : Command) → filtering file ≡ words_of command → Does known A command 1048576 input left old new answer → Filters
-  by_command (ListNames os pick) e does = absurd (not_list (first e))
-  by_command (ListWords form pick) e does = absurd (not_list (first e))
-  by_command (Filter os pick) e does = by_platform os pick (first (later e)) (later (later e)) does
-  by_command (Join os last) e does = absurd (not_join (first e))
-  by_command (JoinWords last) e does = absurd (not_join (first e))
-  by_command (Check os) e does = absurd (not_check (first e))
-  by_command Help e does = absurd (not_dash _ (first e))
+    -- the operands are those of one command
+    operands : HasOperands given name.Filter Unix []
+    operands = ap (λ x. x ∷ platform.now ∷ []) is_command ∙ ap (λ x. codes "filter" ∷ x ∷ []) is_platform
 
-  by_request : (request : Request) → AsksFor (filtering file) request → Does known A request.command request.max input left old new answer → Filters
-  by_request request (inl asks) does = by_command request.command asks.0 (subst (λ m. Does known A request.command m input left old new answer) asks.1 does)
-  by_request request (inr limited) does = absurd (not_dash _ (first limited.1.0))
+    is_word : (c : DeclaredName) (os : Os) (more : List (List ℕ)) → HasOperands given c os more → codes "filter" ≡ name_word c
+    is_word c os more has = sym is_command ∙ first has
 
--- some command has the words
-asked : (file : List ℕ) → (request : Request) × AsksFor (filtering file) request
-asked file = (record { command = Filter Unix (Options (held (codes "--ignore")) (held file) (record { ref_ptr = (0, 0); now = [] })); max = 1048576 }, inl (refl, refl))
-  where
-    held : List ℕ → Bor (List ℕ)
-    held bytes = record { ref_ptr = (0, 0); now = bytes }
+    by_platform : (os : Os) (more : List (List ℕ)) (pick : Pick) (max : ℕ) → codes "unix" ≡ os_word os → [] ≡ more → max ≡ 1048576 → IsPick given os more pick → RunsPlan known A given (record { os = os; form = Name; pick = pick; max = max }) input left old new answer → Filters
+    by_platform Unix more pick max e none usual is runs = picked pick max usual (sym is.glob ∙ sym none) runs
+    by_platform Windows more pick max e none usual is runs = absurd (not_windows e)
+    by_platform Wasm more pick max e none usual is runs = absurd (not_wasm e)
+
+    by_command : (command : Command) (max : ℕ) → max ≡ 1048576 → MakesUp given command → Does known A given command max input left old new answer → Filters
+    by_command (ListNames os pick) max usual m does = absurd (not_list (is_word name.List os m.0 m.1.0))
+    by_command (ListWords form pick) max usual m does = absurd (not_list (is_word name.List Unix m.0 m.1.0))
+    by_command (Filter os pick) max usual m does = by_platform os m.0 pick max (sym is_platform ∙ first (later m.1.0)) (later (later m.1.0)) usual m.1.1.1 does
+    by_command (Join os last) max usual m does = absurd (not_join (is_word name.Join os [] m.0))
+    by_command (JoinWords last) max usual m does = absurd (not_join (is_word name.Join Unix [] m.0))
+    by_command (Check os) max usual m does = absurd (not_check (is_word name.Check os [] m.0))
+    by_command Help max usual m does = absurd m
+    by_command Version max usual m does = absurd m
+
+    by_request : (request : Request) → AsksFor given request → Does known A given request.command request.max input left old new answer → Filters
+    by_request request (inl asks) does = absurd (no_help command platform value asks.0)
+    by_request request (inr asks) does = by asks.1
+      where
+        by : ((HasOption option.Version given × (request.command ≡ Version)) ⊎ ((¬ (HasOption option.Version given)) × (IsMax given request.max × MakesUp given request.command))) → Filters
+        by (inl v) = absurd (no_version command platform value v.0)
+        by (inr c) = by_command request.command request.max (usual_max command platform value request.max c.1.0) c.1.1 does
+
+    -- some command has them
+    asked : (request : Request) × AsksFor given request
+    asked = (record { command = Filter Unix (record { glob = None }); max = 1048576 }, inr (no_help command platform value, inr (no_version command platform value, (inl (no_limit command platform value, refl), ([], (operands, ((tt, (tt, (tt, tt))), record { glob = refl; some = inr (inr (inr (inr (inl refl)))); ignores = λ h. tt })))))))
+
+    not_rejected : RejectsLine given input left old new answer → ⊥
+    not_rejected r = r.2.0.0.no_request asked.0 asked.1
+
+    of_line : RunsLine known A given input left old new answer → Filters
+    of_line (inl r) = absurd (not_rejected r)
+    of_line (inr does) = by_request does.0 does.1.0 does.1.1
 
 -- what the program does for the words
-pub filters : (known : KnownFiles) (A : Type 0) (file : List ℕ) (words : List (List ℕ)) (input left old new : Option (List ℕ)) (answer : Result ⊤ Fault) → words ≡ filtering file → RunsTo known A words input left old new answer → Filters known A file input left old new answer
-filters known A file words input left old new answer are runs = by (subst (λ w. RunsTo known A w input left old new answer) are runs)
+pub filters : OneWord → OneValue → (known : KnownFiles) (A : Type 0) (file : List ℕ) (words : List (List ℕ)) (input left old new : Option (List ℕ)) (answer : Result ⊤ Fault) → words ≡ filtering file → RunsTo known A words input left old new answer → Filters known A file input left old new answer
+filters one_word one_value known A file words input left old new answer are runs = by (subst (λ w. RunsTo known A w input left old new answer) are runs)
   where
+    line : (given : Line) → AreGiven spelled has_value (filtering file) given → RunsLine known A given input left old new answer → Filters known A file input left old new answer
+    line given read runs =
+        let is = are_filtering one_word one_value file given read in
+        of_line known A file input left old new answer is.command is.platform is.value is.command_is is.platform_is is.value_is (subst (λ g. RunsLine known A g input left old new answer) is.given_are runs)
+
     by : RunsTo known A (filtering file) input left old new answer → Filters known A file input left old new answer
-    by (inl refused) = let ask = asked file in absurd (refused.0 ask.0 ask.1)
-    by (inr does) = by_request known A file input left old new answer does.0 does.1.0 does.1.1
+    by (inl memory) = inl memory
+    by (inr (inl refused)) = absurd (no_fault_of one_word one_value file (fault_of refused.0) refused.2.0.0)
+    by (inr (inr does)) = line does.0 does.1.0 does.1.1
 
 -- the file that was read is the only one
 module _ {A : Type 0} (name bytes : List ℕ) where
@@ -245,9 +310,9 @@ module _ (A : Type 0) (file bytes other : List ℕ) (differs : other ≢ file) (
   number_one number name u = u.number_is ∙ ap (λ b. length b + 1) (one_before other name u.before u.after u.joined)
 
   by_fault : (why : CommandFault) → IsFileFault (only file bytes) A (other ∷ []) why → EndsAtOnce (Words why) input left old new answer → EndsUnread input left old new answer
-  by_fault Usage f ends = absurd f
-  by_fault (Pattern fault) f ends = absurd f
-  by_fault (Numbered number fault) f ends = absurd f
+  by_fault Unreadable f ends = absurd f
+  by_fault (Misuse text) f ends = absurd f
+  by_fault (Pattern number fault) f ends = absurd f
   by_fault (NoFile number) f ends = record { fault = inl (inl (ends.0 ∙ ap (λ n. Err (Words (NoFile n))) (number_one number f.0 f.1))); kept = ends.1.0; nothing = ends.1.1 }
   by_fault (Unread number) f ends = record { fault = inl (inr (ends.0 ∙ ap (λ n. Err (Words (Unread n))) (number_one number f.0 f.1))); kept = ends.1.0; nothing = ends.1.1 }
 
@@ -257,10 +322,10 @@ module _ (A : Type 0) (file bytes other : List ℕ) (differs : other ≢ file) (
   ends_unread (inr (inr ran)) = absurd (not_read file bytes other ran.0 differs ran.1)
 
 -- what the whole program writes for one name, unless memory is refused before it runs
-module _ (A : Type 0) (file bytes name : List ℕ) (whole : Lacks 0 name) (some : name ≢ []) (words : List (List ℕ)) (words_are : words ≡ filtering file) (left old new : Option (List ℕ)) where
+module _ (one_word : OneWord) (one_value : OneValue) (A : Type 0) (file bytes name : List ℕ) (whole : Lacks 0 name) (some : name ≢ []) (words : List (List ℕ)) (words_are : words ≡ filtering file) (left old new : Option (List ℕ)) where
   pub program_written : {X : Type 0} (outcome answer : Result ⊤ Fault) → answer ≡ outcome → ((outcome ≡ Err (OfList (Run Memory))) × X) ⊎ RunsTo (only file bytes) A words (Some name) left old new outcome → OnOk answer ((text : List ℕ) × (IsFilteredBy A bytes name text × Appends old new text))
   program_written outcome answer e (inl memory) = err_written A file bytes name whole some left old new answer _ (e ∙ memory.0)
-  program_written outcome answer e (inr runs) = subst (Written A file bytes name whole some left old new) (sym e) (written A file bytes name whole some left old new outcome (filters (only file bytes) A file words (Some name) left old new outcome words_are runs))
+  program_written outcome answer e (inr runs) = subst (Written A file bytes name whole some left old new) (sym e) (written A file bytes name whole some left old new outcome (filters one_word one_value (only file bytes) A file words (Some name) left old new outcome words_are runs))
 
 -- the status where the file can't be read
 pub status_unread : (outcome answer : Result ⊤ Fault) (status : ℕ) → answer ≡ outcome → status ≡ status_after (status_of words_status) outcome
@@ -270,8 +335,8 @@ status_unread outcome answer status e s (inl (inr failed)) = inl (inr (e ∙ fai
 status_unread outcome answer status e s (inr memory) = inr (e ∙ memory, s ∙ ap (status_after (status_of words_status)) memory)
 
 -- how the whole program ends then: memory may be refused before it runs
-pub end_of : (A : Type 0) (file bytes other : List ℕ) → other ≢ file → (words : List (List ℕ)) → words ≡ filtering other → {R W : Type 0} (reads : R → Option (List ℕ)) (writes : W → Option (List ℕ)) (reader read : R) (writer wrote : W) (outcome : Result ⊤ Fault)
+pub end_of : OneWord → OneValue → (A : Type 0) (file bytes other : List ℕ) → other ≢ file → (words : List (List ℕ)) → words ≡ filtering other → {R W : Type 0} (reads : R → Option (List ℕ)) (writes : W → Option (List ℕ)) (reader read : R) (writer wrote : W) (outcome : Result ⊤ Fault)
     → ((outcome ≡ Err (OfList (Run Memory))) × ((read ≡ reader) × (wrote ≡ writer))) ⊎ RunsTo (only file bytes) A words (reads reader) (reads read) (writes writer) (writes wrote) outcome
     → EndsUnread (reads reader) (reads read) (writes writer) (writes wrote) outcome
-end_of A file bytes other differs words are reads writes reader read writer wrote outcome (inl memory) = record { fault = inr memory.0; kept = ap reads memory.1.0; nothing = ap writes memory.1.1 }
-end_of A file bytes other differs words are reads writes reader read writer wrote outcome (inr runs) = ends_unread A file bytes other differs (reads reader) (reads read) (writes writer) (writes wrote) outcome (filters (only file bytes) A other words (reads reader) (reads read) (writes writer) (writes wrote) outcome are runs)
+end_of one_word one_value A file bytes other differs words are reads writes reader read writer wrote outcome (inl memory) = record { fault = inr memory.0; kept = ap reads memory.1.0; nothing = ap writes memory.1.1 }
+end_of one_word one_value A file bytes other differs words are reads writes reader read writer wrote outcome (inr runs) = ends_unread A file bytes other differs (reads reader) (reads read) (writes writer) (writes wrote) outcome (filters one_word one_value (only file bytes) A other words (reads reader) (reads read) (writes writer) (writes wrote) outcome are runs)

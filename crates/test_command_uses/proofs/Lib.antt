@@ -1,3 +1,4 @@
+pub mod GivenWords
 pub mod KnownIgnore
 pub mod KnownNames
 pub mod KnownPaths

@@ -9,6 +9,7 @@ ghost use Rattle.test_command_uses.specs.OneFile.{filtering, IsFilteredBy, IsUnr
 
 use names_commands::fault::Fault;
 use names_commands::program::Names;
+use os_args::laws::one_outcome;
 use program_frame::ends::{Messages, Output};
 use program_frame::files::{FileFault, Files};
 use program_frame::lists::program::execute;
@@ -61,6 +62,7 @@ pub fn left_out<A: Allocator + Copy, W: Output, E: Messages>(
         × Appends (W.contents (marked_inner writer.old)) (W.contents (marked_inner writer.new))
         text)) }
 {
+    one_outcome();
     let mut reader = Marked::new(name);
     let names = Names::new(file);
     execute(&names, alloc, Ok(arguments), &mut reader, writer, errors).outcome()
@@ -86,6 +88,7 @@ pub fn unread<P: Eprint, A: Allocator + Copy, R: Read, W: Output, E: Messages>(
     ensures kept { R.remaining (marked_inner reader.new) ≡ R.remaining (marked_inner reader.old) }
     ensures nothing { W.contents (marked_inner writer.new) ≡ W.contents (marked_inner writer.old) }
 {
+    one_outcome();
     let names = Names::new(file);
     let ended = execute(&names, alloc, Ok(arguments), reader, writer, errors);
     let outcome = ended.outcome();

@@ -1,5 +1,5 @@
 //! Lists of names: the words of requests, what runs write and refuse, and the way back.
-ghost use Rattle.std.specs.Prelude.{◌≡◌, ◌≢◌, ◌≤◌, ◌∷◌, ◌++◌, ◌⊎◌, [], ℕ, List, false, IsOk, IfOk, IfErr, OnOk, length, map, string_bytes};
+ghost use Rattle.std.specs.Prelude.{◌≡◌, ◌≢◌, ◌≤◌, ◌∷◌, ◌++◌, ◌⊎◌, [], ℕ, List, false, IsOk, IfErr, IfSome, OnOk, length};
 ghost use Rattle.std.specs.Io.KnownBytes.{Appends};
 ghost use Rattle.os_command_line.specs.ShellWriting.{quoted_word};
 ghost use Rattle.os_ignore.specs.Ignores.{files_of};
@@ -15,34 +15,40 @@ ghost use Rattle.names_commands.specs.Command.{AsksFor};
 ghost use Rattle.names_commands.specs.Matching.{IsPickedBy};
 ghost use Rattle.names_commands.specs.Task.{rules_of};
 ghost use Rattle.names_commands.specs.Words.{AreNamesOf};
-ghost use Rattle.names_commands.specs.declared.command.Request.{Request};
+ghost use Rattle.names_commands.specs.declared.command.Request.{Request as RequestOf};
 ghost use Rattle.names_commands.specs.declared.fault.Refusal.{Refusal};
 ghost use Rattle.names_commands.specs.declared.fault.Refusal.TheVariants.{NoString};
 
-use names_commands::command::Request;
-use names_commands::fault::{Refusal, Usage};
+use names_commands::command::{Line, Request};
+use names_commands::fault::Refusal;
 use names_commands::laws::{names_come_back, names_come_back_from_words};
 use names_commands::matching::{Form, Matching, Picker};
 use names_commands::task::{LastLine, OnPlatform, Settings, Task, WordForm};
 use os_str_bytes::{Platform, Unix};
+use program_frame::arguments::Given;
 use program_frame::lists::fault::ListFault;
 use program_frame::lists::run::run;
 use program_frame::marked::Marked;
+use program_frame::misuse::Misuse;
 use std::alloc::Allocator;
 use std::io::Write;
 
-/// The request of two words, whose limit is the one that holds where no word says another.
-pub fn request_of_two(words: &[String]) -> Result<Request<'_>, Usage>
-    ensures { IfOk result (λ request. length words.now ≡ 2 → request.max ≡ 0x10_0000) }
+/// The limit of a request of two words, which no option states.
+pub fn limit_of_two(command: &str, platform: &str) -> Option<usize>
+    ensures { IfSome result (λ max. max ≡ 0x10_0000) }
 {
-    Request::parse(words)
+    let given = [Given::Operand(command), Given::Operand(platform)];
+    match Request::parse(&given) {
+        Ok(request) => Some(request.max),
+        Err(_) => None,
+    }
 }
 
-/// The request that words make.
-pub fn known_request(words: &[String]) -> Result<Request<'_>, Usage>
-    ensures { (request : Request) → AsksFor (map string_bytes words.now) request → IsOk result }
+/// The request that options and operands make up.
+pub fn known_request<'a>(given: Line<'_, 'a>) -> Result<Request<'a>, Misuse<'a>>
+    ensures { (request : RequestOf) → AsksFor given.entry.now request → IsOk result }
 {
-    Request::parse(words)
+    Request::parse(given)
 }
 
 /// A run over bytes.

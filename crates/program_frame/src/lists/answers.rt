@@ -39,7 +39,7 @@ use std::io::{Read, Write};
 /// let (mut reader, mut writer) = (Marked::new(b"a\0".as_slice()), Marked::new(&mut taken));
 /// let listing = OnPlatform::<Unix>::new(Settings { task: Task::ListAll, max: 255 });
 /// let ended: Result<(), Fault> = run_list(alloc, &listing, &mut reader, &mut writer);
-/// assert!(rt; ended == Ok(()));
+/// assert!(rt; ended.is_ok());
 /// assert_eq!(rt; taken.as_slice(), b"a\n".as_slice());
 /// ```
 pub fn run_list<T: ListTask, U, A: Allocator, R: Read, W: Write>(

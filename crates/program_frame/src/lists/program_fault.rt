@@ -35,7 +35,7 @@ pub trait WordsRefusal: Copy {
     /// use names_commands::fault::CommandFault;
     /// use program_frame::lists::program_fault::WordsRefusal;
     ///
-    /// assert!(rt; CommandFault::Usage.status() == 2 && CommandFault::NoFile(1).status() == 4);
+    /// assert!(rt; CommandFault::Unreadable.status() == 2 && CommandFault::NoFile(1).status() == 4);
     /// ```
     fn status(&self) -> u8
         ensures { result ≡ status_of self.now };
@@ -47,8 +47,8 @@ pub trait WordsRefusal: Copy {
     /// use names_commands::fault::{CommandFault, Fault};
     ///
     /// let kind = FaultKind::UnclosedClass;
-    /// let fault: Fault = Fault::Words(CommandFault::Pattern(PatternFault { kind, index: 7 }));
-    /// assert_eq!(rt; fault.to_string(alloc)?.as_str(), "pattern: unclosed class at byte 7");
+    /// let fault: Fault = Fault::Words(CommandFault::Pattern(1, PatternFault { kind, index: 7 }));
+    /// assert_eq!(rt; fault.to_string(alloc)?.as_str(), "pattern 1: unclosed class at byte 7");
     /// ```
     fn write<W: fmt::Write>(&self, f: &mut fmt::Formatter<W>) -> fmt::Result
         ensures { WritesStyledOnOk W.write_str_gives f.old result (text_of self.now) f.new };

@@ -8,12 +8,12 @@ use Rattle.names_commands.specs.Command.{options_of}
 use Rattle.names_commands.specs.Ignoring.{text_of}
 use Rattle.names_commands.specs.Matching.{IsChosen, IsChosenBy}
 use Rattle.names_commands.proofs.lemmas.Picked.{are_written, chosen, first_fault, same_but, where_texts, written_of}
-use Rattle.names_commands.proofs.program.run_chosen.Goals as goal
+use Rattle.names_commands.proofs.program.run_patterns.Goals as goal
 
 pub returns-in-Ok-clause-run : goal.returns-in-Ok-clause-run
 returns-in-Ok-clause-run g c =
     let P = g.E.Platform in
-    let o = options_of c.args.os in
+    let o = options_of c.args.plan.os in
     let texts = map bytes c.args.globs.now in
     let set = c.in-Ok.set in
     let globs = c.set_of-globs.result in
@@ -22,18 +22,17 @@ returns-in-Ok-clause-run g c =
     let written = written_of P o texts set.set.patterns.items compiled in
     let choose = chosen P o texts set same compiled globs (where_texts bytes (λ held. held.now ≡ set) c.args.globs.now globs c.set_of-globs.ensures) in
     ⊎_elim inl
-    (λ ran. inr (inr (written, are_written P o texts set.set.patterns.items compiled, same_but (g.F.Files.known c.args.files.now) g.row.A.Denot P c.args.form c.args.max (IsChosenBy P globs) (IsChosen P o written) choose (map text_of c.args.names.now) (g.R.Read.remaining (marked_inner c.args.reader.now)) (g.R.Read.remaining (marked_inner c.run_but.new.reader)) (g.W.Write.contents (marked_inner c.args.writer.now)) (g.W.Write.contents (marked_inner c.run_but.new.writer)) c.run_but.result ran)))
-    c.run_but.ensures.run
+    (λ ran. inr (inr (written, are_written P o texts set.set.patterns.items compiled, same_but (g.F.Files.known c.args.files.now) g.row.A.Denot P c.args.plan.form c.args.plan.max (IsChosenBy P globs) (IsChosen P o written) choose (map text_of c.args.names.now) (g.R.Read.remaining (marked_inner c.args.reader.now)) (g.R.Read.remaining (marked_inner c.run_set.new.reader)) (g.W.Write.contents (marked_inner c.args.writer.now)) (g.W.Write.contents (marked_inner c.run_set.new.writer)) c.run_set.result ran)))
+    c.run_set.ensures.run
 
 pub returns-in-Err-Pattern-clause-run : goal.returns-in-Err-Pattern-clause-run
 returns-in-Err-Pattern-clause-run g c =
     let P = g.E.Platform in
-    let o = options_of c.args.os in
+    let o = options_of c.args.plan.os in
     let texts = map bytes c.args.globs.now in
     let made = subst (λ z. IsSetError P.well_formed (letters_of P.units) (glob.syntax_of z) g.row.A.Denot texts c.in-Err-Pattern.field-0) c.options_of.ensures c.in-Err-Pattern.ensures in
     let error = subst (IsSetError P.well_formed (letters_of P.units) (glob.syntax_of o) g.row.A.Denot texts) c.in-Err-Pattern.field-0-is made in
     let first = first_fault g.row.A.Denot P o texts c.in-Err-Pattern.index c.in-Err-Pattern.fault error in
-    let told = c.fault_of.ensures in
     let index = c.in-Err-Pattern.index-is in
     let fault = c.in-Err-Pattern.fault-is in
     inr (inl (c.in-Err-Pattern.index, c.in-Err-Pattern.fault, first, (cc, (refl, refl))))

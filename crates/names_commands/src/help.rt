@@ -1,0 +1,47 @@
+//! What the program prints of itself.
+
+/// What `names --version` writes.
+pub const VERSION: &str = "names 0.2.0\n";
+
+/// What `names --help` writes.
+pub const HELP: &str = "\
+names: lists of file names, one on each line, and back
+
+  find . -print0 | names list unix >list     an escaped name on each line
+  names join unix <list | xargs -0 ls        the names again, byte for byte
+  find . -print0 | names filter unix '**/*.c' --ignore .gitignore | xargs -0 wc -l
+
+names list   PLATFORM [GLOB] [OPTION..]   reads names ended by NUL; writes the escape of each on a line
+names filter PLATFORM [GLOB] [OPTION..]   reads names ended by NUL; writes those that are picked, ended by NUL
+names join   PLATFORM [OPTION..]          reads lines that list wrote; writes the names, ended by NUL
+names check  PLATFORM [OPTION..]          reads names ended by NUL; writes nothing
+
+PLATFORM is unix, windows or wasm. Options may stand anywhere; -- ends them.
+
+  --glob GLOB      list, filter: pick the names that GLOB matches, beside those of other GLOBs
+  --ignore FILE    list, filter: leave out what the .gitignore file FILE ignores (unix, wasm)
+  --sh             list, join: words that every POSIX shell reads as the names (unix)
+  --sh-line        list, join: words on one line, for bash, zsh, ksh93, mksh and busybox (unix)
+  --unterminated   join: the last line may lack its newline
+  --max N          a name may have N bytes, not 1048576
+  -h, --help       this text
+  -V, --version    the version
+
+The last name may lack its NUL. A last line without its newline is rejected, since a list that was cut off ends
+with one. A line has at most six times as many bytes as a name, and a line of words four times and three more.
+With --sh a name with a newline has two lines, which join can't read; with --sh-line it has one. join rejects what
+some shell would expand. The shell that reads the words must be in a C or UTF-8 locale.
+
+GLOB matches a whole name, ./ and folders too, component by component: * is any run of symbols, ? one symbol,
+[a-z] one of these and [!a-z] one of the others, none of them a separator; ** as a whole component is any number
+of components; {a,b} is a or b; \\ quotes the character after it. The separator is /. On windows \\ is one as
+well, in GLOB too, where it quotes nothing. So **/*.rs matches ./src/a.rs, and *.rs doesn't. A GLOB that begins
+with a dash is written --glob=-x.
+
+FILE is read as git reads a .gitignore at the top of the tree; a later one decides over those before it. Names are
+paths from there, with or without ./ at the start. A name that ends with / is a directory, another isn't: out/
+ignores ./out/ and ./out/a, but not ./out.
+
+Status: 0; 1 for an invalid name or line, with its number, from 1; 2 for wrong arguments or an invalid GLOB; 3 if
+out of memory; 4 if a read or write fails, or a FILE can't be read.
+";

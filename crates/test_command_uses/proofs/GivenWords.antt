@@ -1,0 +1,267 @@
+-- How the arguments that filter names by one ignore file are read, and that they are read in no other way.
+use Rattle.std.proofs.Common.{◌≡◌, ◌≢◌, ◌⊎◌, inl, inr, ℕ, ◌+◌, Bool, true, false, List, [], ◌∷◌, ◌++◌, length, get_or, refl, sym, ap, ◌∙◌, subst, arith, Option, Some, None, Result, Ok, Err}
+use Rattle.std.specs.Prelude.{codes}
+use Rattle.std.specs.Str.{IsUtf8}
+use Rattle.std.proofs.lemmas.Str.{IsUtf8-from_is_utf8}
+use denote.Ref.{Bor}
+use Rattle.wtf8_core.specs.Occurrence.{IsPrefix, OccursAt, OccursNowhere}
+use Rattle.os_args.specs.Word.{Kind, Long, LongBytes, Short, ShortBytes, Value, dash, dashes, equals}
+use Rattle.os_args.specs.Reading.{Fault, Reading, StartsWithDashes, TakesNone, TakesWord, TakesValue, words_left}
+use Rattle.program_frame.specs.Arguments.{AreGiven, FailsAt, HasFault, IsOption, IsUnknown, LacksItsValue, Takes, TakesAll}
+use Rattle.program_frame.specs.declared.arguments.Given.{Given}
+use Rattle.program_frame.specs.declared.arguments.Given.TheVariants.{Operand, Flag, Valued}
+use Rattle.names_commands.specs.Command.{Line}
+use Rattle.names_commands.specs.Options.{has_value, name_of, spelled}
+use Rattle.names_commands.specs.declared.option.NamesOption.{NamesOption}
+use Rattle.names_commands.specs.declared.option.NamesOption.TheVariants as option
+use Rattle.test_command_uses.specs.OneFile.{filtering}
+
+head_is : {X : Type 0} {x y : X} {xs ys : List X} → x ∷ xs ≡ y ∷ ys → x ≡ y
+head_is e = cc
+
+tail_is : {X : Type 0} {x y : X} {xs ys : List X} → x ∷ xs ≡ y ∷ ys → xs ≡ ys
+tail_is e = cc
+
+nil_is : {x : ℕ} {xs : List ℕ} → [] ≡ x ∷ xs → ⊥
+nil_is e = cc
+
+-- a byte that isn't `=` before bytes without one
+nowhere_nil : OccursNowhere equals []
+nowhere_nil i o = by o.before o.joined
+  where
+    by : (before : List ℕ) → [] ≡ before ++ (equals ++ o.after) → ⊥
+    by [] e = nil_is e
+    by (b ∷ before) e = nil_is e
+
+nowhere_cons : (x : ℕ) (s : List ℕ) → x ≢ 61 → OccursNowhere equals s → OccursNowhere equals (x ∷ s)
+nowhere_cons x s differs none i o = by o.before o.joined
+  where
+    by : (before : List ℕ) → x ∷ s ≡ before ++ (equals ++ o.after) → ⊥
+    by [] e = differs (head_is e)
+    by (b ∷ before) e = none (length before) (record { before = before; after = o.after; joined = tail_is e; index = refl })
+
+no_equals : OccursNowhere equals (codes "ignore")
+no_equals =
+    nowhere_cons 105 (codes "gnore") (omega arith)
+    (nowhere_cons 103 (codes "nore") (omega arith)
+    (nowhere_cons 110 (codes "ore") (omega arith)
+    (nowhere_cons 111 (codes "re") (omega arith)
+    (nowhere_cons 114 (codes "e") (omega arith)
+    (nowhere_cons 101 [] (omega arith) nowhere_nil)))))
+
+-- the second letter of an option's name
+abbrev second : NamesOption → ℕ
+second it = get_or (name_of it) 1 0
+
+only_ignore : (it : NamesOption) → codes "ignore" ≡ name_of it → it ≡ option.Ignore
+only_ignore option.Help e = let n : ◌≡◌ {A = ℕ} 103 101 = ap (λ w. get_or w 1 0) e in absurd (omega (arith, n))
+only_ignore option.Version e = let n : ◌≡◌ {A = ℕ} 103 101 = ap (λ w. get_or w 1 0) e in absurd (omega (arith, n))
+only_ignore option.Max e = let n : ◌≡◌ {A = ℕ} 103 97 = ap (λ w. get_or w 1 0) e in absurd (omega (arith, n))
+only_ignore option.Sh e = let n : ◌≡◌ {A = ℕ} 103 104 = ap (λ w. get_or w 1 0) e in absurd (omega (arith, n))
+only_ignore option.ShLine e = let n : ◌≡◌ {A = ℕ} 103 104 = ap (λ w. get_or w 1 0) e in absurd (omega (arith, n))
+only_ignore option.Unterminated e = let n : ◌≡◌ {A = ℕ} 103 110 = ap (λ w. get_or w 1 0) e in absurd (omega (arith, n))
+only_ignore option.Glob e = let n : ◌≡◌ {A = ℕ} 103 108 = ap (λ w. get_or w 1 0) e in absurd (omega (arith, n))
+only_ignore option.Ignore e = refl
+
+-- a step of reading has one outcome
+abbrev pub OneWord : Type 0
+OneWord = (before : Reading) → (one other : Result (Option Kind) Fault) → (after left : Reading) → TakesWord before one after → TakesWord before other left → (one ≡ other) × (after ≡ left)
+
+abbrev pub OneValue : Type 0
+OneValue = (before : Reading) → (one other : Result (List ℕ) Fault) → (after left : Reading) → TakesValue before one after → TakesValue before other left → (one ≡ other) × (after ≡ left)
+
+module _ (file : List ℕ) where
+  -- so many arguments are read, and this was the last option
+  abbrev at : ℕ → Option Kind → Reading
+  at index last = record { given = filtering file; index = index; pending = []; ended = false; numbers = false; last = last }
+
+  abbrev ignoring : Option Kind
+  ignoring = Some (Long (codes "ignore"))
+
+  no_dash : (c : ℕ) (w : List ℕ) → c ≢ 45 → ¬ (IsPrefix dash (c ∷ w))
+  no_dash c w differs p = differs (head_is p.joined)
+
+  no_dashes : (index c : ℕ) (w : List ℕ) (more : List (List ℕ)) → words_left (at index None) ≡ (c ∷ w) ∷ more → c ≢ 45 → ¬ (StartsWithDashes (at index None))
+  no_dashes index c w more is differs s = differs (head_is (head_is (sym is ∙ s.first)))
+
+  operand_next : (index c : ℕ) (w : List ℕ) (more : List (List ℕ)) → words_left (at index None) ≡ (c ∷ w) ∷ more → c ≢ 45 → TakesWord (at index None) (Ok (Some (Value (c ∷ w)))) (at (index + 1) None)
+  operand_next index c w more is differs = inr (record {
+    none_pending = refl;
+    between = at index None;
+    skips = inr (no_dashes index c w more is differs, refl);
+    word = c ∷ w;
+    more = more;
+    next = is;
+    read = inr (inr (record { value = refl; whole = refl; operand = inr (inl (no_dash c w differs)) }));
+    same = refl;
+  })
+
+  command_next : TakesWord (at 0 None) (Ok (Some (Value (codes "filter")))) (at 1 None)
+  command_next = operand_next 0 102 (codes "ilter") (codes "unix" ∷ codes "--ignore" ∷ file ∷ []) refl (omega arith)
+
+  platform_next : TakesWord (at 1 None) (Ok (Some (Value (codes "unix")))) (at 2 None)
+  platform_next = operand_next 1 117 (codes "nix") (codes "--ignore" ∷ file ∷ []) refl (omega arith)
+
+  option_no_dashes : ¬ (StartsWithDashes (at 2 None))
+  option_no_dashes s = let lengths : ◌≡◌ {A = ℕ} 8 2 = ap length (head_is s.first) in omega (arith, lengths)
+
+  option_next : TakesWord (at 2 None) (Ok (Some (Long (codes "ignore")))) (at 3 ignoring)
+  option_next = inr (record {
+    none_pending = refl;
+    between = at 2 None;
+    skips = inr (option_no_dashes, refl);
+    word = codes "--ignore";
+    more = file ∷ [];
+    next = refl;
+    read = inl (record {
+      text = codes "ignore";
+      joined = refl;
+      some = λ e. nil_is (sym e);
+      named = (IsUtf8-from_is_utf8 (codes "ignore") refl, record { joined = refl; no_equals = no_equals; end = inl refl });
+    });
+    same = refl;
+  })
+
+  file_next : TakesValue (at 3 ignoring) (Ok file) (at 4 ignoring)
+  file_next = inr (refl, record { more = []; next = refl; same = refl })
+
+  end_no_dashes : ¬ (StartsWithDashes (at 4 ignoring))
+  end_no_dashes s = let never : [] ≡ dashes ∷ s.more = s.first in absurd (cc)
+
+  end_next : TakesWord (at 4 ignoring) (Ok None) (at 4 ignoring)
+  end_next = record { none_pending = refl; skips = inr (end_no_dashes, refl); none_left = refl }
+
+-- two operands, the command and the platform, and the option with its file
+pub record AreFiltering (file : List ℕ) (given : Line) : Type 0 where
+  pub command : Bor (List ℕ)
+  pub platform : Bor (List ℕ)
+  pub value : Bor (List ℕ)
+  pub given_are : given ≡ Operand command ∷ Operand platform ∷ Valued option.Ignore value ∷ []
+  pub command_is : command.now ≡ codes "filter"
+  pub platform_is : platform.now ≡ codes "unix"
+  pub value_is : value.now ≡ file
+
+module _ (one_word : OneWord) (one_value : OneValue) where
+  -- what a step reads is what it reads
+  same_kind : {r after next : Reading} {kind other : Kind} → TakesWord r (Ok (Some kind)) after → TakesWord r (Ok (Some other)) next → (kind ≡ other) × (after ≡ next)
+  same_kind {r} {after} {next} {kind} {other} h k =
+      let both = one_word r (Ok (Some kind)) (Ok (Some other)) after next h k in
+      let is : kind ≡ other = let e = both.0 in cc in
+      (is, both.1)
+
+  no_fault : {r after next : Reading} {kind : Kind} {fault : Fault} → TakesWord r (Err fault) after → TakesWord r (Ok (Some kind)) next → ⊥
+  no_fault {r} {after} {next} {kind} {fault} h k = let never = (one_word r (Err fault) (Ok (Some kind)) after next h k).0 in cc
+
+  no_end : {r after next : Reading} {kind : Kind} → TakesWord r (Ok None) after → TakesWord r (Ok (Some kind)) next → ⊥
+  no_end {r} {after} {next} {kind} h k = let never = (one_word r (Ok None) (Ok (Some kind)) after next h k).0 in cc
+
+  one_operand : {a b : List ℕ} → Value a ≡ Value b → a ≡ b
+  one_operand e = cc
+
+  one_long : {a b : List ℕ} → Long a ≡ Long b → a ≡ b
+  one_long e = cc
+
+  -- where an operand is next, it is read
+  module _ (r next : Reading) (word : List ℕ) (step : TakesWord r (Ok (Some (Value word))) next) where
+    no_option : (it : NamesOption) (kind : Kind) → spelled it kind → kind ≡ Value word → ⊥
+    no_option it kind is e = subst (spelled it) e is
+
+    operand_fails : (fault : Fault) → ¬ (FailsAt spelled has_value r fault)
+    operand_fails fault (inl f) = no_fault f.1 step
+    operand_fails fault (inr (inl f)) = subst IsOption (same_kind f.taken step).0 f.option
+    operand_fails fault (inr (inr f)) = no_option f.option f.kind f.is (same_kind f.taken step).0
+
+    operand_taken : (one : Given NamesOption) (after : Reading) → Takes spelled has_value r one after → (held : Bor (List ℕ)) × ((one ≡ Operand held) × ((held.now ≡ word) × (after ≡ next)))
+    operand_taken (Operand held) after t = let both = same_kind t step in (held, (refl, (one_operand both.0, both.1)))
+    operand_taken (Flag it) after t = absurd (no_option it t.0 t.1.0.0 (same_kind t.1.1 step).0)
+    operand_taken (Valued it value) after t = absurd (no_option it t.0 t.2.0.0 (same_kind t.2.1.0 step).0)
+
+  -- where the option for an ignore file is next, it is read with its value
+  module _ (r mid next : Reading) (file : List ℕ) (step : TakesWord r (Ok (Some (Long (codes "ignore")))) mid) (given : TakesValue mid (Ok file) next) where
+    is_ignore : (it : NamesOption) (kind : Kind) → spelled it kind → kind ≡ Long (codes "ignore") → it ≡ option.Ignore
+    is_ignore it kind is e = only_ignore it (subst (spelled it) e is)
+
+    not_flag : (it : NamesOption) → it ≡ option.Ignore → has_value it ≡ false → ⊥
+    not_flag it is e = let never : true ≡ false = sym (ap has_value is) ∙ e in cc
+
+    option_fails : (fault : Fault) → ¬ (FailsAt spelled has_value r fault)
+    option_fails fault (inl f) = no_fault f.1 step
+    option_fails fault (inr (inl f)) = f.unknown option.Ignore (subst (spelled option.Ignore) (sym (same_kind f.taken step).0) refl)
+    option_fails fault (inr (inr f)) =
+        let lacks = subst (λ m. TakesValue m (Err fault) f.after) (same_kind f.taken step).1 f.missing in
+        let never = (one_value mid (Err fault) (Ok file) f.after next lacks given).0 in
+        cc
+
+    option_taken : (one : Given NamesOption) (after : Reading) → Takes spelled has_value r one after → (held : Bor (List ℕ)) × ((one ≡ Valued option.Ignore held) × ((held.now ≡ file) × (after ≡ next)))
+    option_taken (Operand held) after t = let never = (same_kind t step).0 in absurd (cc)
+    option_taken (Flag it) after t = absurd (not_flag it (is_ignore it t.0 t.1.0.0 (same_kind t.1.1 step).0) t.1.0.1)
+    option_taken (Valued it held) after t =
+        let both = same_kind t.2.1.0 step in
+        let is = is_ignore it t.0 t.2.0.0 both.0 in
+        let value = subst (λ m. TakesValue m (Ok held.now) after) both.1 t.2.1.1 in
+        let same = one_value mid (Ok held.now) (Ok file) after next value given in
+        let text : held.now ≡ file = let e = same.0 in cc in
+        (held, (ap (λ i. Valued i held) is, (text, same.1)))
+
+  -- where nothing is next, nothing is read
+  module _ (r : Reading) (end : TakesWord r (Ok None) r) where
+    end_fails : (fault : Fault) → ¬ (FailsAt spelled has_value r fault)
+    end_fails fault (inl f) = let never = (one_word r (Err fault) (Ok None) f.0 r f.1 end).0 in cc
+    end_fails fault (inr (inl f)) = no_end end f.taken
+    end_fails fault (inr (inr f)) = no_end end f.taken
+
+    none_taken : (one : Given NamesOption) (after : Reading) → ¬ (Takes spelled has_value r one after)
+    none_taken (Operand held) after t = no_end end t
+    none_taken (Flag it) after t = no_end end t.1.1
+    none_taken (Valued it value) after t = no_end end t.2.1.0
+
+  module _ (file : List ℕ) where
+    -- the arguments have no fault
+    pub no_fault_of : (fault : Fault) → ¬ (HasFault spelled has_value (filtering file) fault)
+    no_fault_of fault h = first h.given h.are
+      where
+        fourth : (given : Line) → TakesAll spelled has_value (at file 4 (ignoring file)) given h.at → ⊥
+        fourth [] t = end_fails (at file 4 (ignoring file)) (end_next file) fault (subst (λ r. FailsAt spelled has_value r fault) t h.fails)
+        fourth (one ∷ given) t = none_taken (at file 4 (ignoring file)) (end_next file) one t.0 t.1
+
+        third : (given : Line) → TakesAll spelled has_value (at file 2 None) given h.at → ⊥
+        third [] t = option_fails (at file 2 None) (at file 3 (ignoring file)) (at file 4 (ignoring file)) file (option_next file) (file_next file) fault (subst (λ r. FailsAt spelled has_value r fault) t h.fails)
+        third (one ∷ given) t = fourth given (subst (λ r. TakesAll spelled has_value r given h.at) (option_taken (at file 2 None) (at file 3 (ignoring file)) (at file 4 (ignoring file)) file (option_next file) (file_next file) one t.0 t.1).1.1.1 t.2)
+
+        second_one : (given : Line) → TakesAll spelled has_value (at file 1 None) given h.at → ⊥
+        second_one [] t = operand_fails (at file 1 None) (at file 2 None) (codes "unix") (platform_next file) fault (subst (λ r. FailsAt spelled has_value r fault) t h.fails)
+        second_one (one ∷ given) t = third given (subst (λ r. TakesAll spelled has_value r given h.at) (operand_taken (at file 1 None) (at file 2 None) (codes "unix") (platform_next file) one t.0 t.1).1.1.1 t.2)
+
+        first : (given : Line) → TakesAll spelled has_value (at file 0 None) given h.at → ⊥
+        first [] t = operand_fails (at file 0 None) (at file 1 None) (codes "filter") (command_next file) fault (subst (λ r. FailsAt spelled has_value r fault) t h.fails)
+        first (one ∷ given) t = second_one given (subst (λ r. TakesAll spelled has_value r given h.at) (operand_taken (at file 0 None) (at file 1 None) (codes "filter") (command_next file) one t.0 t.1).1.1.1 t.2)
+
+  -- the arguments are read so
+  module _ (file : List ℕ) (read after : Reading) (end : TakesWord read (Ok None) after) where
+    last : (command platform value : Bor (List ℕ)) → command.now ≡ codes "filter" → platform.now ≡ codes "unix" → value.now ≡ file → (rest : Line) → TakesAll spelled has_value (at file 4 (ignoring file)) rest read → AreFiltering file (Operand command ∷ Operand platform ∷ Valued option.Ignore value ∷ rest)
+    last command platform value c p v [] t = record { command = command; platform = platform; value = value; given_are = refl; command_is = c; platform_is = p; value_is = v }
+    last command platform value c p v (one ∷ rest) t = absurd (none_taken (at file 4 (ignoring file)) (end_next file) one t.0 t.1)
+
+    third : (command platform : Bor (List ℕ)) → command.now ≡ codes "filter" → platform.now ≡ codes "unix" → (rest : Line) → TakesAll spelled has_value (at file 2 None) rest read → AreFiltering file (Operand command ∷ Operand platform ∷ rest)
+    third command platform c p [] t = absurd (no_end (subst (λ r. TakesWord r (Ok None) after) t end) (option_next file))
+    third command platform c p (one ∷ rest) t =
+        let it = option_taken (at file 2 None) (at file 3 (ignoring file)) (at file 4 (ignoring file)) file (option_next file) (file_next file) one t.0 t.1 in
+        subst (λ x. AreFiltering file (Operand command ∷ Operand platform ∷ x ∷ rest)) (sym it.1.0)
+        (last command platform it.0 c p it.1.1.0 rest (subst (λ r. TakesAll spelled has_value r rest read) it.1.1.1 t.2))
+
+    second_one : (command : Bor (List ℕ)) → command.now ≡ codes "filter" → (rest : Line) → TakesAll spelled has_value (at file 1 None) rest read → AreFiltering file (Operand command ∷ rest)
+    second_one command c [] t = absurd (no_end (subst (λ r. TakesWord r (Ok None) after) t end) (platform_next file))
+    second_one command c (one ∷ rest) t =
+        let it = operand_taken (at file 1 None) (at file 2 None) (codes "unix") (platform_next file) one t.0 t.1 in
+        subst (λ x. AreFiltering file (Operand command ∷ x ∷ rest)) (sym it.1.0)
+        (third command it.0 c it.1.1.0 rest (subst (λ r. TakesAll spelled has_value r rest read) it.1.1.1 t.2))
+
+    first : (given : Line) → TakesAll spelled has_value (at file 0 None) given read → AreFiltering file given
+    first [] t = absurd (no_end (subst (λ r. TakesWord r (Ok None) after) t end) (command_next file))
+    first (one ∷ rest) t =
+        let it = operand_taken (at file 0 None) (at file 1 None) (codes "filter") (command_next file) one t.0 t.1 in
+        subst (λ x. AreFiltering file (x ∷ rest)) (sym it.1.0)
+        (second_one it.0 it.1.1.0 rest (subst (λ r. TakesAll spelled has_value r rest read) it.1.1.1 t.2))
+
+  pub are_filtering : (file : List ℕ) (given : Line) → AreGiven spelled has_value (filtering file) given → AreFiltering file given
+  are_filtering file given g = first file g.read g.after g.end given g.are
