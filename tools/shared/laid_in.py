@@ -1,0 +1,314 @@
+"""A copy of the repository with the crates of tests/, which run there without a proof.
+
+The gate proves each crate that crates.txt lists, its tests too, and accepts no other .rt file.
+So the files of tests/NAME end in .test. In the copy they are the sources of a crate NAME, which
+uses the libraries that tests/crates-laid-in.txt lists. It is a library of tests, or a program where
+it has a main.test. The tests of several such crates can be joined into one, in which each is a
+module: it is compiled in little more time than any of them. So are the programs (test_programs): the one that
+they are joined into runs as the program by whose name it is started.
+"""
+
+from __future__ import annotations
+
+import os
+import re
+import shutil
+import subprocess
+import tempfile
+from concurrent.futures import ThreadPoolExecutor
+from contextlib import ExitStack, contextmanager
+from functools import lru_cache
+from pathlib import Path
+from typing import Callable, Iterable, Iterator, NamedTuple, Sequence, TypeVar
+
+from sources import LIST as CRATES_LIST
+from sources import ROOT, listed, processors
+from tests_at_once import LOADER, begun, with_copy, with_loader, write_script
+
+Item = TypeVar("Item")
+Answer = TypeVar("Answer")
+
+TESTS = ROOT / "tests"
+LIST = TESTS / "crates-laid-in.txt"
+# The stored runs of programs, which tools/check/program-rows repeats.
+RUNS = TESTS / "runs"
+ENDING = ".test"
+JOINED = "joined_tests"
+PROGRAMS = "joined_programs"
+# Names the folder, in the environment, in which the gate has compiled the programs of tests/.
+PROGRAMS_AT = "TEST_PROGRAMS"
+ROOTS = ("lib.test", "main.test")
+OF_A_ROOT = re.compile(r"^#!\[tactic\(auto\)\]$", re.M)
+FROM_THE_ROOT = re.compile(r"\bcrate::")
+MAIN = re.compile(r"^fn main\(", re.M)
+TEST = re.compile(r"^ *#\[test\]$", re.M)
+A_TEST = re.compile(r"(?:^///.*\n)*^#\[test\]\n.*?\bfn (\w+)(?s:.*?)^}\n", re.M)
+RESULT = re.compile(r"^test (\S+) \.\.\. (\w+)", re.M)
+ENDED = re.compile(r"^run=ended status=(\d+) .*proved=no$", re.M)
+# The checked run answers alone: the interpreter before it would stop at its first steps.
+LIMITS = ("--steps", "1", "--seconds", "3000")
+
+
+class Run(NamedTuple):
+    """What the tests of a crate came to: the result of each, and all that was printed."""
+
+    results: dict[str, str]
+    status: int
+    said: str
+
+
+class Module(NamedTuple):
+    """A module of tests that are made: its name, its text, and the libraries that it uses."""
+
+    name: str
+    text: str
+    uses: list[str]
+
+
+def crates() -> list[str]:
+    """Returns the names of the crates that are laid in, as they are listed."""
+    return list(listed(LIST.read_text(encoding="utf-8")))
+
+
+def uses_of_tests() -> dict[str, list[str]]:
+    """Returns the libraries that each crate of tests/ uses, as they are listed."""
+    return {name: crate.uses for name, crate in listed(LIST.read_text(encoding="utf-8")).items()}
+
+
+def stored(crate: str) -> list[Path]:
+    """Returns the files beside a program's sources: its words, what it prints, and the files that it reads."""
+    return sorted(path for path in (TESTS / crate).rglob("*") if path.is_file() and path.suffix != ENDING)
+
+
+def sources(crate: str) -> list[Path]:
+    return sorted((TESTS / crate).rglob(f"*{ENDING}"))
+
+
+def count_of_tests(crate: str) -> int:
+    """Returns how many tests the sources of a crate have."""
+    return sum(len(TEST.findall(path.read_text(encoding="utf-8"))) for path in sources(crate))
+
+
+def path_in(room: Path, source: Path) -> Path:
+    """Returns where a source of tests/ lies in a copy."""
+    crate, *inner = source.relative_to(TESTS).parts
+    return room.joinpath("crates", crate, "src", *inner).with_suffix(".rt")
+
+
+@contextmanager
+def copy() -> Iterator[Path]:
+    """Makes a copy of what crates are compiled from, with the tests laid in, and removes it."""
+    with tempfile.TemporaryDirectory(prefix="laid-in-") as name:
+        room = Path(name)
+        lines = [path.read_text(encoding="utf-8") for path in (CRATES_LIST, LIST)]
+        (room / "crates.txt").write_text("\n".join(lines), encoding="utf-8")
+        for source in ROOT.glob("crates/*/src"):
+            shutil.copytree(source, room / source.relative_to(ROOT))
+        for crate in crates():
+            for source in sources(crate):
+                path = path_in(room, source)
+                path.parent.mkdir(parents=True, exist_ok=True)
+                shutil.copy(source, path)
+        yield room
+
+
+def join(room: Path, names: list[str], made: Sequence[Module] = ()) -> None:
+    """Adds a crate to a copy that has each of these crates of tests as a module, and modules that are made."""
+    used = uses(room)
+    below = dict.fromkeys(library for of in [*(used[name] for name in names), *(it.uses for it in made)] for library in of)
+    with (room / "crates.txt").open("a", encoding="utf-8") as lines:
+        lines.write(f"\n{JOINED}: {' '.join(below)}\n")
+    folder = room / "crates" / JOINED / "src"
+    folder.mkdir(parents=True)
+    modules = "".join(f"#[cfg(test)]\nmod {name};\n" for name in [*names, *(it.name for it in made)])
+    (folder / "lib.rt").write_text(f"#![tactic(auto)]\n{modules}", encoding="utf-8")
+    for it in made:
+        (folder / f"{it.name}.rt").write_text(it.text, encoding="utf-8")
+    lay_modules(folder, names)
+
+
+def lay_modules(folder: Path, names: Iterable[str]) -> None:
+    """Writes each of these crates of tests into the sources of a crate, as a module."""
+    for name in names:
+        for source in sources(name):
+            text = OF_A_ROOT.sub("", source.read_text(encoding="utf-8"))
+            inner = source.relative_to(TESTS / name)
+            path = folder / (f"{name}.rt" if inner.name in ROOTS else Path(name, inner).with_suffix(".rt"))
+            path.parent.mkdir(parents=True, exist_ok=True)
+            path.write_text(FROM_THE_ROOT.sub(f"crate::{name}::", MAIN.sub("pub fn main(", text)), encoding="utf-8")
+
+
+def test_programs() -> list[str]:
+    """Returns the crates of tests/ that are programs."""
+    return [name for name in crates() if (TESTS / name / "main.test").exists()]
+
+
+def join_programs(room: Path, names: list[str]) -> None:
+    """Adds a program to a copy that has each of these programs of tests as a module."""
+    used = uses(room)
+    below = dict.fromkeys(library for name in names for library in used[name])
+    with (room / "crates.txt").open("a", encoding="utf-8") as lines:
+        lines.write(f"\n{PROGRAMS}: {' '.join(below)}\n")
+    folder = room / "crates" / PROGRAMS / "src"
+    folder.mkdir(parents=True)
+    modules = "".join(f"mod {name};\n" for name in names)
+    arms = "".join(f'        Some("{name}") => {name}::main(rt),\n' for name in names)
+    text = f"""#![tactic(auto)]
+{modules}
+use std::env;
+use std::process::ExitCode;
+
+fn main(rt: HostRuntime) -> ExitCode {{
+    let name = match env::args(&rt) {{
+        Ok(mut args) => args.next(),
+        Err(_) => None,
+    }};
+    match name.as_deref() {{
+{arms}        _ => ExitCode::FAILURE,
+    }}
+}}
+"""
+    (folder / "main.rt").write_text(text, encoding="utf-8")
+    lay_modules(folder, names)
+
+
+def keep(room: Path, crate: str, names: list[str]) -> None:
+    """Leaves a crate of a copy no tests but these."""
+    source = room / "crates" / crate / "src"
+    for path in source.rglob("*.rt"):
+        module = "::".join(path.relative_to(source).with_suffix("").parts)
+        is_kept = lambda found: found[0] if f"{module}::{found[1]}" in names else ""
+        path.write_text(A_TEST.sub(is_kept, path.read_text(encoding="utf-8")), encoding="utf-8")
+
+
+def uses(room: Path) -> dict[str, list[str]]:
+    """Returns the libraries that crates.txt gives each crate of a copy."""
+    text = (room / "crates.txt").read_text(encoding="utf-8")
+    return {name: crate.uses for name, crate in listed(text).items()}
+
+
+@lru_cache(maxsize=None)
+def kit() -> Path:
+    """Returns the folder of the toolchain, whose first page `rt doc` names."""
+    return Path(subprocess.run(["rt", "doc"], stdout=subprocess.PIPE, text=True, check=True).stdout.strip()).parent
+
+
+def library_words(room: Path, crate: str) -> list[str]:
+    """Returns the words that pass a crate's libraries, of the copy and of the kit, as source."""
+    used, at, words = uses(room), kit(), []
+    names = ["std", *used[crate]]
+    for name in names:
+        if name in used:
+            below = ["core", "std", *used[name]]
+            source = room / "crates" / name / "src" / "lib.rt"
+        else:
+            below = re.findall(r"^dep (\w+)$", (at / "rlibs" / f"{name}.rlib" / "format").read_text(), re.M)
+            source = at / "rattle" / name / "src" / "lib.rt"
+        words += ["--lib", f"{name}:{','.join(below)}={source}"]
+        names += [it for it in below if it not in names]
+    return words
+
+
+def tried(
+    room: Path, crate: str, root: Sequence[str], given: Iterable[str] = (), to: Path | None = None
+) -> subprocess.CompletedProcess[str]:
+    """Compiles a crate of a copy with checks and runs it, given these words and files; tests several at once.
+
+    A program is copied to a place where one is given.
+    `rt try` would compile all a second time beside this, to warn of what a proof refuses.
+    """
+    at = kit()
+    with ExitStack() as until_ended:
+        own = until_ended.enter_context(tempfile.TemporaryDirectory(prefix="try-"))
+        no_input = Path(own, "stdin")
+        no_input.touch()
+        toolchain = at / "toolchain"
+        if "--test" in root:
+            results = Path(own, "results")
+            results.mkdir()
+            toolchain = with_loader(toolchain, Path(own), results)
+            until_ended.enter_context(begun(results))
+        elif to:
+            toolchain = with_copy(toolchain, Path(own), to)
+        words = [str(at / "bin" / "rattle-try"), "--toolchain", str(toolchain), "--asan", f"{at}/c/asan.a", *LIMITS]
+        words += ["--link", f"{at}/c/libos_c.a", "--link", f"{at}/c/liblibc_c.a", "--stdin", str(no_input)]
+        return subprocess.run(
+            [*words, *given, "--crate-name", crate, *root, *library_words(room, crate)],
+            cwd=room / "crates" / crate,
+            env={**os.environ, "TMPDIR": own},
+            stdin=subprocess.DEVNULL,
+            stdout=subprocess.PIPE,
+            stderr=subprocess.PIPE,
+            text=True,
+            errors="replace",
+        )
+
+
+def status_of(run: subprocess.CompletedProcess[str]) -> int:
+    """Returns the status that what was tried ended with, or the toolchain's own where it did not run."""
+    ended = ENDED.search(run.stderr) or ENDED.search(run.stdout)
+    return int(ended[1]) if ended and not run.returncode else run.returncode or 2
+
+
+def run(room: Path, crate: str) -> Run:
+    """Runs the tests of a crate of a copy."""
+    ended = tried(room, crate, ("--test", "src/lib.rt"))
+    said = ended.stdout + ended.stderr
+    return Run(dict(RESULT.findall(said)), status_of(ended), said)
+
+
+def start_by(started: Path, made: Path, name: str) -> Path:
+    """Writes a script that starts a compiled program by a name, and returns the script."""
+    library = kit() / "toolchain" / "lib"
+    loaded = f'"{library}/{LOADER}" --inhibit-cache --library-path "{library}" --argv0 {name} "{made}" "$@"'
+    write_script(started, ["#!/bin/sh", f"exec {loaded}"])
+    return started
+
+
+def compile_checked(room: Path, crate: str, made: Path) -> None:
+    """Compiles a program of a copy with checks, unproved, and writes it to a file."""
+    ended = tried(room, crate, ("src/main.rt",), to=made)
+    if not made.exists():
+        raise SystemExit(f"{crate}: FAILED: it was not compiled: {ended.stderr.strip()[-2000:]}")
+    made.chmod(0o755)
+
+
+def compiled_program(crate: str, folder: Path) -> Path:
+    """Compiles a program of this repository with checks, unproved, into an empty folder, and returns what starts it."""
+    made = folder / crate
+    with copy() as room:
+        compile_checked(room, crate, made)
+    return start_by(folder / f"run-{crate}", made, crate)
+
+
+def compile_test_programs(folder: Path, names: list[str]) -> None:
+    """Compiles programs of tests/ as one, with checks, into a folder, and writes a script there that starts each."""
+    made = folder / PROGRAMS
+    with copy() as room:
+        join_programs(room, names)
+        compile_checked(room, PROGRAMS, made)
+    for name in names:
+        start_by(folder / name, made, name)
+
+
+def run_program(crate: str, files: dict[str, Path]) -> subprocess.CompletedProcess[str]:
+    """Runs a program of tests/ in a folder with copies of files, whose names are its arguments.
+
+    It is the one that the gate has compiled, or else one that is compiled for this run.
+    """
+    with ExitStack() as until_ended:
+        folder = lambda: Path(until_ended.enter_context(tempfile.TemporaryDirectory(prefix=f"{crate}-")))
+        programs, room = Path(os.environ.get(PROGRAMS_AT) or folder()), folder()
+        if not (programs / crate).exists():
+            compile_test_programs(programs, [crate])
+        for name, path in files.items():
+            (room / name).parent.mkdir(parents=True, exist_ok=True)
+            shutil.copy(path, room / name)
+        pipes = {"stdin": subprocess.DEVNULL, "stdout": subprocess.PIPE, "stderr": subprocess.PIPE}
+        return subprocess.run([str(programs / crate), *files], cwd=room, env={}, text=True, errors="replace", **pipes)
+
+
+def at_once(work: Callable[[Item], Answer], items: Iterable[Item]) -> Iterator[Answer]:
+    """Yields what the work answers for each item, in their order, with an item for each processor at work."""
+    with ThreadPoolExecutor(processors()) as pool:
+        yield from pool.map(work, items)

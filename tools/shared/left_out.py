@@ -1,0 +1,18 @@
+"""What a gate leaves out, since the machine lacks a tool.
+
+A tool that leaves something out prints a line that says so, and writes it into the file that LEFT_OUT in the environment
+names. ./test keeps these lines in out/passed, and tools/release/release refuses where there are any.
+"""
+
+from __future__ import annotations
+
+import os
+
+
+def leave_out(who: str, tool: str, what: str) -> None:
+    """Says what is left out for want of a tool, and notes it for the gate."""
+    line = f"{who}: left out, since there is no {tool}: {what}"
+    print(line, flush=True)
+    if place := os.environ.get("LEFT_OUT"):
+        with open(place, "a", encoding="utf-8") as noted:
+            noted.write(f"{line}\n")

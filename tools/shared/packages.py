@@ -1,0 +1,288 @@
+"""What those get who have no kit: an archive of the C library, a Python package, and an archive of the programs.
+
+The first two are made of what `tools/check/c-library` has built in a folder: libosbytes.a, the shared object and its name. The archive
+has the header, man pages that are made of the header's comments, the pkg-config file, c/GUIDE.md and the examples, and
+at its top a README, the changes and the licence. A link of a document that leads to no file of the archive is its
+words alone. The Python package is a wheel of the sources in python/osbytes with the shared object beside them. The
+archive of the programs has them, their man pages and completions, a README and the licence.
+"""
+
+from __future__ import annotations
+
+import gzip
+import hashlib
+import io
+import posixpath
+import re
+import sys
+import tarfile
+from pathlib import Path
+from typing import NamedTuple
+
+from compiling import built
+from handed_on import Refusal, sum_of, version
+from program_pages import PROGRAMS, files_of
+from roff import as_roff, as_shown, page
+from sources import ROOT
+
+sys.path.insert(0, str(ROOT / "python"))
+import build_backend
+
+HEADER = ROOT / "c" / "osbytes.h"
+# The first comment of a header, a comment before declarations, a declaration of a call, and a type with its comment.
+OPENING = re.compile(r"/\* osbytes\.h: (.*?)\*/", re.S)
+SAID = r"/\*(?P<said>(?:(?!\*/).)*)\*/\n"
+DECLARATION = r"(?:OSB_NODISCARD )?(?P<type>[a-z][\w ]*?\*?)(?P<name>osb_\w+)\([^;]*\);"
+BLOCK = re.compile(SAID + r"(?P<calls>(?:" + re.sub(r"\?P<\w+>", "", DECLARATION) + r"\n)+)", re.S)
+CALL = re.compile(DECLARATION, re.S)
+TYPE = re.compile(r"(?:" + SAID + r")?(?P<text>typedef (?:struct|enum) (?P<name>osb_\w+)(?: \{[^}]*\} (?P=name)| (?P=name));)\n", re.S)
+STATUS = re.compile(r"^    (OSB_\w+) = \d+,?\s+/\* (.*?) \*/", re.S | re.M)
+# The lines on the syntax of patterns.
+SYNTAX = re.compile(r"^// Path patterns\..*?\n(?!//)", re.S | re.M)
+LINK = re.compile(r"\[([^\]]*)\]\(([^)#\s]+)(#[^)\s]*)?\)")
+# glibc 2.17 has all that the library asks for, and is that of this tag.
+TAG = "py3-none-manylinux2014_{}"
+
+
+class Entry(NamedTuple):
+    """A file of an archive, or where a link leads."""
+
+    content: bytes
+    mode: int = 0o644
+    link: str = ""
+
+
+def words_of(comment: str) -> str:
+    """Returns the text of a comment, its paragraphs divided by an empty line."""
+    lines = (line.strip().removeprefix("*").strip() for line in comment.strip().splitlines())
+    return "\n".join(lines).strip()
+
+
+def first_words(said: str) -> str:
+    """Returns what a comment says first, as a line of names has it: up to a colon or the end of a sentence."""
+    first = re.split(r"(?<=[.:;])\s", " ".join(said.split()), maxsplit=1)[0].rstrip(".:;")
+    if len(first) > 100:
+        first = first[: first.rfind(",", 0, 100)] if "," in first[:100] else first
+    return first[:1].lower() + first[1:]
+
+
+def statuses(header: str) -> dict[str, str]:
+    """Returns what each status means."""
+    listed = header[header.index("typedef enum osb_status {") : header.index("} osb_status;")]
+    return {name: " ".join(re.sub(r"\n\s*\*", " ", said).split()) for name, said in STATUS.findall(listed)}
+
+
+def return_value(result: str, said: str, header: str) -> str:
+    """Returns the section on what a call returns, by the type of its result and the statuses that its comment names."""
+    means = statuses(header)
+    named = [name for name in dict.fromkeys(re.findall(r"OSB_[A-Z_]+", said)) if name in means]
+    minus = ""
+    if result == "int":
+        lines, minus = [".TP\n1\nit holds", ".TP\n0\nit doesn't hold"], "\\-"
+    elif result == "osb_status":
+        lines = [".TP\nOSB_OK\nsuccess"]
+    else:
+        return ""
+    named = [name for name in [*named, "OSB_BAD_POINTER"] if name != "OSB_OK"]
+    return "\n".join([*lines, *(f".TP\n{minus}{name}\n{as_roff(means[name])}" for name in dict.fromkeys(named))])
+
+
+def types_in(synopsis: str, types: dict[str, tuple[str, str]]) -> str:
+    """Returns the section on the structs and enums that a declaration names, and those that they name."""
+    found: dict[str, None] = {}
+
+    def find(text: str) -> None:
+        for name in re.findall(r"\bosb_\w+\b", text):
+            if name in types and name not in found and name != "osb_status":
+                found[name] = None
+                find(types[name][1])
+
+    find(synopsis)
+    return "\n.PP\n".join((as_roff(types[name][0]) + "\n.PP\n" if types[name][0] else "") + as_shown(types[name][1]) for name in found)
+
+
+def man_pages() -> dict[str, str]:
+    """Returns the man pages by their names: one of the library, and one for each call."""
+    header = HEADER.read_text(encoding="utf-8")
+    opening = words_of(OPENING.search(header)[1])
+    types = {it["name"]: (words_of(it["said"] or ""), it["text"]) for it in TYPE.finditer(header)}
+    syntax = "\n".join(line.removeprefix("//").removeprefix(" ") for line in SYNTAX.search(header)[0].splitlines() if line.startswith("//"))
+    pages = {}
+    for block in BLOCK.finditer(header):
+        said = words_of(block["said"])
+        marked = "OSB_NODISCARD "
+        calls = [call[0].removeprefix(marked).replace("\n" + " " * len(marked), "\n") for call in CALL.finditer(block["calls"])]
+        for call in CALL.finditer(block["calls"]):
+            name, synopsis = call["name"], "\n".join(calls)
+            pages[name] = page(name, 3, {
+                "NAME": f"{name} \\- {as_roff(first_words(said))}",
+                "SYNOPSIS": as_shown(f"#include <osbytes.h>\n\n{synopsis}"),
+                "DESCRIPTION": as_roff(said),
+                "RETURN VALUE": return_value(call["type"].strip(), said, header),
+                "TYPES": types_in(synopsis, types),
+                "PATTERNS": as_shown(syntax) if "glob" in name else "",
+                "SEE ALSO": ".BR osbytes (3)",
+            })
+    calls = {call["name"] for call in CALL.finditer(header)}
+    if missing := calls - pages.keys():
+        raise ValueError(f"no comment stands before {', '.join(sorted(missing))}")
+    named = ",\n".join(f".BR {name} (3)" for name in sorted(pages))
+    library = page("osbytes", 3, {
+        "NAME": f"osbytes \\- {as_roff(first_words(opening))}",
+        "SYNOPSIS": as_shown("#include <osbytes.h>\n\ncc ... -losbytes"),
+        "DESCRIPTION": as_shown(opening),
+        "SEE ALSO": named,
+    })
+    return {"osbytes": library, **pages}
+
+
+def pkg_config() -> str:
+    """Returns a pkg-config file that is right wherever the archive is unpacked."""
+    return f"""prefix=${{pcfiledir}}/../..
+Name: osbytes
+Description: strings of operating systems, of any platform on any platform
+Version: {version()}
+Cflags: -I${{prefix}}/include
+Libs: -L${{prefix}}/lib -losbytes
+"""
+
+
+# The documents and the examples of the archive, by where they are in the repository, and where in it.
+DOCUMENTS = {
+    "c/README.md": "README.md",
+    "docs/CHANGES.md": "CHANGES.md",
+    "LICENSE.md": "LICENSE.md",
+    "NOTICE": "NOTICE",
+    "c/GUIDE.md": "share/doc/osbytes/GUIDE.md",
+    "c/names.c": "share/doc/osbytes/names.c",
+    "c/below.c": "share/doc/osbytes/below.c",
+    "c/outside.c": "share/doc/osbytes/outside.c",
+    "c/outside.cc": "share/doc/osbytes/outside.cc",
+    "c/outside.go": "share/doc/osbytes/outside.go",
+    "c/outside.rs": "share/doc/osbytes/outside.rs",
+    "c/osbytes.h": "include/osbytes.h",
+}
+
+
+def with_links(text: str, document: str, places: dict[str, str]) -> str:
+    """Returns a document whose links lead to files of an archive with these; of any other only the words are left."""
+    here = posixpath.dirname(document)
+
+    def linked(link: re.Match[str]) -> str:
+        if ":" in link[2]:
+            return link[0]
+        leads_to = places.get(posixpath.normpath(posixpath.join(here, link[2])))
+        if leads_to is None or not (ROOT / posixpath.normpath(posixpath.join(here, link[2]))).exists():
+            return link[1]
+        return f"[{link[1]}]({posixpath.relpath(leads_to, posixpath.dirname(places[document]) or '.')}{link[3] or ''})"
+
+    return LINK.sub(linked, text)
+
+
+def documents(places: dict[str, str]) -> dict[str, Entry]:
+    """Returns those of the documents and examples that are there, by where they are in an archive."""
+    there = {path: to for path, to in places.items() if (ROOT / path).exists()}
+    texts = {path: (ROOT / path).read_text(encoding="utf-8") for path in there}
+    return {to: Entry((with_links(texts[path], path, places) if path.endswith(".md") else texts[path]).encode()) for path, to in there.items()}
+
+
+def with_sums(entries: dict[str, Entry], place: str) -> dict[str, Entry]:
+    """Returns the files of an archive, and at a place in it one with their sums."""
+    sums = "".join(f"{hashlib.sha256(entry.content).hexdigest()}  {path}\n" for path, entry in entries.items() if not entry.link)
+    return {**entries, place: Entry(sums.encode())}
+
+
+def library_entries(built: Path) -> dict[str, Entry]:
+    """Returns what the archive has of a library that is built in a folder, by paths in it."""
+    soname = f"libosbytes.so.{version().rsplit('.', 1)[0]}"
+    entries = {
+        **documents(DOCUMENTS),
+        "lib/libosbytes.a": Entry((built / "libosbytes.a").read_bytes()),
+        f"lib/{soname}": Entry((built / soname).read_bytes(), 0o755),
+        "lib/libosbytes.so": Entry(b"", 0o777, soname),
+        "lib/pkgconfig/osbytes.pc": Entry(pkg_config().encode()),
+    }
+    for name, text in man_pages().items():
+        entries[f"share/man/man3/{name}.3"] = Entry(text.encode())
+    return with_sums(entries, "share/doc/osbytes/SHA256SUMS")
+
+
+def pack_entries(folder: Path, top: str, entries: dict[str, Entry]) -> Path:
+    """Makes an archive of these files in a folder, and returns it."""
+    file = folder / f"{top}.tar.gz"
+    with file.open("wb") as made, gzip.GzipFile("", "wb", 9, made, 0) as packed:
+        with tarfile.open(fileobj=packed, mode="w") as members:
+            for path, entry in entries.items():
+                member = tarfile.TarInfo(f"{top}/{path}")
+                member.size, member.mode = len(entry.content), entry.mode
+                if entry.link:
+                    member.type, member.linkname = tarfile.SYMTYPE, entry.link
+                members.addfile(member, io.BytesIO(entry.content))
+    return file
+
+
+def make_archive(built: Path, folder: Path, processor: str) -> Path:
+    """Makes the archive of a library that is built in a folder."""
+    return pack_entries(folder, f"libosbytes-{version()}-linux-{processor}", library_entries(built))
+
+
+def make_wheel(built: Path, folder: Path, processor: str) -> Path:
+    """Makes the Python package with a library that is built in a folder."""
+    return build_backend.make_wheel(folder, built / "libosbytes.so", TAG.format(processor), build_backend.compiler_for(processor))
+
+
+def make_packages(built: Path, folder: Path) -> list[Path]:
+    """Makes the archives and the wheels of what is built in a folder, for each processor that is there, and the
+    source distribution of the Python package."""
+    rooms = {"x86_64": built, "aarch64": built / "aarch64"}
+    there = {processor: room for processor, room in rooms.items() if (room / "libosbytes.so").exists()}
+    made = [make(room, folder, processor) for processor, room in there.items() for make in (make_archive, make_wheel)]
+    libraries = [(processor, room / "libosbytes.so") for processor, room in there.items()]
+    return [*made, build_backend.make_sdist(folder, libraries)] if libraries else made
+
+
+# The documents of the archive of the programs, where these are, and what the README of the archive says of glibc.
+PROGRAM_DOCUMENTS = {
+    "docs/programs/README.md": "README.md",
+    "docs/CHANGES.md": "CHANGES.md",
+    "LICENSE.md": "LICENSE.md",
+    "NOTICE": "NOTICE",
+}
+PROGRAM_PLACES = {name: built(name) for name in PROGRAMS}
+# Where tools/release/program-archive leaves the sums of the programs that it has used.
+TRIED_PROGRAMS = ROOT / "out" / "programs"
+NEEDS_GLIBC = re.compile(r"glibc (\d+)\.(\d+)")
+GLIBC = re.compile(rb"\0GLIBC_(\d+)\.(\d+)(?:\.\d+)?(?=\0)")
+NEEDED = re.compile(rb"(?<=\0)lib[\w.+-]+\.so(?:\.\d+)*(?=\0)")
+
+
+def sums_of_programs(places: dict[str, Path]) -> list[str]:
+    """Returns a line for each program that is there: its sum and its name."""
+    return [f"{sum_of(place)}  {name}" for name, place in places.items() if place.exists()]
+
+
+def refuse_newer(name: str, content: bytes) -> None:
+    """Stops where a program needs another library than glibc's, or a newer glibc than the README of the archive says."""
+    said = NEEDS_GLIBC.search((ROOT / "docs/programs/README.md").read_text(encoding="utf-8"))
+    newest = max(((int(it[1]), int(it[2])) for it in GLIBC.finditer(content)), default=None)
+    if newest is None or set(NEEDED.findall(content)) != {b"libc.so.6"}:
+        raise Refusal(f"{name} is not a program that needs libc.so.6 alone")
+    if newest != (int(said[1]), int(said[2])):
+        raise Refusal(f"{name} needs glibc {newest[0]}.{newest[1]}, and docs/programs/README.md says {said[0]}")
+
+
+def program_entries(programs: dict[str, bytes]) -> dict[str, Entry]:
+    """Returns what the archive of the programs has, by paths in it."""
+    entries = {**documents(PROGRAM_DOCUMENTS), **{f"bin/{name}": Entry(content, 0o755) for name, content in programs.items()}}
+    for name in PROGRAMS:
+        entries |= {f"share/{path}": Entry(text.encode()) for path, text in files_of(name).items()}
+    return with_sums(entries, "share/doc/osbytes-programs/SHA256SUMS")
+
+
+def make_programs(places: dict[str, Path], folder: Path, is_proved: bool = True) -> Path:
+    """Makes the archive of the programs, which are at these places, for Linux on x86-64."""
+    programs = {name: place.read_bytes() for name, place in places.items()}
+    if is_proved:
+        for name, content in programs.items():
+            refuse_newer(name, content)
+    return pack_entries(folder, f"osbytes-programs-{version()}-linux-x86_64", program_entries(programs))
