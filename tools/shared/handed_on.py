@@ -31,8 +31,8 @@ class Refusal(Exception):
 
 
 def version() -> str:
-    """Returns the version of this checkout, of which docs/VERSION is the one place."""
-    path = ROOT / "docs" / "VERSION"
+    """Returns the version of this checkout, of which VERSION is the one place."""
+    path = ROOT / "VERSION"
     return path.read_text(encoding="utf-8").split()[0] if path.exists() else "unnumbered"
 
 

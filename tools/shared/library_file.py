@@ -15,7 +15,7 @@ from sources import ROOT
 # What a user of the file runs, and what that reads beside the documents.
 COMMANDS = ("tools/release/use", "tools/prove/prove")
 READ = ("crates/examples/stdout",)
-DOCUMENTS = ("*.md", "NOTICE", "docs/*.md", "docs/*.svg", "docs/VERSION", "docs/api/*.md")
+DOCUMENTS = ("*.md", "NOTICE", "VERSION", "docs/*.md", "docs/*.svg", "docs/api/*.md")
 IMPORTED = re.compile(r"^from (\w+) import", re.M)
 
 

@@ -150,7 +150,7 @@ Libs: -L${{prefix}}/lib -losbytes
 # The documents and the examples of the archive, by where they are in the repository, and where in it.
 DOCUMENTS = {
     "c/README.md": "README.md",
-    "docs/CHANGES.md": "CHANGES.md",
+    "CHANGES.md": "CHANGES.md",
     "LICENSE.md": "LICENSE.md",
     "NOTICE": "NOTICE",
     "c/GUIDE.md": "share/doc/osbytes/GUIDE.md",
@@ -244,7 +244,7 @@ def make_packages(built: Path, folder: Path) -> list[Path]:
 # The documents of the archive of the programs, where these are, and what the README of the archive says of glibc.
 PROGRAM_DOCUMENTS = {
     "docs/programs/README.md": "README.md",
-    "docs/CHANGES.md": "CHANGES.md",
+    "CHANGES.md": "CHANGES.md",
     "LICENSE.md": "LICENSE.md",
     "NOTICE": "NOTICE",
 }
