@@ -1,4 +1,4 @@
-"""What somebody does who has no kit: commands in an empty environment, on what an archive holds."""
+"""Commands in an empty environment, on an unpacked archive, as a user without the kit runs them."""
 
 from __future__ import annotations
 

@@ -17,7 +17,7 @@ from laid_in import kit as toolchain
 from sources import CRATES, LIST, ROOT, crates, processors
 
 PARTS = ("src", "specs", "proofs")
-# Names a file that says where libraries are that tools/prove/quick has built, by their names.
+# Names a file with the places of the libraries that tools/prove/quick has built, by their names.
 PLACES = "BUILT_AT"
 
 
@@ -26,7 +26,7 @@ class Failure(Exception):
 
 
 def hold(crates: Iterable[str]) -> list[int]:
-    """Keeps others from working in the folders of these crates, as each `rt` does, until what it returns is closed."""
+    """Locks the folders of these crates, as each `rt` does, until the returned descriptors are closed."""
     held = []
     for name in sorted(crates):
         held.append(os.open(CRATES / name, os.O_RDONLY))
@@ -70,7 +70,7 @@ def is_library(name: str) -> bool:
 
 @cache
 def places() -> dict[str, str]:
-    """Returns where the libraries are that tools/prove/quick has built, where it has started this tool."""
+    """Returns the places of the libraries that tools/prove/quick has built, if it has started this tool."""
     place = os.environ.get(PLACES)
     return json.loads(Path(place).read_text(encoding="utf-8")) if place else {}
 
@@ -92,7 +92,7 @@ def build_of(library: Path) -> str:
 
 
 def is_built(name: str) -> bool:
-    """Returns whether a library is there, built by this toolchain."""
+    """Returns whether a library exists, built by this toolchain."""
     return build_of(built(name)) == build_of(toolchain() / "rlibs" / "std.rlib")
 
 
@@ -126,7 +126,7 @@ def stamps(top: Path, names: Iterable[str]) -> dict[str, str]:
         if folder not in known:
             known[folder] = rtlib.Crate(folder, str(top), known)
         found[name] = stamp = known[folder].stamp()
-        # the libraries above ask for it again
+        # the libraries above read it again
         known[folder].stamp = lambda stamp=stamp: stamp
     return found
 
@@ -137,7 +137,7 @@ def stamp_now(name: str) -> str:
 
 
 def note_built(name: str, stamp: str) -> None:
-    """Notes that a library was built of what has a stamp, if it has it still, and the sum of its own sources."""
+    """Notes that a library was built from sources with a stamp, if they still have it, and the sum of its own sources."""
     if stamp == stamp_now(name):
         built(name).with_name("stamp").write_text(stamp, encoding="utf-8")
         built(name).with_name("own").write_text(own_sum(name), encoding="utf-8")
@@ -150,9 +150,9 @@ def stamp_beside(library: Path) -> str:
 
 
 def is_current(name: str) -> bool:
-    """Returns whether a library is there that is built of what it is made from now.
+    """Returns whether a library exists that is built from its present sources.
 
-    The stamp beside it tells. Where there is none, as `rt ci` leaves it, the times do.
+    The stamp beside it shows that or, without one, as `rt ci` leaves it, the times.
     """
     if not is_built(name):
         return False
@@ -165,9 +165,9 @@ def is_current(name: str) -> bool:
 
 
 def over_libraries(name: str, at: Callable[[str], Path] = built) -> list[str]:
-    """Returns the words that name a crate and its libraries, as `rt ci` has built them.
+    """Returns the arguments that name a crate and its libraries, as `rt ci` has built them.
 
-    `rt check` would prove them again, since it takes no proof of `rt ci`.
+    `rt check` would prove them again, since it uses no proof of `rt ci`.
     """
     kit = toolchain()
     root = "src/main.rt" if is_program(name) else "src/lib.rt"

@@ -1,8 +1,8 @@
-"""What users get of this repository: the libraries, as files with their sums, and as they are built.
+"""What users get of this repository: the libraries, as files with their sums, and their built form.
 
-A folder that is laid out for users has the lines of the libraries in `crates.txt`, their sources in
-`crates/NAME/src`, `specs` and `proofs`, and in `crates/NAME/out/rlib` what is built of them, with the stamp
-by which `rt` knows that it is built of these very sources, lines and kit.
+A folder for users has the lines of the libraries in `crates.txt`, their sources in `crates/NAME/src`, `specs` and
+`proofs`, and in `crates/NAME/out/rlib` the built library with the stamp by which `rt` recognizes that it is built from
+these sources, lines and kit.
 """
 
 from __future__ import annotations
@@ -20,7 +20,7 @@ from sources import ROOT
 PROJECT = "os_str_bytes"
 # The program logic that the libraries are proved in, as `rt version` ends.
 LOGIC = "logic dac8208d650f15bf"
-# Where a repository keeps the sums of the sources that were laid into it: `sha256sum -c` reads it at its top.
+# The file with the sums of the sources that were copied into a repository: `sha256sum -c` reads it at the top.
 SUMS = f"crates/{PROJECT}.sha256"
 ROW = re.compile(r"([0-9a-f]{64})  (.+)")
 VERSION = re.compile(r"^# .* version (\S+)$", re.M)
@@ -31,13 +31,13 @@ class Refusal(Exception):
 
 
 def version() -> str:
-    """Returns the version of this checkout, of which VERSION is the one place."""
+    """Returns the version of this checkout, which only the file VERSION has."""
     path = ROOT / "VERSION"
     return path.read_text(encoding="utf-8").split()[0] if path.exists() else "unnumbered"
 
 
 def kit_line() -> str:
-    """Returns the line of the kit that `rt` is of, if that has the program logic of the libraries."""
+    """Returns the line of the kit of `rt`, if that has the program logic of the libraries."""
     try:
         line = subprocess.run(["rt", "version"], stdout=subprocess.PIPE, text=True, check=True).stdout.strip()
     except (OSError, subprocess.CalledProcessError) as error:
@@ -95,13 +95,13 @@ def read_sums(text: str) -> dict[str, str]:
 
 
 def version_in(text: str) -> str:
-    """Returns the version that is before such lines."""
+    """Returns the version before such lines."""
     found = VERSION.search(text)
     return found[1] if found else "unnumbered"
 
 
 def gather(room: Path) -> None:
-    """Lays the libraries of this checkout out for users, in an empty folder: sources, and what is built of them."""
+    """Copies the libraries of this checkout for users into an empty folder: sources, and their built form."""
     of = libraries()
     lines = lines_of(LIST.read_text(encoding="utf-8"))
     (room / "crates.txt").write_text("".join(f"{lines[name]}\n" for name in of), encoding="utf-8")

@@ -1,10 +1,10 @@
-"""What git says of trees and ignore files made by rule, as an answer file.
+"""What git prints for trees and ignore files made by rule, as an answer file.
 
-Each tree has directories and files three levels deep, a .gitignore at the top, and others below it. Their lines are
-made of what git's document speaks of: blanks and tabs at a line's end, `\\ `, `#`, `!`, slashes in all places, `*`,
-`**`, `?`, classes, backslashes, carriage returns, NULs, a byte order mark, bytes that are no text. Many are made of
-names that the tree has, so that lines match. `git check-ignore -v -n --no-index` is asked of each path of a tree, with
-no other ignore file: 5,000 paths.
+Each tree has directories and files three levels deep, a .gitignore at the top, and others below it. Their lines have
+everything that git's document names: blanks and tabs at a line's end, `\\ `, `#`, `!`, slashes in all positions, `*`,
+`**`, `?`, classes, backslashes, carriage returns, NULs, a byte order mark, bytes that aren't text. Many lines are made of
+names in the tree, so that they match. `git check-ignore -v -n --no-index` runs on each path of a tree, with no other
+ignore file: 5,000 paths.
 """
 
 from __future__ import annotations
@@ -61,7 +61,7 @@ def paths_of(top: bytes) -> Iterator[tuple[bytes, bool]]:
 
 
 def ask_git(top: bytes, paths: list[bytes]) -> Iterator[tuple[bytes, str]]:
-    """Yields for each path the ignore file that decides it, if one does, and what git says of it."""
+    """Yields for each path the ignore file that decides it, if one does, and what git prints for it."""
     words = ["git", "-c", "core.ignorecase=false", "-c", "core.excludesFile=/dev/null"]
     words += ["check-ignore", "-v", "-n", "-z", "--stdin", "--no-index"]
     given = b"".join(path + b"\0" for path in paths)
@@ -110,7 +110,7 @@ def answer_file(seed: str, room: Path) -> Path:
 
 
 def has_git() -> bool:
-    """Returns whether git is there, and says so where it isn't."""
+    """Returns whether git is installed, and prints a line if it isn't."""
     if not shutil.which("git"):
         leave_out("ignore files", "git", "what it says of trees")
         return False

@@ -1,11 +1,10 @@
 """A copy of the repository with the crates of tests/, which run there without a proof.
 
-The gate proves each crate that crates.txt lists, its tests too, and accepts no other .rt file.
-So the files of tests/NAME end in .test. In the copy they are the sources of a crate NAME, which
-uses the libraries that tests/crates-laid-in.txt lists. It is a library of tests, or a program where
-it has a main.test. The tests of several such crates can be joined into one, in which each is a
-module: it is compiled in little more time than any of them. So are the programs (test_programs): the one that
-they are joined into runs as the program by whose name it is started.
+The gate proves each crate that crates.txt lists, its tests too, and accepts no other .rt file. So the files of tests/NAME
+end in .test. In the copy they are the sources of a crate NAME, which uses the libraries that tests/crates-laid-in.txt
+lists. It is a program if it has a main.test, else a library of tests. The tests of several such crates can be joined into
+one, in which each is a module; that takes little more time to compile than one of them. Programs are joined likewise
+(test_programs): the joined program runs as the one by whose name it is started.
 """
 
 from __future__ import annotations
@@ -45,12 +44,12 @@ TEST = re.compile(r"^ *#\[test\]$", re.M)
 A_TEST = re.compile(r"(?:^///.*\n)*^#\[test\]\n.*?\bfn (\w+)(?s:.*?)^}\n", re.M)
 RESULT = re.compile(r"^test (\S+) \.\.\. (\w+)", re.M)
 ENDED = re.compile(r"^run=ended status=(\d+) .*proved=no$", re.M)
-# The checked run answers alone: the interpreter before it would stop at its first steps.
+# Only the checked run has a result: the interpreter before it stops at its first steps.
 LIMITS = ("--steps", "1", "--seconds", "3000")
 
 
 class Run(NamedTuple):
-    """What the tests of a crate came to: the result of each, and all that was printed."""
+    """The outcome of the tests of a crate: the result of each, and all output."""
 
     results: dict[str, str]
     status: int
@@ -66,7 +65,7 @@ class Module(NamedTuple):
 
 
 def crates() -> list[str]:
-    """Returns the names of the crates that are laid in, as they are listed."""
+    """Returns the names of the crates of tests/, as they are listed."""
     return list(listed(LIST.read_text(encoding="utf-8")))
 
 
@@ -76,7 +75,7 @@ def uses_of_tests() -> dict[str, list[str]]:
 
 
 def stored(crate: str) -> list[Path]:
-    """Returns the files beside a program's sources: its words, what it prints, and the files that it reads."""
+    """Returns the files beside a program's sources: its arguments, its output, and the files that it reads."""
     return sorted(path for path in (TESTS / crate).rglob("*") if path.is_file() and path.suffix != ENDING)
 
 
@@ -90,14 +89,14 @@ def count_of_tests(crate: str) -> int:
 
 
 def path_in(room: Path, source: Path) -> Path:
-    """Returns where a source of tests/ lies in a copy."""
+    """Returns the path of a source of tests/ in a copy."""
     crate, *inner = source.relative_to(TESTS).parts
     return room.joinpath("crates", crate, "src", *inner).with_suffix(".rt")
 
 
 @contextmanager
 def copy() -> Iterator[Path]:
-    """Makes a copy of what crates are compiled from, with the tests laid in, and removes it."""
+    """Makes a copy of what crates are compiled from, with those of tests/, and removes it."""
     with tempfile.TemporaryDirectory(prefix="laid-in-") as name:
         room = Path(name)
         lines = [path.read_text(encoding="utf-8") for path in (CRATES_LIST, LIST)]
@@ -194,7 +193,7 @@ def kit() -> Path:
 
 
 def library_words(room: Path, crate: str) -> list[str]:
-    """Returns the words that pass a crate's libraries, of the copy and of the kit, as source."""
+    """Returns the arguments that pass a crate's libraries, of the copy and of the kit, as source."""
     used, at, words = uses(room), kit(), []
     names = ["std", *used[crate]]
     for name in names:
@@ -212,10 +211,10 @@ def library_words(room: Path, crate: str) -> list[str]:
 def tried(
     room: Path, crate: str, root: Sequence[str], given: Iterable[str] = (), to: Path | None = None
 ) -> subprocess.CompletedProcess[str]:
-    """Compiles a crate of a copy with checks and runs it, given these words and files; tests several at once.
+    """Compiles a crate of a copy with checks and runs it, with these arguments and files; tests several at once.
 
     A program is copied to a place where one is given.
-    `rt try` would compile all a second time beside this, to warn of what a proof refuses.
+    `rt try` would compile everything a second time, to warn of what a proof rejects.
     """
     at = kit()
     with ExitStack() as until_ended:
@@ -245,7 +244,7 @@ def tried(
 
 
 def status_of(run: subprocess.CompletedProcess[str]) -> int:
-    """Returns the status that what was tried ended with, or the toolchain's own where it did not run."""
+    """Returns the status of the program that was tried, or the toolchain's own if it did not run."""
     ended = ENDED.search(run.stderr) or ENDED.search(run.stdout)
     return int(ended[1]) if ended and not run.returncode else run.returncode or 2
 
@@ -294,7 +293,7 @@ def compile_test_programs(folder: Path, names: list[str]) -> None:
 def run_program(crate: str, files: dict[str, Path]) -> subprocess.CompletedProcess[str]:
     """Runs a program of tests/ in a folder with copies of files, whose names are its arguments.
 
-    It is the one that the gate has compiled, or else one that is compiled for this run.
+    The gate has compiled it, or it is compiled for this run.
     """
     with ExitStack() as until_ended:
         folder = lambda: Path(until_ended.enter_context(tempfile.TemporaryDirectory(prefix=f"{crate}-")))
@@ -309,6 +308,6 @@ def run_program(crate: str, files: dict[str, Path]) -> subprocess.CompletedProce
 
 
 def at_once(work: Callable[[Item], Answer], items: Iterable[Item]) -> Iterator[Answer]:
-    """Yields what the work answers for each item, in their order, with an item for each processor at work."""
+    """Yields the result of the work for each item, in their order, with one item on each processor."""
     with ThreadPoolExecutor(processors()) as pool:
         yield from pool.map(work, items)

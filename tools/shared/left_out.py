@@ -1,7 +1,7 @@
-"""What a gate leaves out, since the machine lacks a tool.
+"""What a gate leaves out because the machine lacks a tool.
 
-A tool that leaves something out prints a line that says so, and writes it into the file that LEFT_OUT in the environment
-names. ./test keeps these lines in out/passed, and tools/release/release refuses where there are any.
+A tool that leaves something out prints a line, and writes it into the file that LEFT_OUT in the environment names. ./test
+keeps these lines in out/passed, and tools/release/release fails if there are any.
 """
 
 from __future__ import annotations
@@ -10,7 +10,7 @@ import os
 
 
 def leave_out(who: str, tool: str, what: str) -> None:
-    """Says what is left out for want of a tool, and notes it for the gate."""
+    """Prints what is left out for lack of a tool, and notes it for the gate."""
     line = f"{who}: left out, since there is no {tool}: {what}"
     print(line, flush=True)
     if place := os.environ.get("LEFT_OUT"):

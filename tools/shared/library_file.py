@@ -1,4 +1,4 @@
-"""The file of the Rattle libraries that is handed on, with the documents and with tools/release/use, which lays them from there."""
+"""The released file of the Rattle libraries, with the documents and with tools/release/use, which copies them from there."""
 
 from __future__ import annotations
 
@@ -34,7 +34,7 @@ def documents() -> list[Path]:
 
 
 def lay_out(room: Path) -> None:
-    """Lays out what the file has, in an empty folder. A document's link to anything else is its words alone."""
+    """Copies what the file has into an empty folder. A document's link to anything else becomes plain text."""
     gather(room)
     copied = [*tools(), *documents(), *(ROOT / path for path in READ)]
     places = {str(path.relative_to(ROOT)): path for path in copied}

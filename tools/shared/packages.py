@@ -1,9 +1,9 @@
-"""What those get who have no kit: an archive of the C library, a Python package, and an archive of the programs.
+"""The files for users without the kit: an archive of the C library, a Python package, and an archive of the programs.
 
-The first two are made of what `tools/check/c-library` has built in a folder: libosbytes.a, the shared object and its name. The archive
-has the header, man pages that are made of the header's comments, the pkg-config file, c/GUIDE.md and the examples, and
-at its top a README, the changes and the licence. A link of a document that leads to no file of the archive is its
-words alone. The Python package is a wheel of the sources in python/osbytes with the shared object beside them. The
+The first two are made from a folder in which `tools/check/c-library` has built libosbytes.a, the shared object and its
+name. The archive has the header, man pages made from the header's comments, the pkg-config file, c/GUIDE.md and the
+examples, and at its top a README, the changes and the licence. A link of a document to a file that isn't in the archive
+becomes plain text. The Python package is a wheel of the sources in python/osbytes with the shared object beside them. The
 archive of the programs has them, their man pages and completions, a README and the licence.
 """
 
@@ -40,7 +40,7 @@ STATUS = re.compile(r"^    (OSB_\w+) = \d+,?\s+/\* (.*?) \*/", re.S | re.M)
 # The lines on the syntax of patterns.
 SYNTAX = re.compile(r"^// Path patterns\..*?\n(?!//)", re.S | re.M)
 LINK = re.compile(r"\[([^\]]*)\]\(([^)#\s]+)(#[^)\s]*)?\)")
-# glibc 2.17 has all that the library asks for, and is that of this tag.
+# glibc 2.17 has everything that the library requires, and is the one of this tag.
 TAG = "py3-none-manylinux2014_{}"
 
 
@@ -59,7 +59,7 @@ def words_of(comment: str) -> str:
 
 
 def first_words(said: str) -> str:
-    """Returns what a comment says first, as a line of names has it: up to a colon or the end of a sentence."""
+    """Returns the start of a comment for the line of names: up to a colon or the end of a sentence."""
     first = re.split(r"(?<=[.:;])\s", " ".join(said.split()), maxsplit=1)[0].rstrip(".:;")
     if len(first) > 100:
         first = first[: first.rfind(",", 0, 100)] if "," in first[:100] else first
@@ -165,7 +165,7 @@ DOCUMENTS = {
 
 
 def with_links(text: str, document: str, places: dict[str, str]) -> str:
-    """Returns a document whose links lead to files of an archive with these; of any other only the words are left."""
+    """Returns a document whose links lead to files of an archive with these; any other link becomes plain text."""
     here = posixpath.dirname(document)
 
     def linked(link: re.Match[str]) -> str:
@@ -241,7 +241,7 @@ def make_packages(built: Path, folder: Path) -> list[Path]:
     return [*made, build_backend.make_sdist(folder, libraries)] if libraries else made
 
 
-# The documents of the archive of the programs, where these are, and what the README of the archive says of glibc.
+# The documents of the archive of the programs, the programs, and what the archive's README states about glibc.
 PROGRAM_DOCUMENTS = {
     "docs/programs/README.md": "README.md",
     "CHANGES.md": "CHANGES.md",
@@ -262,7 +262,7 @@ def sums_of_programs(places: dict[str, Path]) -> list[str]:
 
 
 def refuse_newer(name: str, content: bytes) -> None:
-    """Stops where a program needs another library than glibc's, or a newer glibc than the README of the archive says."""
+    """Stops if a program needs another library than glibc's, or a newer glibc than the archive's README states."""
     said = NEEDS_GLIBC.search((ROOT / "docs/programs/README.md").read_text(encoding="utf-8"))
     newest = max(((int(it[1]), int(it[2])) for it in GLIBC.finditer(content)), default=None)
     if newest is None or set(NEEDED.findall(content)) != {b"libc.so.6"}:

@@ -1,7 +1,7 @@
-"""The man page and the completions of each program, of its table in docs/programs.
+"""The man page and the completions of each program, from its table in docs/programs.
 
 A table has the program's commands, its options with the commands that take them, and examples with what they print.
-An operand is a word in capitals: PLATFORM and TO are one of three, a file's name is completed, and any other is free.
+An operand is a word in capitals: PLATFORM and TO are one of three, the name of a file is completed, any other isn't.
 """
 
 from __future__ import annotations
@@ -44,7 +44,7 @@ class Command(NamedTuple):
 
 
 class Option(NamedTuple):
-    """An option: its spellings, its value if it takes one, the commands that take it, or none for all, and what it does."""
+    """An option: its spellings, its value if any, the commands that take it (none means all), and what it does."""
 
     spellings: list[str]
     value: str
@@ -136,7 +136,7 @@ def tagged(rows: list[tuple[str, str]]) -> str:
 
 
 def in_bold(*words: str) -> str:
-    """Returns words in roff: operands in italics, all else in bold."""
+    """Returns words in roff: operands in italics, others in bold."""
     return " ".join(rf"\fI{as_roff(it)}\fR" if re.fullmatch(r"[\[\]A-Z.=]+", it) else rf"\fB{as_roff(it)}\fR" for it in words)
 
 

@@ -1,4 +1,4 @@
-"""The file of the Rattle libraries that is handed on: a .tar.xz of what `handed_on.gather` lays out.
+"""The released file of the Rattle libraries: a .tar.xz of what `handed_on.gather` copies.
 
 Its first member has the version, the line of the kit that the libraries were built with, and the sum of each
 other member.
@@ -18,7 +18,7 @@ BLOCK = 1 << 20
 
 
 def pack(room: Path, file: Path, version: str) -> None:
-    """Packs a folder that is laid out for users into a file."""
+    """Packs a folder for users into a file."""
     paths = list(files_below(room))
     head = sums_text(sums_of(room, paths), version).encode()
     with tarfile.open(file, "w:xz", preset=1) as packed:

@@ -17,7 +17,7 @@ ENDINGS = (signal.SIGINT, signal.SIGTERM)
 def room_in(target: Path) -> Iterator[Path]:
     """Gives an empty folder on the disk of a target, and removes it.
 
-    The target is made where it is missing, and removed where nothing comes of it.
+    The target is made if it is missing, and removed after a failure.
     """
     is_new = not target.exists()
     target.mkdir(exist_ok=True)
@@ -41,7 +41,7 @@ def copy_folder(folder: Path, to: Path) -> None:
 def replace(moves: Iterable[tuple[Path | None, Path]], aside: Path) -> None:
     """Moves files and folders to their places, on one disk, and what is there to an empty folder.
 
-    Where nothing is to come to a place, what is there only goes. Where one can't be moved, all are moved back.
+    A place without a new file is only emptied. If one can't be moved, all are moved back.
     Signals wait meanwhile.
     """
     done: list[tuple[Path, Path]] = []

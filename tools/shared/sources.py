@@ -1,6 +1,6 @@
-"""What the tools read of the sources: the crates of crates.txt, and the items of .rt files.
+"""The sources as the tools read them: the crates of crates.txt, and the items of .rt files.
 
-A call is found by the line on which its head begins, as `rt fmt` lays it out: at the margin, or four columns in
+A call is found by the line on which its head begins, as `rt fmt` formats it: at the margin, or indented by four columns
 within a trait or an `impl`.
 """
 
@@ -37,7 +37,7 @@ DERIVE = re.compile(r"#\[derive(?:_where)?\(([\w, ]+)")
 
 
 def processors() -> int:
-    """Returns how many processors a tool keeps busy: all, or as many as JOBS in the environment says."""
+    """Returns the number of processors that a tool uses: all, or JOBS of the environment."""
     return int(os.environ.get("JOBS") or len(os.sched_getaffinity(0)))
 
 
@@ -108,7 +108,7 @@ def exports(at: Path_) -> dict[str, Path_]:
 
 
 def resolved(at: Path_, path: list[str]) -> Path_ | None:
-    """Returns what a path in a module stands for; of the kit's crates, nothing."""
+    """Returns the item that a path in a module names; for the kit's crates, nothing."""
     first, *rest = path
     if first == "crate":
         here: Path_ = at[:1]
@@ -151,7 +151,7 @@ class Call(NamedTuple):
 
     @property
     def is_open(self) -> bool:
-        """Whether it can be called where its owner can be named: a clause of an `impl` stands in its trait."""
+        """Whether it can be called if its owner can be named: the contract of an `impl` is in its trait."""
         return self.is_pub or self.is_declared
 
     @property

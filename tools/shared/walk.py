@@ -1,8 +1,8 @@
-"""The crates that changed, proved over kept work: those above go on over a library whose interface is as it was.
+"""The crates that changed, proved over kept work. A crate above goes on over a library whose interface is unchanged.
 
-A library is taken where it was built last: where `rt ci` or tools/prove/prove left it, or in out/quick/rlib, if it was built over
-the very libraries below that are taken now. Its interface is what it hands to the crates above: the heads of its
-functions, its types, definitions and lemma files, as the prover writes them beside the proofs.
+A library is used where it was built last: where `rt ci` or tools/prove/prove left it, or in out/quick/rlib if it was
+built over the libraries that are used now. Its interface is what the crates above can name: the heads of its functions,
+its types, definitions and lemma files, as the prover writes them beside the proofs.
 """
 
 from __future__ import annotations
@@ -75,17 +75,17 @@ def format_of(library: Path) -> str:
 
 
 def sum_in(library: Path) -> str:
-    """Returns the sum of a built library, by which those above say over what they were built."""
+    """Returns the sum of a built library, by which those above state over what they were built."""
     return hashlib.sha256((library / "format").read_bytes()).hexdigest()
 
 
 def over_of(library: Path) -> dict[str, str]:
-    """Returns over what a library was built, as it says itself if it has statements, or as is noted beside it."""
+    """Returns over what a library was built, as its statements or a note beside it state."""
     return dict(OVER.findall(format_of(library))) or noted_in(library.with_suffix(".over"))
 
 
 def interface_of(library: Path) -> str:
-    """Returns the sum of what a built library hands to the crates above."""
+    """Returns the sum of the interface of a built library."""
     sum = hashlib.sha256()
     for part in ("interface", "lang"):
         for path in sorted(path for path in (library / part).rglob("*") if path.is_file()):
@@ -125,7 +125,7 @@ class Walk:
         return noted.exists() and noted.read_text(encoding="utf-8") == self.own[name]
 
     def take(self, name: str) -> bool:
-        """Returns whether a crate was proved as it is, and takes it from where it is then, if it is a library."""
+        """Returns whether a crate was proved with its present sources, and uses it from there, if it is a library."""
         if not is_library(name):
             return self.proved.get(name) == self.key(name)
         if is_built(name) and self.fits(built(name), name) and (self.is_own(name) or is_current(name)):
@@ -145,7 +145,7 @@ class Walk:
         return [f"{kit()}/bin/rattle", *what, *over_libraries(name, lambda it: self.places[it]), *how]
 
     def prove(self, name: str) -> Outcome:
-        """Proves a crate, says so, and takes it, if it is a library, from where those above have it already if they can."""
+        """Proves a crate and prints that. A library is used from where the crates above have it already, if they can."""
         began, made = time.time(), ROOM / "new" / f"{name}.rlib"
         shutil.rmtree(made, ignore_errors=True)
         made.parent.mkdir(parents=True, exist_ok=True)
@@ -199,7 +199,7 @@ class Walk:
                 os.close(it)
 
     def go(self) -> list[Outcome]:
-        """Goes over all crates, as many at once as there are processors, and returns what came of those that were tried."""
+        """Goes over all crates, one on each processor, and returns the outcome of those that were tried."""
         waiting, done = list(uses()), {}
         with ThreadPoolExecutor(processors()) as pool:
             at_work: dict[Future[Outcome], str] = {}
