@@ -1,4 +1,4 @@
-"""Asks the package what answer files say of its calls: answers.py FILE ..
+"""Compares the package's calls with the rows of result files: answers.py FILE ..
 
 The columns of each kind of file are named in its second line. The status is 1 where a row differs.
 """

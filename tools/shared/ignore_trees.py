@@ -1,4 +1,4 @@
-"""What git prints for trees and ignore files made by rule, as an answer file.
+"""What git prints for trees and ignore files made by rule, as a result file.
 
 Each tree has directories and files three levels deep, a .gitignore at the top, and others below it. Their lines have
 everything that git's document names: blanks and tabs at a line's end, `\\ `, `#`, `!`, slashes in all positions, `*`,
@@ -75,7 +75,7 @@ def ask_git(top: bytes, paths: list[bytes]) -> Iterator[tuple[bytes, str]]:
 
 
 def rows_of(room: Path, number: int) -> Iterator[str]:
-    """Yields a row of an answer file for each path of a tree."""
+    """Yields a row of a result file for each path of a tree."""
     top = os.fsencode(room / f"tree{number}")
     os.mkdir(top)
     make_tree(top, 3)
@@ -96,7 +96,7 @@ def rows_of(room: Path, number: int) -> Iterator[str]:
 
 
 def answer_file(seed: str, room: Path) -> Path:
-    """Writes a row for each path of trees into an answer file in a folder."""
+    """Writes a row for each path of trees into a result file in a folder."""
     random.seed(seed)
     rows: list[str] = []
     with tempfile.TemporaryDirectory(prefix="ignored-") as name:

@@ -23,7 +23,7 @@ pub extern "C" fn port_flags(raw: &[u8]) -> u64 {
 
 /// Reads the words of a command line, which are the bytes, cut into pieces of these lengths.
 /// Returns the sum of the lengths of the names, the values within words and the operands, and of
-/// the flags, modulo 2^64; `u64::MAX` where memory was refused.
+/// the flags, modulo 2^64; `u64::MAX` if an allocation failed.
 #[unsafe(no_mangle)]
 pub extern "C" fn port_options(alloc: Global, raw: &[u8], lens: &[usize]) -> u64
     requires { Fit lens.now raw.now }

@@ -1,5 +1,5 @@
-//! The check of Windows, of bytes, of a vector and of a piece, that of wasm, texts of Unix, first faults,
-//! and the text of a fault.
+//! The check of Windows, of bytes, of a vector and of a piece, that of wasm, texts of Unix, first
+//! faults, and the text of a fault.
 ghost use Rattle.std.specs.Prelude.{◌≡◌, ◌≢◌, ◌↔◌, ℕ, IsTrue, Option, length};
 ghost use Rattle.std.specs.Str.{IsUtf8};
 ghost use Rattle.wtf8_core.specs.Checker.{HasFirstFault};
@@ -39,7 +39,8 @@ pub extern "C" fn port_wasm_check(bytes: &[u8]) -> u64
     }
 }
 
-/// How many bytes the text has that the bytes are on Unix, or `usize::MAX` where they are none.
+/// Returns the number of bytes of the text that the bytes are on Unix, or `usize::MAX` if they
+/// aren't text.
 #[unsafe(no_mangle)]
 pub extern "C" fn port_to_str(bytes: &[u8]) -> usize
     ensures { result ≢ usize.MAX → IsUtf8 bytes.now × (result ≡ length bytes.now) }
@@ -50,8 +51,8 @@ pub extern "C" fn port_to_str(bytes: &[u8]) -> usize
     }
 }
 
-/// How many bytes the string has that a copy of the bytes is on Windows, or `usize::MAX` where they
-/// aren't WTF-8 or memory was refused.
+/// Returns the number of bytes of the string that a copy of the bytes is on Windows, or
+/// `usize::MAX` where they aren't WTF-8 or an allocation failed.
 #[unsafe(no_mangle)]
 pub extern "C" fn port_from_raw_vec(alloc: Global, bytes: &[u8]) -> usize
     ensures wtf8 { result ≢ usize.MAX → IsWtf8 bytes.now }
@@ -112,8 +113,8 @@ pub extern "C" fn port_is_utf8(bytes: &[u8]) -> bool
     is_utf8(bytes)
 }
 
-/// How many bytes the text has of the fault that is this byte, or `usize::MAX` where memory was
-/// refused.
+/// Returns the number of bytes of the text of the fault that is this byte, or `usize::MAX` if an
+/// allocation failed.
 #[unsafe(no_mangle)]
 pub extern "C" fn port_fault_text(alloc: Global, byte: u8) -> usize
     ensures { result ≢ usize.MAX → result ≡ length (fault_text (Byte byte)) }

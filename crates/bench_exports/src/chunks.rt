@@ -5,7 +5,7 @@ ghost use Rattle.wtf8_core.specs.Chunks.{Chunk, AreChunks};
 use crate::strings::unix;
 use os_str_ext::OsStrBytesExt;
 
-/// How many chunks the string has.
+/// Returns the number of chunks of the string.
 #[unsafe(no_mangle)]
 pub extern "C" fn port_chunks(raw: &[u8]) -> usize
     ensures { (chunks : List Chunk) × AreChunks raw.now chunks × (result ≡ length chunks) }

@@ -5,8 +5,8 @@ use os_command_line::windows::{Arguments, command_line, push_argument};
 use platform_str::windows::OsStr;
 use std::alloc::Global;
 
-/// Reads a command line, and returns the sum of the units of its name and its arguments, modulo 2^64,
-/// which is turned by 31 before each argument.
+/// Reads a command line, and returns the sum of the units of its name and its arguments, modulo
+/// 2^64, which is turned by 31 before each argument.
 #[unsafe(no_mangle)]
 pub extern "C" fn port_arguments(line: &[u8]) -> u64
     requires { IsWtf8 line.now }
@@ -25,8 +25,8 @@ pub extern "C" fn port_arguments(line: &[u8]) -> u64
     sum
 }
 
-/// How many units the text of an argument has, once it is in a vector; `usize::MAX` where it is
-/// refused.
+/// Returns the number of units of the text of an argument, once it is in a vector; `usize::MAX` if
+/// it is rejected.
 #[unsafe(no_mangle)]
 pub extern "C" fn port_push_argument(alloc: Global, argument: &[u8]) -> usize
     requires { IsWtf8 argument.now }
@@ -38,8 +38,8 @@ pub extern "C" fn port_push_argument(alloc: Global, argument: &[u8]) -> usize
     }
 }
 
-/// How many units the command line of a program with three arguments has; `usize::MAX` where it is
-/// refused.
+/// Returns the number of units of the command line of a program with three arguments; `usize::MAX`
+/// if it is rejected.
 #[unsafe(no_mangle)]
 pub extern "C" fn port_command_line(
     alloc: Global,

@@ -12,7 +12,7 @@ use os_quote::{escape, escape_line, unescape, unescape_line};
 use platform_str::{OsStr, OsString, Platform, Unix, Wasm, Windows};
 use std::alloc::Global;
 
-/// How many bytes the escape of a string has, or `usize::MAX` where memory was refused.
+/// Returns the number of bytes of the escape of a string, or `usize::MAX` if an allocation failed.
 fn escape_len<E: Platform>(alloc: Global, string: OsStr<E>) -> usize
     ensures { result ≢ usize.MAX → (escaped : List ℕ)
         × IsEscape E.units (bytes string.entry) escaped × (result ≡ length escaped) }
@@ -23,7 +23,8 @@ fn escape_len<E: Platform>(alloc: Global, string: OsStr<E>) -> usize
     }
 }
 
-/// How many bytes the escape of the string has on Unix, or `usize::MAX` where memory was refused.
+/// Returns the number of bytes of the escape of the string on Unix, or `usize::MAX` if an
+/// allocation failed.
 #[unsafe(no_mangle)]
 pub extern "C" fn port_escape(alloc: Global, raw: &[u8]) -> usize
     ensures { result ≢ usize.MAX → (escaped : List ℕ) × IsEscape itself raw.now escaped
@@ -32,8 +33,8 @@ pub extern "C" fn port_escape(alloc: Global, raw: &[u8]) -> usize
     escape_len(alloc, unix(raw))
 }
 
-/// How many bytes the escape of the string has on Windows, for bytes that are WTF-8, or
-/// `usize::MAX` where memory was refused.
+/// Returns the number of bytes of the escape of the string on Windows, for bytes that are WTF-8, or
+/// `usize::MAX` if an allocation failed.
 #[unsafe(no_mangle)]
 pub extern "C" fn port_win_escape(alloc: Global, raw: &[u8]) -> usize
     requires { IsWtf8 raw.now }
@@ -43,8 +44,8 @@ pub extern "C" fn port_win_escape(alloc: Global, raw: &[u8]) -> usize
     escape_len(alloc, OsStr::<Windows>::from_encoded_bytes_unchecked(raw))
 }
 
-/// How many bytes the escape of the string has on wasm, for bytes that are UTF-8, or `usize::MAX`
-/// where memory was refused.
+/// Returns the number of bytes of the escape of the string on wasm, for bytes that are UTF-8, or
+/// `usize::MAX` if an allocation failed.
 #[unsafe(no_mangle)]
 pub extern "C" fn port_wasm_escape(alloc: Global, raw: &[u8]) -> usize
     requires { IsUtf8 raw.now }
@@ -54,7 +55,8 @@ pub extern "C" fn port_wasm_escape(alloc: Global, raw: &[u8]) -> usize
     escape_len(alloc, OsStr::<Wasm>::from_encoded_bytes_unchecked(raw))
 }
 
-/// How many bytes the escape on one line has on Unix, or `usize::MAX` where memory was refused.
+/// Returns the number of bytes of the escape on one line on Unix, or `usize::MAX` if an allocation
+/// failed.
 #[unsafe(no_mangle)]
 pub extern "C" fn port_escape_line(alloc: Global, raw: &[u8]) -> usize
     ensures { result ≢ usize.MAX → (escaped : List ℕ) × IsLineEscape itself raw.now escaped
@@ -66,8 +68,8 @@ pub extern "C" fn port_escape_line(alloc: Global, raw: &[u8]) -> usize
     }
 }
 
-/// How many bytes the string has whose escape the text is, or `usize::MAX` where there is none or
-/// memory was refused.
+/// Returns the number of bytes of the string whose escape the text is, or `usize::MAX` if there is
+/// none or an allocation failed.
 #[unsafe(no_mangle)]
 pub extern "C" fn port_unescape(alloc: Global, escaped: &[u8]) -> usize
     requires { IsUtf8 escaped.now }
@@ -81,8 +83,8 @@ pub extern "C" fn port_unescape(alloc: Global, escaped: &[u8]) -> usize
     }
 }
 
-/// How many bytes the string of an escape on one line has on Unix, or `usize::MAX` as in
-/// `port_unescape`.
+/// Returns the number of bytes of the string of an escape on one line on Unix, or `usize::MAX` as
+/// in `port_unescape`.
 #[unsafe(no_mangle)]
 pub extern "C" fn port_unescape_line(alloc: Global, escaped: &[u8]) -> usize
     requires { IsUtf8 escaped.now }

@@ -12,9 +12,9 @@ use glob_patterns::{Glob, GlobOptions, GlobSet, Separators};
 use platform_str::Unix;
 use std::alloc::{AllocError, Global};
 
-/// How many of the strings a pattern matches, which is compiled once; none if it isn't well formed,
-/// or memory was refused. The strings are the bytes, cut into pieces of these lengths, and `/`
-/// separates, or nothing does.
+/// Returns the number of the strings that a pattern matches, which is compiled once; none if it
+/// isn't well formed, or an allocation failed. The strings are the bytes, cut into pieces of these
+/// lengths, and `/` separates, or nothing does.
 #[unsafe(no_mangle)]
 pub extern "C" fn port_matches(
     alloc: Global,
@@ -33,7 +33,7 @@ pub extern "C" fn port_matches(
 }
 
 /// Whether a set is made of the patterns, which are the bytes, cut into pieces of these lengths,
-/// where `/` separates: each is well formed, and memory wasn't refused.
+/// where `/` separates: each is well formed, and no allocation failed.
 #[unsafe(no_mangle)]
 pub extern "C" fn port_set_new(alloc: Global, patterns: &[u8], pattern_lens: &[usize]) -> bool
     requires { Fit pattern_lens.now patterns.now }
@@ -42,8 +42,8 @@ pub extern "C" fn port_set_new(alloc: Global, patterns: &[u8], pattern_lens: &[u
 }
 
 /// Tests all strings against all patterns `times` times, where `/` separates, and returns the
-/// number of matches, modulo 2^64. Returns `usize::MAX` where a pattern isn't well formed, or
-/// memory was refused. The patterns are compiled once, and are the bytes, cut into pieces of these
+/// number of matches, modulo 2^64. Returns `usize::MAX` where a pattern isn't well formed, or an
+/// allocation failed. The patterns are compiled once, and are the bytes, cut into pieces of these
 /// lengths, as the strings are.
 #[unsafe(no_mangle)]
 pub extern "C" fn port_set_matches(
@@ -73,7 +73,8 @@ pub extern "C" fn port_set_matches(
     count
 }
 
-/// How many of the strings a pattern of the set matches, for each time; else the same.
+/// Returns the number of the strings that a pattern of the set matches, for each time; else the
+/// same.
 #[unsafe(no_mangle)]
 pub extern "C" fn port_set_is_match(
     alloc: Global,
@@ -98,7 +99,7 @@ pub extern "C" fn port_set_is_match(
     count
 }
 
-/// How many pairs there are of a string and a pattern of the set, modulo 2^64.
+/// Returns the number of pairs of a string and a pattern of the set that matches it, modulo 2^64.
 fn set_matches(
     set: &GlobSet<Unix>,
     raw: &[u8],
@@ -120,7 +121,7 @@ fn set_matches(
     Ok(count)
 }
 
-/// How many of the strings a pattern of the set matches, modulo 2^64.
+/// Returns the number of the strings that a pattern of the set matches, modulo 2^64.
 fn set_is_match(set: &GlobSet<Unix>, raw: &[u8], lens: &[usize]) -> usize
     requires { Fit lens.now raw.now }
 {
@@ -160,7 +161,7 @@ fn options(slash: bool) -> GlobOptions {
     })
 }
 
-/// How many strings a pattern matches, of the pieces of these lengths.
+/// Returns the number of strings that a pattern matches, of the pieces of these lengths.
 fn matches(glob: &Glob<Unix>, raw: &[u8], lens: &[usize]) -> usize
     requires fit { Fit lens.now raw.now }
     ensures { IsCount (λ string. MatchesChoice (options_of glob.now.options) glob.now.choices.items

@@ -10,8 +10,8 @@ use os_str_ext::OsStrBytesExt;
 use platform_str::{OsStr, OsString, Platform, Windows};
 use std::alloc::Global;
 
-/// How many bytes the string has onto which a part was pushed `count` times, or `usize::MAX` where
-/// memory was refused.
+/// Returns the number of bytes of the string onto which a part was pushed `count` times, or
+/// `usize::MAX` if an allocation failed.
 fn pushed_len<E: Platform>(alloc: Global, part: OsStr<E>, count: usize) -> usize
     ensures { result ≢ usize.MAX → IsRepeatedLength E.well_formed E.units (bytes part.entry) count
         result }
@@ -26,8 +26,8 @@ fn pushed_len<E: Platform>(alloc: Global, part: OsStr<E>, count: usize) -> usize
     all.as_os_str().len()
 }
 
-/// How many bytes the empty string has after the part was pushed `count` times, or
-/// `usize::MAX` where memory was refused.
+/// Returns the number of bytes of the empty string after the part was pushed `count` times, or
+/// `usize::MAX` if an allocation failed.
 #[unsafe(no_mangle)]
 pub extern "C" fn port_push(alloc: Global, raw: &[u8], count: usize) -> usize
     requires { IsWtf8 raw.now }
@@ -40,8 +40,8 @@ pub extern "C" fn port_push(alloc: Global, raw: &[u8], count: usize) -> usize
     )
 }
 
-/// How many bytes the string has `count` times over, or `usize::MAX` where memory was refused or
-/// the length would pass it.
+/// Returns the number of bytes of the string `count` times over, or `usize::MAX` if an allocation
+/// failed or the length would pass it.
 #[unsafe(no_mangle)]
 pub extern "C" fn port_repeat(alloc: Global, raw: &[u8], count: usize) -> usize
     requires { IsWtf8 raw.now }

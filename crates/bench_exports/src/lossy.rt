@@ -11,7 +11,8 @@ use crate::strings::unix;
 use platform_str::{HasBytes, OsStr, Platform, Unix, Wasm, Windows};
 use std::alloc::Global;
 
-/// How many bytes the lossy text of a string has, or `usize::MAX` where memory was refused.
+/// Returns the number of bytes of the lossy text of a string, or `usize::MAX` if an allocation
+/// failed.
 fn lossy_len<E: Platform>(alloc: Global, string: OsStr<E>) -> usize
     ensures { result ≢ usize.MAX → result ≡ length (E.lossy (bytes string.entry)) }
 {
@@ -21,8 +22,8 @@ fn lossy_len<E: Platform>(alloc: Global, string: OsStr<E>) -> usize
     }
 }
 
-/// How many bytes the lossy text of the bytes has on Unix, or `usize::MAX` where memory was
-/// refused.
+/// Returns the number of bytes of the lossy text of the bytes on Unix, or `usize::MAX` if an
+/// allocation failed.
 #[unsafe(no_mangle)]
 pub extern "C" fn port_lossy(alloc: Global, raw: &[u8]) -> usize
     ensures { result ≢ usize.MAX → result ≡ length (utf8_lossy raw.now) }
@@ -30,8 +31,8 @@ pub extern "C" fn port_lossy(alloc: Global, raw: &[u8]) -> usize
     lossy_len(alloc, OsStr::<Unix>::from_encoded_bytes_unchecked(raw))
 }
 
-/// How many bytes the lossy text of the bytes has on Windows, for bytes that are WTF-8, or
-/// `usize::MAX` where memory was refused.
+/// Returns the number of bytes of the lossy text of the bytes on Windows, for bytes that are WTF-8,
+/// or `usize::MAX` if an allocation failed.
 #[unsafe(no_mangle)]
 pub extern "C" fn port_win_lossy(alloc: Global, raw: &[u8]) -> usize
     requires { IsWtf8 raw.now }
@@ -40,8 +41,8 @@ pub extern "C" fn port_win_lossy(alloc: Global, raw: &[u8]) -> usize
     lossy_len(alloc, OsStr::<Windows>::from_encoded_bytes_unchecked(raw))
 }
 
-/// How many bytes the string has as it is printed on Unix, as a new text, or `usize::MAX` where
-/// memory was refused.
+/// Returns the number of bytes of the string as it is printed on Unix, as a new text, or
+/// `usize::MAX` if an allocation failed.
 #[unsafe(no_mangle)]
 pub extern "C" fn port_display(alloc: Global, raw: &[u8]) -> usize
     ensures { result ≢ usize.MAX → result ≡ length (utf8_lossy raw.now) }
@@ -52,7 +53,8 @@ pub extern "C" fn port_display(alloc: Global, raw: &[u8]) -> usize
     }
 }
 
-/// How many bytes the lossy reading of any bytes has, or `usize::MAX` where memory was refused.
+/// Returns the number of bytes of the lossy reading of any bytes, or `usize::MAX` if an allocation
+/// failed.
 fn reading_len<E: Platform>(alloc: Global, raw: &[u8]) -> usize
     ensures { result ≢ usize.MAX → (reading : List ℕ) × E.reads_as raw.now reading
         × (result ≡ length reading) }
@@ -63,8 +65,8 @@ fn reading_len<E: Platform>(alloc: Global, raw: &[u8]) -> usize
     }
 }
 
-/// How many bytes the lossy reading of the bytes has on Windows, or `usize::MAX` where memory was
-/// refused.
+/// Returns the number of bytes of the lossy reading of the bytes on Windows, or `usize::MAX` if an
+/// allocation failed.
 #[unsafe(no_mangle)]
 pub extern "C" fn port_win_read_lossy(alloc: Global, raw: &[u8]) -> usize
     ensures { result ≢ usize.MAX → (reading : List ℕ) × IsLossyReading raw.now reading
@@ -73,8 +75,8 @@ pub extern "C" fn port_win_read_lossy(alloc: Global, raw: &[u8]) -> usize
     reading_len::<Windows>(alloc, raw)
 }
 
-/// How many bytes the lossy reading of the bytes has on wasm, or `usize::MAX` where memory was
-/// refused.
+/// Returns the number of bytes of the lossy reading of the bytes on wasm, or `usize::MAX` if an
+/// allocation failed.
 #[unsafe(no_mangle)]
 pub extern "C" fn port_wasm_read_lossy(alloc: Global, raw: &[u8]) -> usize
     ensures { result ≢ usize.MAX → (reading : List ℕ) × IsLossyText raw.now reading

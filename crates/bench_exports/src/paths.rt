@@ -23,7 +23,7 @@ fn path(raw: &[u8]) -> Path<'_, Unix>
     Path::new(unix(raw))
 }
 
-/// How many bytes a component has.
+/// Returns the number of bytes of a component.
 #[inline(always)]
 fn len_of(component: Component<OsStr<'_, Unix>>) -> usize {
     match component {
@@ -55,7 +55,7 @@ pub extern "C" fn port_components_back(raw: &[u8]) -> usize {
     sum
 }
 
-/// How many bytes the parent has, or `usize::MAX` where there is none.
+/// Returns the number of bytes of the parent, or `usize::MAX` if there is none.
 #[unsafe(no_mangle)]
 pub extern "C" fn port_parent(raw: &[u8]) -> usize
     ensures { AnswersOr usize.MAX (HasNoParent style.Unix raw.now)
@@ -68,7 +68,7 @@ pub extern "C" fn port_parent(raw: &[u8]) -> usize
     }
 }
 
-/// How many bytes the last name has, or `usize::MAX` where there is none.
+/// Returns the number of bytes of the last name, or `usize::MAX` if there is none.
 #[unsafe(no_mangle)]
 pub extern "C" fn port_file_name(raw: &[u8]) -> usize
     ensures { AnswersOr usize.MAX (HasNoFileName style.Unix raw.now)
@@ -81,7 +81,7 @@ pub extern "C" fn port_file_name(raw: &[u8]) -> usize
     }
 }
 
-/// How many bytes the extension of the last name has, or `usize::MAX` where there is none.
+/// Returns the number of bytes of the extension of the last name, or `usize::MAX` if there is none.
 #[unsafe(no_mangle)]
 pub extern "C" fn port_extension(raw: &[u8]) -> usize
     ensures { AnswersOr usize.MAX (LacksExtension style.Unix raw.now)
@@ -102,7 +102,8 @@ pub extern "C" fn port_path_starts_with(raw: &[u8], base: &[u8]) -> bool
     path(raw).starts_with(path(base))
 }
 
-/// How many bytes the path joined to the base has, or `usize::MAX` where memory was refused.
+/// Returns the number of bytes of the path joined to the base, or `usize::MAX` if an allocation
+/// failed.
 #[unsafe(no_mangle)]
 pub extern "C" fn port_join(alloc: Global, base: &[u8], more: &[u8]) -> usize
     ensures { result ≢ usize.MAX → (joined : List ℕ) × IsJoin style.Unix base.now more.now joined
@@ -114,8 +115,8 @@ pub extern "C" fn port_join(alloc: Global, base: &[u8], more: &[u8]) -> usize
     }
 }
 
-/// How many bytes a copy of the base has after the path was pushed onto it, or `usize::MAX` where
-/// memory was refused.
+/// Returns the number of bytes of a copy of the base after the path was pushed onto it, or
+/// `usize::MAX` if an allocation failed.
 #[unsafe(no_mangle)]
 pub extern "C" fn port_push_path(alloc: Global, base: &[u8], more: &[u8]) -> usize
     ensures { result ≢ usize.MAX → (joined : List ℕ) × IsJoin style.Unix base.now more.now joined
@@ -131,7 +132,8 @@ pub extern "C" fn port_push_path(alloc: Global, base: &[u8], more: &[u8]) -> usi
     }
 }
 
-/// How many bytes the normal form has, or `usize::MAX` where there is none or memory was refused.
+/// Returns the number of bytes of the normal form, or `usize::MAX` if there is none or an
+/// allocation failed.
 #[unsafe(no_mangle)]
 pub extern "C" fn port_normalize(alloc: Global, raw: &[u8]) -> usize
     ensures { result ≢ usize.MAX → (normal : List ℕ) × IsNormalized style.Unix raw.now normal

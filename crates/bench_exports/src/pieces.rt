@@ -6,7 +6,7 @@ ghost use Rattle.os_str_ext.specs.Pieces.{IsSplit, IsRSplit};
 use crate::strings::{text, unix};
 use os_str_ext::OsStrBytesExt;
 
-/// How many pieces there are between the matches of the pattern.
+/// Returns the number of pieces between the matches of the pattern.
 #[unsafe(no_mangle)]
 pub extern "C" fn port_split(raw: &[u8], pattern: &[u8]) -> usize
     requires text { IsUtf8 pattern.now }
@@ -21,7 +21,7 @@ pub extern "C" fn port_split(raw: &[u8], pattern: &[u8]) -> usize
     count
 }
 
-/// How many pieces there are between the matches of the pattern, from the end.
+/// Returns the number of pieces between the matches of the pattern, from the end.
 #[unsafe(no_mangle)]
 pub extern "C" fn port_rsplit(raw: &[u8], pattern: &[u8]) -> usize
     requires text { IsUtf8 pattern.now }

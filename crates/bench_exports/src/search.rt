@@ -57,7 +57,8 @@ pub extern "C" fn port_split_once(raw: &[u8], pattern: &[u8]) -> usize
     }
 }
 
-/// How many bytes follow the pattern as a prefix, or `usize::MAX` where it is none.
+/// Returns the number of bytes that follow the pattern as a prefix, or `usize::MAX` if it isn't
+/// one.
 #[unsafe(no_mangle)]
 pub extern "C" fn port_strip_prefix(raw: &[u8], pattern: &[u8]) -> usize
     requires { IsUtf8 pattern.now }
@@ -71,8 +72,8 @@ pub extern "C" fn port_strip_prefix(raw: &[u8], pattern: &[u8]) -> usize
     }
 }
 
-/// How many bytes are left without each pattern at the start and at the end. The pattern isn't
-/// empty.
+/// Returns the number of bytes that are left without each pattern at the start and at the end. The
+/// pattern isn't empty.
 #[unsafe(no_mangle)]
 pub extern "C" fn port_trim_matches(raw: &[u8], pattern: &[u8]) -> usize
     requires text { IsUtf8 pattern.now }

@@ -24,8 +24,8 @@ pub extern "C" fn port_words(line: &[u8]) -> u64 {
     sum
 }
 
-/// How many bytes the word of a name has as it is printed, as a new text, or `usize::MAX` where it
-/// is refused.
+/// Returns the number of bytes of the word of a name as it is printed, as a new text, or
+/// `usize::MAX` where it is rejected.
 #[unsafe(no_mangle)]
 pub extern "C" fn port_quoted(alloc: Global, name: &[u8]) -> usize {
     let Ok(word) = quoted(unix(name)) else {
@@ -37,7 +37,8 @@ pub extern "C" fn port_quoted(alloc: Global, name: &[u8]) -> usize {
     }
 }
 
-/// How many bytes the word of a name has, as a new string, or `usize::MAX` where it is refused.
+/// Returns the number of bytes of the word of a name, as a new string, or `usize::MAX` if it is
+/// rejected.
 #[unsafe(no_mangle)]
 pub extern "C" fn port_quote(alloc: Global, name: &[u8]) -> usize
     ensures { result ≢ usize.MAX → result ≡ length (quoted_word name.now) }

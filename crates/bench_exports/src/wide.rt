@@ -66,7 +66,8 @@ pub extern "C" fn port_write_from_wide(units: &[u16], out: &mut [u8]) -> usize
     OsStr::write_from_wide(units, out)
 }
 
-/// How many bytes the string with the units has, or `usize::MAX` where memory was refused.
+/// Returns the number of bytes of the string with the units, or `usize::MAX` if an allocation
+/// failed.
 #[unsafe(no_mangle)]
 pub extern "C" fn port_from_wide(alloc: Global, units: &[u16]) -> usize
     ensures { result ≢ usize.MAX → (bytes : List ℕ) × HasUnits bytes units.now
@@ -78,8 +79,8 @@ pub extern "C" fn port_from_wide(alloc: Global, units: &[u16]) -> usize
     }
 }
 
-/// How many units the string has that the bytes are, once all are in a vector; `usize::MAX` where
-/// memory was refused.
+/// Returns the number of units of the string that the bytes are, once all are in a vector;
+/// `usize::MAX` if an allocation failed.
 #[unsafe(no_mangle)]
 pub extern "C" fn port_to_wide(alloc: Global, bytes: &[u8]) -> usize
     requires { IsWtf8 bytes.now }

@@ -61,8 +61,8 @@ fn told(
     }
 }
 
-/// How many files a command line of Windows names for `pack`, whose options [`Options`] reads, or
-/// `None` where its arguments are refused.
+/// Returns the number of files that a command line of Windows names for `pack`, whose options
+/// [`Options`] reads, or `None` if its arguments are rejected.
 fn packed_by(alloc: Global, line: OsStr<'_, Windows>) -> Result<Option<usize>, AllocError> {
     let mut strings = Vec::new(alloc);
     for argument in Arguments::new(line) {
@@ -78,8 +78,8 @@ fn packed_by(alloc: Global, line: OsStr<'_, Windows>) -> Result<Option<usize>, A
     }
 }
 
-/// Prints the lines of some programs, what the options of one say, and a command that can be pasted
-/// into PowerShell.
+/// Prints the lines of some programs, the options of one, and a command that can be pasted into
+/// PowerShell.
 pub fn show(rt: &HostRuntime) -> io::Result<()> {
     let arguments = [
         OsStr::new("a b"),

@@ -15,7 +15,7 @@ use std::{fmt, io};
 pub struct Options<'a, E: Platform + 'a> {
     /// Where the archive goes.
     pub to: Option<OsStr<'a, E>>,
-    /// How hard to press.
+    /// The compression level.
     pub level: Option<OsStr<'a, E>>,
     /// What is left out.
     pub skip: Option<OsStr<'a, E>>,
@@ -28,9 +28,9 @@ pub struct Options<'a, E: Platform + 'a> {
 /// Why nothing is packed, of strings `S`.
 #[derive(Clone, Copy)]
 pub enum Refusal<'a, S> {
-    /// The words are refused.
+    /// The arguments are rejected.
     Argument(ArgumentError<'a, S>),
-    /// A request for memory was refused.
+    /// An allocation failed.
     Memory,
 }
 
@@ -71,7 +71,7 @@ impl<'a, E: Platform> Options<'a, E> {
         }
     }
 
-    /// Parses the words. If it succeeds, no word is left.
+    /// Parses the arguments. If it succeeds, none is left.
     pub fn parse(
         alloc: Global,
         arguments: &mut Arguments<'_, 'a, E>,
@@ -123,7 +123,7 @@ pub fn told(alloc: Global, words: &[OsStr<'_, Unix>]) -> Result<String, AllocErr
     Ok(text)
 }
 
-/// Prints the options that words contain.
+/// Prints the options that arguments contain.
 fn pack(rt: &HostRuntime, words: &[OsStr<'_, Unix>]) -> io::Result<()> {
     println!(rt; "{}", told(rt.alloc(), words)?.as_str())
 }

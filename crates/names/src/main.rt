@@ -1,7 +1,7 @@
-//! The program `names`: lists of file names, escaped one a line, and back.
+//! The program `names`: prints lists of file names escaped, one on each line, and reads them back.
 //!
-//! It hands its words, its ends and the files of the disk to [`execute`], whose contract says what then is
-//! done.
+//! It passes its arguments, its three streams and the files of the disk to [`execute`], whose contract
+//! states what is done.
 #![tactic(auto)]
 
 use names_commands::fault::Fault;

@@ -1,6 +1,6 @@
 //! The program `osbytes`: platform strings as bytes and as units.
 //!
-//! It hands its words and its ends to [`execute`], whose contract says what then is done.
+//! It passes its arguments and its three streams to [`execute`], whose contract states what is done.
 #![tactic(auto)]
 
 use osbytes_commands::fault::Fault;

@@ -1,6 +1,6 @@
 //! The program `paths`: lists of paths, taken apart path by path.
 //!
-//! It hands its words and its ends to [`execute`], whose contract says what then is done.
+//! It passes its arguments and its three streams to [`execute`], whose contract states what is done.
 #![tactic(auto)]
 
 use paths_commands::fault::Fault;

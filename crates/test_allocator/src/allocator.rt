@@ -1,4 +1,4 @@
-//! The allocator that refuses.
+//! The allocator whose requests fail as planned.
 ghost use Rattle.std.specs.Prelude.{◌≡◌};
 ghost use Rattle.test_allocator.specs.Refusing.{allocator_of};
 
@@ -6,11 +6,10 @@ use crate::Plan;
 use crate::requests::Requests;
 use std::alloc::{AllocError, Allocator};
 
-/// Wraps another allocator. It refuses the requests of a [`Plan`] with `AllocError`, and passes on
-/// every other request. It also counts the requests.
+/// Wraps another allocator. The requests of a [`Plan`] fail with `AllocError`, and every other
+/// request is passed on. It also counts the requests.
 ///
-/// A collection takes it as `&heap`, and the test keeps `heap` to query whether a request was
-/// refused:
+/// A collection takes it as `&heap`, and the test keeps `heap` to query whether a request failed:
 ///
 /// ```text
 /// let heap = Refusing::new(rt.alloc(), Plan::Never);
@@ -23,8 +22,8 @@ use std::alloc::{AllocError, Allocator};
 ///
 /// One request is a call of `allocate`, `grow` or `shrink`. The last two keep their bodies from the
 /// trait, which call `allocate` once, for a new block of the whole new size. So a block never grows
-/// in place, and where the new block is refused the old one stays as it is. Giving a block back is
-/// no request. std returns `AllocError` at a size of 2^63 bytes or more without a request.
+/// in place, and if the new block can't be allocated the old one is unchanged. Giving a block back
+/// is no request. std returns `AllocError` at a size of 2^63 bytes or more without a request.
 #[derive(Drop)]
 pub struct Refusing<A: Allocator> {
     alloc: A,
@@ -42,17 +41,17 @@ impl<A: Allocator> Refusing<A> {
         }
     }
 
-    /// Follows this plan from now on, and counts anew: the next request has number 1.
+    /// Follows this plan from now on, and counts from the start: the next request has number 1.
     pub fn restart(&self, plan: Plan) {
         self.requests.restart(plan);
     }
 
-    /// How many requests were made under this plan, refused or not.
+    /// Returns the number of requests that were made under this plan, whether they failed or not.
     pub fn asked(&self) -> u64 {
         self.requests.asked()
     }
 
-    /// Whether a request was refused under this plan.
+    /// Returns whether a request failed under this plan.
     pub fn refused(&self) -> bool {
         self.requests.refused()
     }

@@ -1,20 +1,20 @@
-//! Which requests are refused.
+//! Which requests fail.
 ghost use Rattle.std.specs.Prelude.{◌↔◌, IsTrue};
 ghost use Rattle.test_allocator.specs.Plan.{IsRefused};
 
-/// Which requests are refused. The first request has number 1.
+/// Which requests fail. The first request has number 1.
 #[derive(Clone, Copy, Debug, PartialEq, Eq)]
 pub enum Plan {
-    /// None is.
+    /// None.
     Never,
-    /// Each one is.
+    /// Each one.
     Always,
-    /// The one with this number is, and no other. `Nth(0)` refuses none.
+    /// The one with this number, and no other. With `Nth(0)` none fails.
     Nth(u64),
 }
 
 impl Plan {
-    /// Whether the request with this number is refused: `Plan::Nth(2).refuses(2)`.
+    /// Returns whether the request with this number fails: `Plan::Nth(2).refuses(2)`.
     #[tactic(auto, unfolding(crate::specs::Plan::IsRefused))]
     pub fn refuses(self, number: u64) -> bool
         ensures { IsTrue result ↔ IsRefused self number }

@@ -2,7 +2,7 @@
 use crate::Plan;
 use std::cell::Cell;
 
-/// The requests since a plan was set. No contract can say what a cell holds.
+/// The requests since a plan was set. No contract can state what a cell holds.
 #[derive(Drop)]
 pub(crate) struct Requests {
     plan: Cell<Plan>,
@@ -33,7 +33,7 @@ impl Requests {
         self.refused.get()
     }
 
-    /// Counts one more request, and returns whether the plan refuses it.
+    /// Counts one more request, and returns whether it fails under the plan.
     pub(crate) fn refuses_next(&self) -> bool {
         let number = self.asked.get().saturating_add(1);
         let refuses = self.plan.get().refuses(number);

@@ -1,13 +1,13 @@
-//! Each request of a call, refused in turn.
+//! Each request of a call, failing in turn.
 ghost use Rattle.std.specs.Prelude.{◌+◌, IfOk, IfErr};
 ghost use Rattle.test_allocator.specs.Turns.{each_request, RanUnder, EndedIn};
 
 use crate::{Plan, Refusing};
 use std::alloc::{AllocError, Allocator};
 
-/// Calls `test` with the plan `Nth(1)`, then `Nth(2)`, and so on, until a run in which nothing was
-/// refused. Each run has an allocator of its own that refuses nothing yet. The result is the number
-/// of runs with a refusal, which is the number of requests in the tested call.
+/// Calls `test` with the plan `Nth(1)`, then `Nth(2)`, and so on, until a run in which no request
+/// failed. Each run has an allocator of its own with the plan `Never`. The result is the number of
+/// runs in which one failed, which is the number of requests in the tested call.
 ///
 /// `test` makes what it needs, calls [`Refusing::restart`] with the plan, and makes the tested
 /// call. Then it calls [`Refusing::refused`] to choose the expected result:
@@ -29,12 +29,12 @@ use std::alloc::{AllocError, Allocator};
 /// assert_eq!(rt; requests, 1);
 /// ```
 ///
-/// Compare the count: at 0 no request was refused, as where `test` leaves out `restart`.
+/// Compare the count: at 0 no request failed, as if `test` leaves out `restart`.
 ///
 /// # Errors
 ///
 /// The first `Err` of `test` ends the runs and is returned. Otherwise `Err` is returned only after
-/// 2^64 - 1 runs, each with a refusal.
+/// 2^64 - 1 runs, each with a failed request.
 pub fn for_each_refusal<A, F>(alloc: A, mut test: F) -> Result<u64, AllocError>
 where
     A: Allocator + Copy,

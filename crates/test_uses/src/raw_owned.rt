@@ -75,7 +75,7 @@ pub fn through_text<E: Platform, A: Allocator>(string: RawOsString<E, A>) -> Raw
 }
 
 /// The end of a string from an index on, taken off it, if it may be cut there: joined the two are
-/// what it was. Where memory is refused the string is as it was.
+/// what it was. If an allocation fails the string is unchanged.
 pub fn taken_off<E: Platform, A: Allocator + Clone>(
     string: &mut RawOsString<E, A>,
     at: usize,

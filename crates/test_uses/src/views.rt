@@ -1,4 +1,4 @@
-//! Views of borrowed bytes: a string's are taken again, others are refused with their fault.
+//! Views of borrowed bytes: a string's are taken again, others are rejected with their fault.
 ghost use Rattle.std.specs.Prelude.{◌≡◌, Err, IsOk, IfOk};
 ghost use Rattle.platform_str.specs.Strings.{bytes};
 ghost use Rattle.os_str_bytes.specs.Raw.{raw_bytes};
