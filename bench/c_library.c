@@ -1,7 +1,7 @@
 /* Times each call of the C library beside the Rattle call that does the same work: an export of
  * crates/bench_exports, the two by turns. For each it prints by how many nanoseconds the call of C
  * takes longer, on strings of 10 to 80 bytes, or how many times as long, on strings of 1 KiB and
- * 1 MiB. README.md says how. */
+ * 1 MiB. README.md describes how. */
 #include <osbytes.h>
 
 #include <stdio.h>
@@ -92,7 +92,7 @@ struct input {
 };
 static struct input inputs[KIND_COUNT][MOST_LENS];
 
-/* The pattern that a search is asked: a slash, or a half of the string. */
+/* The pattern of a search: a slash, or a half of the string. */
 static bool is_half;
 static const char *prefix_of(const struct input *it) { return is_half ? it->string : "/"; }
 static size_t prefix_len(const struct input *it) { return is_half ? it->prefix : 1; }
@@ -120,7 +120,7 @@ static size_t or_fault_of(const struct input *it, size_t answer) {
     return answer == SIZE_MAX ? port_wtf8_fault(STRING) : answer;
 }
 
-/* Checks answer the index of the first fault. */
+/* Checks return the index of the first fault. */
 TIMED(c_check_windows, osb_check(OSB_WINDOWS, STRING, &fault) == OSB_OK ? SIZE_MAX : fault.index)
 TIMED(r_check_windows, port_check(STRING) == 0 ? SIZE_MAX : port_wtf8_fault(STRING))
 TIMED(c_check_wasm, osb_check(OSB_WASM, STRING, &fault) == OSB_OK ? SIZE_MAX : fault.index)

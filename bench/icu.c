@@ -1,5 +1,5 @@
 /* Times the conversions of the C library beside those of ICU, by turns: 200 different texts of 1 KiB, and
- * one of 1 MiB, of letters at random. README.md says how. */
+ * one of 1 MiB, of letters at random. README.md describes how. */
 #include <osbytes.h>
 
 #include <unicode/ustring.h>
@@ -58,7 +58,7 @@ static void make(struct text *it, size_t kind, size_t len) {
     }
 }
 
-/* The four calls; each answers how much it wrote. */
+/* The four calls; each returns how much it wrote. */
 static size_t osb_wide(const struct text *it) {
     size_t count = 0;
     osb_status status = osb_to_wide(it->bytes, it->len, it->wide, it->len, &count, NULL);

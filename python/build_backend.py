@@ -146,7 +146,7 @@ def library_of(processor: str) -> Path:
 
 
 def build_wheel(wheel_directory: str, config_settings: Any = None, metadata_directory: Any = None) -> str:
-    """Makes the wheel of this machine, as pip wants it."""
+    """Makes the wheel of this machine, as pip requires it."""
     processor = platform.machine()
     tag = f"py3-none-linux_{processor}"
     return make_wheel(Path(wheel_directory), library_of(processor), tag, compiler_for(processor)).name

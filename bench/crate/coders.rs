@@ -1,7 +1,7 @@
 //! Opens the crate's private coders to the benchmark, each as the crate's own conversions use it.
 use super::DecodeWide;
 
-/// Writes the units of the bytes after those of `out`, and answers whether there is no fault.
+/// Writes the units of the bytes after those of `out`, and returns whether there is no fault.
 #[inline(never)]
 pub fn encode_wide_into(bytes: &[u8], out: &mut Vec<u16>) -> bool {
     let mut encoder = super::encode_wide(bytes);

@@ -5,7 +5,7 @@ use crate::{ours, theirs};
 use std::fmt::{Arguments, Write};
 use std::hint::black_box;
 
-/// A call, and how long what it answers is.
+/// A call, and the length of its result.
 type Call = (&'static str, fn(&[u8]) -> usize);
 
 /// A call that writes into a buffer, and how long what it writes is.

@@ -14,12 +14,12 @@ const COUNTS: [usize; 4] = [1, 10, 100, 1000];
 /// Makes so many patterns.
 type Patterns = fn(usize) -> Vec<String>;
 
-/// With how often all paths are asked in a run of 1,000 of them, and of fewer by their number, so that it
+/// With how often all paths are matched in a run of 1,000 of them, and of fewer by their number, so that it
 /// weighs little that ours compiles them in each run.
 const KINDS: [(&str, Patterns, usize); 3] =
     [("`**/*.ext`", extensions, 100), ("literal paths", literals, 100), ("a mix", mix, 1)];
 
-/// The sets of globset that are asked, of each kind and count. Each is made once, since it takes globset some
+/// The sets of globset that are timed, of each kind and count. Each is made once, since it takes globset some
 /// ten seconds to make one of 1,000 of a mix.
 static ASKED: [[OnceLock<GlobSet>; COUNTS.len()]; KINDS.len()] =
     [const { [const { OnceLock::new() }; COUNTS.len()] }; KINDS.len()];
@@ -94,7 +94,7 @@ fn han(index: u32) -> char {
     char::from_u32(0x4E00 + index).expect("a letter of CJK")
 }
 
-/// A pattern over a path, which is there as often as `TOTAL` asks.
+/// A pattern over a path, which is repeated as often as `TOTAL` states.
 fn one(bench: &mut Bench, input: &str, pattern: &str, path: &str) {
     if !bench.wants("is_match", input) {
         return;

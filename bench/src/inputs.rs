@@ -65,7 +65,7 @@ pub struct Long {
 }
 
 impl Long {
-    /// What asks a `str`, where the bytes are UTF-8.
+    /// The input as a `str`, if the bytes are UTF-8.
     pub fn if_text<'a>(&self, run: &'a mut dyn FnMut() -> u64) -> Contestant<'a> {
         str::from_utf8(&self.bytes).is_ok().then_some(run)
     }
@@ -320,7 +320,7 @@ impl Short {
         Self { name, ..self }
     }
 
-    /// What asks each string as a `str`, where all of them are UTF-8.
+    /// Each string as a `str`, if all of them are UTF-8.
     pub fn if_texts<'a>(&self, run: &'a mut dyn FnMut() -> u64) -> Contestant<'a> {
         self.are_texts().then_some(run)
     }

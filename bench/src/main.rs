@@ -1,5 +1,5 @@
 //! Times the calls of this repository beside the Rust crate and the standard library, and prints a
-//! table for each family of calls. README.md says what is timed.
+//! table for each family of calls. README.md describes what is timed.
 #![feature(normalize_lexically)]
 mod arguments;
 mod chunks;

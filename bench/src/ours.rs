@@ -1,7 +1,7 @@
-//! The exports of crates/bench_exports, which says what each answers.
+//! The exports of crates/bench_exports, which states what each returns.
 //!
 //! A slice crosses as a pointer and a length. The functions here are safe as long as the library
-//! is what its contracts say and the caller keeps what they ask.
+//! satisfies its contracts and the caller their preconditions.
 
 mod exports {
     unsafe extern "C" {

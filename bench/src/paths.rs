@@ -6,7 +6,7 @@ use crate::{ours, theirs};
 use std::hint::black_box;
 use std::path::Path;
 
-/// A call on a path, with a number that the answer has.
+/// A call on a path, with a number of its result.
 type Call = fn(&[u8]) -> u64;
 
 /// A call on a path and another one.

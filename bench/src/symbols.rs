@@ -58,7 +58,7 @@ fn line(bench: &mut Bench, string: &Long) {
     }
 }
 
-/// A call with the number that it answers.
+/// A call with the number that it returns.
 type Call = fn(&[u8]) -> u64;
 
 const CHUNKS: Call = through_c!(std_chunks, |bytes| sum_of_chunks(bytes));

@@ -1,4 +1,4 @@
-//! Least times of those who answer the same, and tables of them.
+//! Least times of contestants with the same result, and tables of them.
 use crate::clock;
 use std::collections::HashMap;
 use std::env;
@@ -13,7 +13,7 @@ const ROUNDS: usize = 10;
 /// A line of which a run takes longer has its turns in the first round and in the last one alone.
 const LONG: Duration = Duration::from_millis(500);
 
-/// Who answers a line: this repository, the crate, the standard library, and maybe others.
+/// The contestants of a line: this repository, the crate, the standard library, and maybe others.
 pub type Contestant<'a> = Option<&'a mut dyn FnMut() -> u64>;
 
 pub struct Bench {
@@ -53,7 +53,7 @@ impl Bench {
         self.table_beside(title, unit, &[]);
     }
 
-    /// Begins a table in which others answer too, next to the crate and the standard library.
+    /// Begins a table that has others too, next to the crate and the standard library.
     pub fn table_beside(&mut self, title: &str, unit: &str, others: &[&str]) {
         self.title = title.to_owned();
         let heads = others.iter().map(|other| format!(" {other} | Ours/{other} |")).collect::<String>();
@@ -65,13 +65,13 @@ impl Bench {
         ));
     }
 
-    /// Whether a filter asks for lines of the table that was begun.
+    /// Whether a filter selects lines of the table that was begun.
     pub fn wants(&self, call: &str, input: &str) -> bool {
         let name = self.name(call, input);
         self.filters.is_empty() || self.filters.iter().any(|filter| name.contains(filter))
     }
 
-    /// Times a call on an input, which has `count` units of the table. All have to answer the same.
+    /// Times a call on an input, which has `count` units of the table. All must have the same result.
     pub fn line<const N: usize>(&mut self, call: &str, input: &str, count: usize, mut contestants: [Contestant; N]) {
         if !self.wants(call, input) {
             return;
@@ -89,7 +89,7 @@ impl Bench {
                 let start = clock::now();
                 let answered = black_box(run());
                 let end = clock::now();
-                // the clock of some virtual machines stands still for a moment
+                // the clock of some virtual machines stops for a moment
                 if end > start {
                     *least = Some(least.map_or(end - start, |least| least.min(end - start)));
                 }
@@ -131,7 +131,7 @@ impl Bench {
 }
 
 /// Calls a call on so many bytes often enough that the clock, which takes some hundred nanoseconds,
-/// weighs little, and sums up what it answers.
+/// weighs little, and sums up its results.
 pub fn repeated(len: usize, mut call: impl FnMut() -> u64) -> u64 {
     (0..times(len)).fold(0, |sum: u64, _| sum.wrapping_add(call()))
 }

@@ -36,7 +36,7 @@ pub fn is_utf8_avx2(bytes: &[u8]) -> bool {
     unsafe { simdutf8::basic::imp::x86::avx2::validate_utf8(bytes).is_ok() }
 }
 
-/// Who answers, where the processor has the vectors of AVX2.
+/// The contestants if the processor has the vectors of AVX2.
 pub fn if_avx2(contestant: Contestant) -> Contestant {
     contestant.filter(|_| is_x86_feature_detected!("avx2"))
 }

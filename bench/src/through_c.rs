@@ -39,7 +39,7 @@ pub(crate) use through_c;
 ///
 /// # Safety
 ///
-/// The pointer is null, or points to as many bytes, which nobody writes while the slice is there.
+/// The pointer is null, or points to as many bytes, which aren't written while the slice exists.
 pub unsafe fn slice_of<'a>(at: *const u8, len: usize) -> &'a [u8] {
     if at.is_null() { &[] } else { unsafe { slice::from_raw_parts(at, len) } }
 }

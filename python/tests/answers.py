@@ -12,7 +12,7 @@ from typing import Iterable, Iterator
 import osbytes
 from osbytes import UNIX, WASM, WINDOWS, BadEscapeError, Checker, FaultError, Kind, LineError, LineKind, NoStringError, NulError
 
-# What was answered, and what a row wants.
+# The result of a call, and that of a row.
 Answers = Iterator[tuple[object, str]]
 
 PLATFORMS = {"unix": UNIX, "windows": WINDOWS, "wasm": WASM}
@@ -144,7 +144,7 @@ BUILT_OF_TWO = {
     "with_extension": osbytes.path_with_extension,
 }
 BUILT_OF_ONE = {"normalize_lexically": osbytes.path_normalize, "clean": osbytes.path_clean}
-# In place: the answer begins with whether it was done.
+# In place: the result begins with whether it was done.
 IN_PLACE = {"set_extension": osbytes.path_with_extension, "add_extension": osbytes.path_with_added_extension}
 
 
@@ -154,7 +154,7 @@ def is_lost(path: str, extension: str, wanted: str) -> bool:
 
 
 def paths(platform: str, call: str, path: str, *more: str) -> Answers:
-    """A row of another call isn't asked."""
+    """A row of another call isn't compared."""
     given, whose = raw(path), PLATFORMS[platform]
     if call == "components":
         yield components(given, whose), more[0]
@@ -196,7 +196,7 @@ LINE_FAULTS = {
 
 
 def lines(text: str, refused: str, kept: str) -> Answers:
-    """A line with a NUL, which isn't read here, isn't asked."""
+    """A line with a NUL, which isn't read here, isn't compared."""
     for specials, wanted in ((False, refused), (True, kept)):
         try:
             yield "ok " + (joined(osbytes.shell_words(raw(text), specials=specials)) or "none"), wanted

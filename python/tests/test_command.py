@@ -74,7 +74,7 @@ class Names(unittest.TestCase):
         return ran.returncode, ran.stderr.decode()
 
     def test_input_and_output_errors(self) -> None:
-        """Each ends with status 4, and with one line or, where nobody reads the output, with none."""
+        """Each ends with status 4, and with one line or, if the output has no reader, with none."""
         for command in (
             'printf "a\\0" | "$@" > /dev/full',
             '"$@" a > /dev/full',

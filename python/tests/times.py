@@ -1,7 +1,7 @@
 """Prints how long calls of the package take beside Python's own, as a table: python times.py
 
-A time is processor time in nanoseconds, the least of many runs, for short names if nothing else is said. A ratio above 1
-means that Python's own call is faster.
+A time is processor time in nanoseconds, the least of many runs, for short names unless the row states otherwise. A
+ratio above 1 means that Python's own call is faster.
 """
 
 from __future__ import annotations

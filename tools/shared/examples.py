@@ -114,7 +114,7 @@ def missing() -> list[str]:
 
 
 def outcome_of(examples: list[Example], run: Run) -> tuple[str, list[str]]:
-    """Returns a line of how many examples passed in a run, and what is wrong with them."""
+    """Returns a line with the number of examples that passed in a run, and what is wrong with them."""
     passed = {name.split("::")[-2] for name, result in run.results.items() if name.endswith("::example") and result == "ok"}
     failed = [f"{e.place}: the example of {e.item} did not pass" for e in examples if e.module not in passed]
     faults = [*failed, *missing()] if examples else ["there is no example"]

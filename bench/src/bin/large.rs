@@ -13,7 +13,7 @@ const PIECE: &[u8] = b"/usr/share/d\xC3\xA9\xF0\x9F\x98\x80\xED\xA0\x80.txt";
 
 const LEN: usize = 1 << 30;
 
-/// A call, and what it answers of so many whole pieces and a prefix of another.
+/// A call, and its result for a number of whole pieces and a prefix of another.
 type Call = (&'static str, fn(&[u8]) -> usize, fn(usize) -> usize);
 
 const CALLS: [Call; 4] = [

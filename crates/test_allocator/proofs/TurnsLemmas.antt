@@ -12,14 +12,14 @@ module _ {Test Heap : Type 0} (step : Test → Heap → Plan → Result (Unit {0
   unfolding each_request RanUnder
   no_turn = refl
 
-  -- one more turn, which answered `Ok`
+  -- one more turn, which returned `Ok`
   pub one_more_turn : (turns : ℕ) {before last : Test} {heap : Heap} → RanUnder step first (each_request turns) before → step before heap (Nth (turns + 1)) (Ok tt) last → RanUnder step first (each_request (turns + 1)) last
   unfolding each_request RanUnder
   one_more_turn turns {before} {last} {heap} ran stepped =
       let longer = sym (map-range_with_len_more Nth 1 turns (turns + 1) (omega arith)) in
       subst (λ plans. RanUnder step first plans last) longer (FoldsTo-push _ first (each_request turns) before (Nth (turns + 1)) last ran (heap, stepped))
 
-  -- a run after `turns` others answered `Err`
+  -- a run after `turns` others returned `Err`
   pub ended_by_a_run : (turns : ℕ) {before last : Test} {heap : Heap} {error : AllocError} → RanUnder step first (each_request turns) before → step before heap (Nth (turns + 1)) (Err error) last → EndedIn step first error
   unfolding EndedIn
   ended_by_a_run turns ran stepped = inl (turns, _, _, _, ran, stepped)

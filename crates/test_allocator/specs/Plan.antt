@@ -1,9 +1,9 @@
--- Which requests a plan refuses.
+-- Which requests fail under a plan.
 use Rattle.std.specs.Prelude.{◌≡◌, ℕ, ⊤}
 use Rattle.test_allocator.specs.declared.plan.Plan.{Plan}
 use Rattle.test_allocator.specs.declared.plan.Plan.TheVariants.{Never, Always, Nth}
 
--- the request of this number is refused under the plan; the first request has number 1
+-- the request of this number fails under the plan; the first request has number 1
 unfoldable pub IsRefused : Plan → ℕ → Type 0
 IsRefused Never number = ⊥
 IsRefused Always number = ⊤

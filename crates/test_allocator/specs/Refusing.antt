@@ -1,4 +1,4 @@
--- The allocator inside one that refuses.
+-- The allocator inside one whose requests fail as planned.
 use Rattle.test_allocator.specs.declared.allocator.Refusing.{Refusing}
 
 -- the allocator to which requests are passed on

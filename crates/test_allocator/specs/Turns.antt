@@ -5,7 +5,7 @@ use Rattle.std.specs.declared.alloc.AllocError.{AllocError}
 use Rattle.test_allocator.specs.declared.plan.Plan.{Plan}
 use Rattle.test_allocator.specs.declared.plan.Plan.TheVariants.{Nth}
 
--- the plans that refuse the first request, the second, and so on, as many as `turns`
+-- the plans under which the first request fails, the second, and so on, as many as `turns`
 unfoldable pub each_request : ℕ → List Plan
 each_request turns = map Nth (range_with_len 1 turns)
 

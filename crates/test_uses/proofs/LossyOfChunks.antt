@@ -52,7 +52,7 @@ record Part (well_formed : List ℕ → Type 0) (lossy : List ℕ → List ℕ) 
   lossy_is : lossy (part ++ tail) ≡ repeat count replacement ++ lossy tail
   formed : well_formed tail
 
--- by what the laws say of forms
+-- by what the laws state about forms
 module _ (forms : (c : ℕ) → encode c ≡ encode_utf8 c) where
   -- a text that isn't empty begins with a whole character
   pub begins : (t rest : List ℕ) → IsUtf8 t → 0 < length t → StartsWhole (t ++ rest)

@@ -1,4 +1,4 @@
--- What follows of an `Option` or a `Result` from what each variant says.
+-- What follows about an `Option` or a `Result` from what each variant states.
 use Rattle.std.specs.Result.{is_ok}
 use Rattle.std.proofs.Common.{◌≡◌, ◌∙◌, ap, refl, true, false, IsTrue, Option, None, Some, IfSome, MatchOption, Result, Ok, Err, IfOk, IfErr, IsSomeAnd, IsOkAnd, IsErrAnd, MatchResult}
 
@@ -36,7 +36,7 @@ pub err_is : {A B : Type 0} {P : A → Type 0} {Q S : B → Type 0} {error : B} 
 err_is (Ok x) ok err also none one = absurd (none x ok)
 err_is (Err e) ok err also none one = ap Err (one e err also)
 
--- whether it is `Ok` tells whether W is so, which each value says, and no error of two kinds
+-- it is `Ok` exactly if W holds, which each value states, and no error of two kinds
 pub ok_tells : {A B : Type 0} {P : A → Type 0} {Q S : B → Type 0} (W : Type 0) → (r : Result A B) → IfOk r P → IfErr r Q → IfErr r S → ((x : A) → P x → W) → ((e : B) → Q e → S e → W → ⊥) → (IsTrue (is_ok r) → W) × (W → IsTrue (is_ok r))
 ok_tells W (Ok x) ok err also f g = (λ _. f x ok, λ _. refl)
 ok_tells W (Err e) ok err also f g = (λ t. let no : ¬ (false ≡ true) = λ e. cc in absurd (no t), λ w. absurd (g e err also w))
@@ -51,7 +51,7 @@ some_ok_and N P R Q S None none some bad f = absurd (some none)
 some_ok_and N P R Q S (Some (Ok x)) is some bad f = f x is
 some_ok_and N P R Q S (Some (Err e)) is some bad f = absurd (bad e is.0 is.1)
 
--- where a value would say what isn't so
+-- a value would state what doesn't hold
 pub none_is : {A : Type 0} (P : Type 0) → (o : Option A) → IfSome o (λ _. P) → ¬ P → o ≡ None
 none_is P None some none = refl
 none_is P (Some x) some none = absurd (none some)

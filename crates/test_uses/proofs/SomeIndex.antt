@@ -1,4 +1,4 @@
--- A test and a search that both say whether something occurs.
+-- A test and a search that both return whether something occurs.
 use Rattle.std.proofs.Common.{◌↔◌, Bool, IsTrue, Option, None, Some, MatchOption, refl}
 use Rattle.std.proofs.lemmas.Bool.{false≢true}
 use Rattle.std.specs.Option.{IsSome}

@@ -3,7 +3,7 @@ use Rattle.wtf8_core.specs.Checker.{IsFaulty, OnlyEnds, HasFirstFault}
 use Rattle.wtf8_core.specs.declared.fault.EncodingError.{EncodingError}
 use Rattle.test_uses.proofs.laws.fault_again.Goals as goal
 
--- where a fault stays and is the only one, the second answer is the first
+-- if a fault stays and is the only one, the second result is the first
 again : {T : Type 0} (b c : List ℕ) (r s : Result T EncodingError) → ((f : EncodingError) → IsFaulty b f → IsFaulty c f)
     → ((f g : EncodingError) → HasFirstFault c f → HasFirstFault c g → f ≡ g)
     → MatchResult r (λ _. OnlyEnds b) (λ f. IsFaulty b f) → MatchResult s (λ _. OnlyEnds c) (λ f. IsFaulty c f) → IfErr r (λ f. s ≡ Err f)

@@ -1,4 +1,4 @@
--- A request that is refused answers `Err` and owns nothing, and any other answers what the inner allocator answers.
+-- A request that fails by the plan returns `Err` and owns nothing, and any other returns what the inner allocator returns.
 use Rattle.test_allocator.proofs.Steps.{◌≡◌, ℕ, List, [], ◌∷◌, refl, w64, proved, leaves, Al, token, Fn, Val, vint, vptr, inst_fn, ftrue, flft, size, align, capped, ◌⊑◌, ⊑_trans, fact, tables, ‵, raw, ◌⊛◌, later, prop, Sq, ◌$◌, ◌∵◌, !, qed, by, move, keep, use1, split, join, fsplit, fjoin, feq_i, await, enter, addr, stop, fld, no_more, and_then, returns, alloc_all, pass_all, free_all, look_at, get, through, sets, lands_as, usize, yes, uint_vals, uint_Tells, owns, block_ptr, shr_vals, Slot, plain, types_at, nothing, heard, calls_at, framed, Stays, stay_dropped, walk_of, Goes-dropped}
 use Rattle.std.proofs.Common.{true, false, Bool, Ok, Err, ap, lit<}
 use Rattle.std.proofs.alloc.Calls.{Answer, answer_val, Answer-typed, Answer-Ok, Answer-err, Takes, at_takes, Answered, Takes-goes, Takes-gives, answers}
