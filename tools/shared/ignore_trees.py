@@ -103,7 +103,7 @@ def answer_file(seed: str, room: Path) -> Path:
         while len(rows) < PATHS:
             rows += rows_of(Path(name), len(rows))
     decided = sum(not row.endswith("-") for row in rows)
-    print(f"git: {len(rows)} paths asked, {decided} of them decided by a line of an ignore file")
+    print(f"git: {len(rows)} paths, {decided} of them decided by a line of an ignore file")
     made = room / "ignore_trees.tsv"
     made.write_text("\n".join([f"# {made.name} (git); rows: {len(rows)}; seed: {seed}", *rows, ""]), encoding="utf-8")
     return made
@@ -112,6 +112,6 @@ def answer_file(seed: str, room: Path) -> Path:
 def has_git() -> bool:
     """Returns whether git is installed, and prints a line if it isn't."""
     if not shutil.which("git"):
-        leave_out("ignore files", "git", "what it says of trees")
+        leave_out("ignore files", "git", "what it prints for trees")
         return False
     return True
