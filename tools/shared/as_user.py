@@ -16,7 +16,7 @@ class Failure(Exception):
 
 
 def run(*words: object, more: dict[str, str] = {}, **how: object) -> str:
-    """Runs a command in an empty environment, or one with these variables, which must succeed, and returns what it printed."""
+    """Runs a command, which must succeed, in an environment with these variables alone, and returns its output."""
     ran = subprocess.run(
         [str(word) for word in words], env={**CLEAN, **more}, stdin=subprocess.DEVNULL, stdout=subprocess.PIPE, stderr=subprocess.STDOUT,
         text=True, errors="replace", **how,

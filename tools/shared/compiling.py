@@ -86,7 +86,7 @@ def built(name: str) -> Path:
 
 
 def build_of(library: Path) -> str:
-    """Returns the line of a library's format that names the prover's build, which alone can read it; of none, nothing."""
+    """Returns the line of a library's format that names the prover's build, which alone can read it, if there is one."""
     form = library / "format"
     return form.read_text(encoding="utf-8").splitlines()[1] if form.exists() else ""
 
@@ -137,7 +137,7 @@ def stamp_now(name: str) -> str:
 
 
 def note_built(name: str, stamp: str) -> None:
-    """Notes that a library was built from sources with a stamp, if they still have it, and the sum of its own sources."""
+    """Notes that a library was built from sources with a stamp, if they still have it, and its own sum."""
     if stamp == stamp_now(name):
         built(name).with_name("stamp").write_text(stamp, encoding="utf-8")
         built(name).with_name("own").write_text(own_sum(name), encoding="utf-8")

@@ -1,7 +1,8 @@
 """The links in doc comments of the crates, [`path`] or [text](path), to items.
 
-A path begins with `crate`, `Self`, a crate, or a name that the file of the comment defines or imports, or a module below
-it. Each further part is an item of the module, or a member of the type, before it. Items of the kit aren't examined.
+A path begins with `crate`, `Self`, a crate, or a name that the file of the comment defines or imports, or a module
+below it. Each further part is an item of the module, or a member of the type, before it. Items of the kit aren't
+examined.
 """
 
 from __future__ import annotations

@@ -2,8 +2,8 @@
 
 Each tree has directories and files three levels deep, a .gitignore at the top, and others below it. Their lines have
 everything that git's document names: blanks and tabs at a line's end, `\\ `, `#`, `!`, slashes in all positions, `*`,
-`**`, `?`, classes, backslashes, carriage returns, NULs, a byte order mark, bytes that aren't text. Many lines are made of
-names in the tree, so that they match. `git check-ignore -v -n --no-index` runs on each path of a tree, with no other
+`**`, `?`, classes, backslashes, carriage returns, NULs, a byte order mark, bytes that aren't text. Many lines are made
+of names in the tree, so that they match. `git check-ignore -v -n --no-index` runs on each path of a tree, with no other
 ignore file: 5,000 paths.
 """
 

@@ -1,10 +1,10 @@
 """A copy of the repository with the crates of tests/, which run there without a proof.
 
-The gate proves each crate that crates.txt lists, its tests too, and accepts no other .rt file. So the files of tests/NAME
-end in .test. In the copy they are the sources of a crate NAME, which uses the libraries that tests/crates-laid-in.txt
-lists. It is a program if it has a main.test, else a library of tests. The tests of several such crates can be joined into
-one, in which each is a module; that takes little more time to compile than one of them. Programs are joined likewise
-(test_programs): the joined program runs as the one by whose name it is started.
+The gate proves each crate that crates.txt lists, its tests too, and accepts no other .rt file. So the files of
+tests/NAME end in .test. In the copy they are the sources of a crate NAME, which uses the libraries that
+tests/crates-laid-in.txt lists. It is a program if it has a main.test, else a library of tests. The tests of several
+such crates can be joined into one, in which each is a module; that takes little more time to compile than one of them.
+Programs are joined likewise (test_programs): the joined program runs as the one by whose name it is started.
 """
 
 from __future__ import annotations

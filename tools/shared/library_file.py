@@ -1,4 +1,4 @@
-"""The released file of the Rattle libraries, with the documents and with tools/release/use, which copies them from there."""
+"""The released file of the Rattle libraries, with documents and with tools/release/use, which copies them."""
 
 from __future__ import annotations
 

@@ -3,8 +3,8 @@
 The first two are made from a folder in which `tools/check/c-library` has built libosbytes.a, the shared object and its
 name. The archive has the header, man pages made from the header's comments, the pkg-config file, c/GUIDE.md and the
 examples, and at its top a README, the changes and the licence. A link of a document to a file that isn't in the archive
-becomes plain text. The Python package is a wheel of the sources in python/osbytes with the shared object beside them. The
-archive of the programs has them, their man pages and completions, a README and the licence.
+becomes plain text. The Python package is a wheel of the sources in python/osbytes with the shared object beside them.
+The archive of the programs has them, their man pages and completions, a README and the licence.
 """
 
 from __future__ import annotations

@@ -145,7 +145,7 @@ class Walk:
         return [f"{kit()}/bin/rattle", *what, *over_libraries(name, lambda it: self.places[it]), *how]
 
     def prove(self, name: str) -> Outcome:
-        """Proves a crate and prints that. A library is used from where the crates above have it already, if they can."""
+        """Proves a crate and prints that. A library is used from where the crates above have it, if they can."""
         began, made = time.time(), ROOM / "new" / f"{name}.rlib"
         shutil.rmtree(made, ignore_errors=True)
         made.parent.mkdir(parents=True, exist_ok=True)
@@ -173,7 +173,7 @@ class Walk:
         return Outcome(name, True)
 
     def settle(self, name: str, made: Path) -> bool:
-        """Takes a library that was built now, or one with the same interface that those above have; returns whether it did."""
+        """Uses an existing library with the same interface, else the one built now; returns whether one existed."""
         kept = ROOM / "rlib" / f"{name}.rlib"
         interface = interface_of(made)
         for place in dict.fromkeys([self.noted.get(name, built(name)), built(name), kept]):
@@ -190,7 +190,7 @@ class Walk:
         return False
 
     def work(self, name: str) -> Outcome:
-        """Takes a crate, or proves it."""
+        """Uses a crate that was proved before, or proves it."""
         held = hold([name])
         try:
             return Outcome(name, False) if self.take(name) else self.prove(name)
