@@ -1,4 +1,4 @@
--- What each command writes for its input, and with which fault it refuses it.
+-- What each command writes for its input, and with which fault it rejects it.
 use Rattle.std.specs.Prelude.{◌≡◌, ◌≢◌, ◌⊎◌, ℕ, ◌<◌, List, length, map, Option, Result, Err}
 use Rattle.std.specs.Str.{IsUtf8}
 use Rattle.os_str_bytes.specs.Chunks.{Chunk, AreChunks}
@@ -69,7 +69,7 @@ module _ {E : Type 0} (p : Ghosts E) where
   HasBadQuoteOn (Quote os) input error = ⊥
   HasBadQuoteOn (Unquote os) input error = IsUtf8 input × (error ≢ quote.Memory) × IsQuoteFault p.well_formed p.units input error
 
-  -- what the command refuses the input with
+  -- what the command rejects the input with
   abbrev pub IsRefusalOn : Command → List ℕ → Fault → Type 0
   IsRefusalOn command input (Refused error) = HasFaultOn command input error
   IsRefusalOn command input (BadLine number) = HasBadLine command input number
@@ -91,7 +91,7 @@ module _ {E : Type 0} (p : Ghosts E) where
 abbrev pub IsOutput : Command → List ℕ → List ℕ → Type 0
 IsOutput command = IsOutputOn (strings (os_of command)) command
 
--- what the command refuses the input with, on its platform
+-- what the command rejects the input with, on its platform
 abbrev pub IsRefusal : Command → List ℕ → Fault → Type 0
 IsRefusal command = IsRefusalOn (strings (os_of command)) command
 

@@ -17,11 +17,11 @@ abbrev pub WritesBeginning : Command → Option (List ℕ) → Option (List ℕ)
 WritesBeginning command input old new =
     IfSome input (λ bytes. (output : List ℕ) × IsOutput command bytes output × AppendsBeginning old new output)
 
--- the command refuses the input with the fault
+-- the command rejects the input with the fault
 abbrev pub RefusesInput : Command → Option (List ℕ) → Fault → Type 0
 RefusesInput command input fault = IfSome input (λ bytes. IsRefusal command bytes fault)
 
--- if the command rejects the input with a fault, the result is that fault, unless a read failed or memory was refused
+-- if the command rejects the input with a fault, the result is that fault, unless a read or an allocation failed
 abbrev pub AnswersRefusal : {T : Type 0} → Command → Option (List ℕ) → Result T Fault → Type 0
 AnswersRefusal command input answer =
     IfSome input (λ bytes. (fault : Fault) → IsRefusal command bytes fault

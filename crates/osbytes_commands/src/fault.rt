@@ -26,7 +26,7 @@ pub enum Fault {
     BadQuote(QuoteError),
     /// The arguments name no command.
     Usage,
-    /// A request for memory was refused.
+    /// An allocation failed.
     Memory,
     /// A read of the input failed.
     Read,

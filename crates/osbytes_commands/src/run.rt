@@ -22,7 +22,7 @@ use std::io::{Read, Write};
 /// # Errors
 ///
 /// [`Fault::Read`] exactly where a read failed. [`Fault::Write`] exactly where a write or the flush
-/// did. [`Fault::Memory`] where memory was refused. [`Fault::Usage`] exactly where the command
+/// did. [`Fault::Memory`] where an allocation failed. [`Fault::Usage`] exactly where the command
 /// can't run ([`Command::is_unusable`]), with nothing read. Every other fault is that of the whole
 /// input. Before `Write` a beginning of the output is written. Before any other fault nothing is
 /// written.

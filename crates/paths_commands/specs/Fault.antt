@@ -11,7 +11,7 @@ use Rattle.paths_commands.specs.declared.fault.CommandFault.TheVariants.{Unreada
 use Rattle.program_frame.specs.Misuse.{misuse_text}
 use Rattle.program_frame.specs.declared.misuse.Misuse as misuse
 
--- what the program prints of the reason why a path is refused
+-- what the program prints of the reason why a path is rejected
 abbrev pub refusal_text : Refusal → List ℕ
 refusal_text (NoString error) = fault_text error
 refusal_text NoNormalForm = codes "no name before a .."
@@ -24,7 +24,7 @@ refusal_text (NoStringThere error) = codes "no path there: " ++ fault_text error
 abbrev pub words_text : CommandFault → List ℕ
 words_text Unreadable = codes "an argument isn't valid UTF-8"
 words_text (Misuse text) = inline_text text ++ codes "; paths --help lists the commands"
-words_text (PassedOver count) = codes "refused paths: " ++ decimal count
+words_text (PassedOver count) = codes "rejected paths: " ++ decimal count
 
 -- the status that the program ends with then
 abbrev pub words_status : CommandFault → ℕ

@@ -51,7 +51,7 @@ abbrev pub IsAfter : ℕ → Result ⊤ Fault → Result ⊤ Fault → Type 0
 IsAfter count (Ok done) answer = ((count ≡ 0) × IsOk answer) ⊎ ((0 < count) × (answer ≡ Err (Words (PassedOver count))))
 IsAfter count (Err fault) answer = answer ≡ Err fault
 
--- the run passes over the paths that are refused, and writes the results of the others, in order. No such path ends it
+-- the run passes over the paths that are rejected, and writes the results of the others, in order. No such path ends it
 pub record RunsPast (list : ListRules Refusal) (input left old new : Option (List ℕ)) (answer : Result ⊤ Fault) : Type 0 where
   pub count : ℕ
   pub ran : Result ⊤ Fault
@@ -63,7 +63,7 @@ pub record RunsPast (list : ListRules Refusal) (input left old new : Option (Lis
 abbrev pub WritesSomeText : Doing
 WritesSomeText input left old new answer = (left ≡ input) × ((text : List ℕ) × WritesText text (OfList (Run Write)) old new answer)
 
--- the task's result for a list of paths of the platform, where those that are refused may be passed over
+-- the task's result for a list of paths of the platform, where those that are rejected may be passed over
 abbrev pub RunsTask : Bool → Os → Task → Doing
 RunsTask false os task input left old new answer = Runs (rules_on os task) OfList input left old new answer
 RunsTask true os task input left old new answer = RunsPast (rules_on os task) input left old new answer
@@ -99,7 +99,7 @@ Rejects words input left old new answer =
     × (RejectsWords words input left old new answer
     ⊎ ((given : Line) × (AreGiven spelled has_value words given × RejectsLine given input left old new answer)))
 
--- the arguments request a command, with this result, or none; memory may be refused first
+-- the arguments request a command, with this result, or none; an allocation may fail first
 abbrev pub RunsTo : List (List ℕ) → Doing
 RunsTo words input left old new answer =
     EndsAtOnce (OfList (Run Memory)) input left old new answer

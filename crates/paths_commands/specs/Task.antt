@@ -121,7 +121,7 @@ IsUnconverted from to is_fault path (refusal.NoJoin error) = ⊥
 IsUnconverted from to is_fault path (refusal.NoComponent index) = IsConvertFault from to is_fault path (convert.Component index)
 IsUnconverted from to is_fault path (refusal.NoStringThere error) = IsConvertFault from to is_fault path (convert.Encoding error)
 
--- why a path isn't joined to the base, and that isn't that memory was refused
+-- why a path isn't joined to the base, other than that an allocation failed
 abbrev pub IsUnjoined : Style → List ℕ → List ℕ → Refusal → Type 0
 IsUnjoined style base path (refusal.NoString error) = ⊥
 IsUnjoined style base path refusal.NoNormalForm = ⊥

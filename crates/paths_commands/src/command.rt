@@ -22,7 +22,7 @@ pub type Line<'s, 'a> = &'s [Given<'a, PathsOption>];
 #[derive(Clone, Copy, PartialEq, Eq)]
 pub enum Command<'a> {
     /// Reads paths of the platform, each ended by NUL, and writes the result for each. The last
-    /// field is whether paths that are refused are passed over.
+    /// field is whether rejected paths are passed over.
     Ask(Task<'a>, Os, bool),
     /// `--help`: writes what the commands are.
     Help,
@@ -39,8 +39,8 @@ impl<'a> Command<'a> {
     ///
     /// # Errors
     ///
-    /// What is wrong: something is missing, a word is invalid, `--checked` isn't for the command, or
-    /// an operand is one too many.
+    /// What is wrong: something is missing, an argument is invalid, `--checked` isn't for the
+    /// command, or an operand is one too many.
     ///
     /// ```
     /// use paths_commands::command::Command;

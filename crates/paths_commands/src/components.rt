@@ -14,7 +14,7 @@ use std::alloc::{AllocError, Allocator};
 ///
 /// # Errors
 ///
-/// `AllocError` where memory was refused; then the output is as it was.
+/// `AllocError` if an allocation failed. The output is unchanged then.
 pub fn push_components<E: PathStyle, A: Allocator + Copy>(
     alloc: A,
     path: Path<'_, E>,

@@ -11,7 +11,7 @@ use program_frame::misuse::Misuse;
 use std::fmt;
 use std::fmt::{Display as _, InlineText};
 
-/// Why a path is refused.
+/// Why a path is rejected.
 #[derive(Clone, Copy, PartialEq, Eq)]
 pub enum Refusal {
     /// It isn't a string of the platform: the first fault of its bytes.
@@ -20,7 +20,7 @@ pub enum Refusal {
     NoNormalForm,
     /// No path leads to it from the base.
     NoRelativePath,
-    /// It isn't joined to the base, for this reason, which is never that memory was refused.
+    /// It isn't joined to the base, for this reason, which is never that an allocation failed.
     NoJoin(JoinError),
     /// The other platform's paths can't have the component at this index, the first such.
     NoComponent(usize),
@@ -38,7 +38,7 @@ pub enum CommandFault {
     Unreadable,
     /// They request nothing that the program does: what is wrong with them.
     Misuse(InlineText<ROOM>),
-    /// As many paths as this were refused and passed over.
+    /// This number of paths were rejected and passed over.
     PassedOver(u64),
 }
 
@@ -122,7 +122,7 @@ impl WordsRefusal for CommandFault {
                 f.write_str("; paths --help lists the commands")
             }
             CommandFault::PassedOver(count) => {
-                f.write_str("refused paths: ")?;
+                f.write_str("rejected paths: ")?;
                 write_number(*count as usize, f)
             }
         }

@@ -18,14 +18,14 @@ paths name       PLATFORM          writes the last component, where that is a na
 paths stem       PLATFORM          writes that name without its extension
 paths extension  PLATFORM          writes the extension of that name
 paths normalize  PLATFORM          writes the path without . and ..; a .. takes the name before it away, and a
-                                   path with a .. that has none is refused
+                                   path with a .. that has none is rejected
 paths clean      PLATFORM          as normalize, but such a .. stays, or goes at a root
 paths join       PLATFORM BASE     writes the path after BASE; one with a root or a prefix replaces BASE, and ..
                                    may leave it
-paths join --checked PLATFORM BASE writes the path below BASE, and refuses one that could leave it
-paths relative   PLATFORM BASE     writes the path as it is reached from BASE, and refuses one that no path
+paths join --checked PLATFORM BASE writes the path below BASE, and rejects one that could leave it
+paths relative   PLATFORM BASE     writes the path as it is reached from BASE, and rejects one that no path
                                    leads to
-paths convert    PLATFORM TO       writes the path of the platform TO with the same components, and refuses one
+paths convert    PLATFORM TO       writes the path of the platform TO with the same components, and rejects one
                                    with a component that TO can't have
 
 Each reads paths that are ended by NUL; the last may lack it. Each writes one result for a path, ended by NUL,
@@ -33,7 +33,7 @@ which is empty where the path has no such part. PLATFORM and TO are unix, window
 anywhere; -- ends them.
 
   --checked        join: for names from outside, as in an archive or a request
-  --keep-going     pass over paths that are refused: a line for each on standard error, and their number at the
+  --keep-going     pass over rejected paths: a line for each on standard error, and their number at the
                    end; the status is 1 then
   -h, --help       this text
   -V, --version    the version
@@ -44,6 +44,6 @@ join --checked alone. An extension comes after the last dot of a name, if that i
 / and \\ separate, and a path may begin with a prefix: C:, \\\\server\\share, \\\\?\\C:, \\\\?\\UNC\\server\\share,
 \\\\?\\name or \\\\.\\name.
 
-Status: 0; 1 for a path that is refused, with its number, from 1; 2 for wrong arguments; 3 if out of memory; 4 if
+Status: 0; 1 for a path that is rejected, with its number, from 1; 2 for wrong arguments; 3 if out of memory; 4 if
 a read or write fails.
 ";

@@ -15,9 +15,9 @@ pub enum PathsOption {
     Help,
     /// `-V`, `--version`: writes the version.
     Version,
-    /// `--checked`: `join` refuses a path that could leave the base.
+    /// `--checked`: `join` rejects a path that could leave the base.
     Checked,
-    /// `--keep-going`: refused paths are passed over.
+    /// `--keep-going`: rejected paths are passed over.
     KeepGoing,
 }
 

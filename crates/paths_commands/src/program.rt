@@ -36,7 +36,7 @@ pub struct Paths<'a, P> {
 }
 
 impl<'a, P: Eprint> Paths<'a, P> {
-    /// The program. With `--keep-going` it prints a line to `errors` for each path that is refused.
+    /// The program. With `--keep-going` it prints a line to `errors` for each rejected path.
     ///
     /// ```
     /// use paths_commands::fault::{CommandFault, Fault};
@@ -131,7 +131,7 @@ fn run_command<P: Eprint, A: Allocator, R: Read, W: Write>(
     }
 }
 
-/// Returns the result of the run that ends at the first path that is refused.
+/// Returns the result of the run that ends at the first path that is rejected.
 fn run_to_refusal<A: Allocator, R: Read, W: Write>(
     alloc: A,
     os: Os,
@@ -149,7 +149,7 @@ fn run_to_refusal<A: Allocator, R: Read, W: Write>(
     run_on(alloc, os, task, &mut Stop, reader, writer)
 }
 
-/// Returns the result of the run that passes over the paths that are refused.
+/// Returns the result of the run that passes over the paths that are rejected.
 fn run_past<P: Eprint, A: Allocator, R: Read, W: Write>(
     alloc: A,
     errors: &P,

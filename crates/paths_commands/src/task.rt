@@ -25,20 +25,20 @@ pub enum Task<'a> {
     Stem,
     /// The extension of that name.
     Extension,
-    /// Its normal form, as std's `normalize_lexically`; a path without one is refused.
+    /// Its normal form, as std's `normalize_lexically`. A path without one is rejected.
     Normalize,
     /// Its clean form, as Go's `filepath.Clean`.
     Clean,
     /// The path after this base, as std's `Path::join`.
     Join(&'a str),
-    /// The path below this base, as typed-path's `join_checked`; one that could leave the base is
-    /// refused.
+    /// The path below this base, as typed-path's `join_checked`. One that could leave the base is
+    /// rejected.
     JoinChecked(&'a str),
-    /// The path as it is reached from this base, as the crate pathdiff's `diff_paths`; one that no
-    /// path leads to is refused.
+    /// The path as it is reached from this base, as the crate pathdiff's `diff_paths`. One that no
+    /// path leads to is rejected.
     Relative(&'a str),
-    /// The path of this platform with the same components; one with a component that the platform's
-    /// paths can't have is refused.
+    /// The path of this platform with the same components. One with a component that the platform's
+    /// paths can't have is rejected.
     Convert(Os),
 }
 

@@ -88,7 +88,7 @@ module _ {O : Type 0} (spelled : O → Kind → Type 0) (has_value : O → Bool)
     pub are : TakesAll (unread words) given at
     pub fails : FailsAt at fault
 
-  -- why arguments aren't options and operands of the program; memory may be refused
+  -- why arguments aren't options and operands of the program; an allocation may fail
   abbrev pub IsReadFault : List (List ℕ) → ReadFault → Type 0
   IsReadFault words (Misuse error) = HasFault words (fault_of error)
   IsReadFault words Memory = Unit {0}

@@ -4,7 +4,7 @@ use Rattle.program_frame.specs.Fault as failure
 use Rattle.program_frame.specs.declared.lists.fault.ListFault.{ListFault}
 use Rattle.program_frame.specs.declared.lists.fault.ListFault.TheVariants.{Refused, TooLong, Unended, TooMuch, Run}
 
--- what comes before the reason why an item is refused
+-- what comes before the reason why an item is rejected
 abbrev pub index_text : List ℕ → ℕ → List ℕ
 index_text item number = item ++ (codes " " ++ (decimal number ++ codes ": "))
 

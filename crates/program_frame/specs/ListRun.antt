@@ -30,7 +30,7 @@ module _ {F : Type 0} (list : ListRules F) where
     pub joined : input ≡ items_of list.end entries ++ rest
     pub written : output ≡ texts_of entries
 
-  -- the output where the run ends with this fault: that for the items before the one that is refused, or else that for some of the first items
+  -- the output where the run ends with this fault: that for the items before the one that is rejected, or else that for some of the first items
   abbrev pub StopsOn : List ℕ → List ℕ → ListFault F → Type 0
   StopsOn input output (Refused n why) = Stops list start input output (Refused n why)
   StopsOn input output (TooLong n most) = Stops list start input output (TooLong n most)

@@ -6,7 +6,7 @@ use Rattle.os_str_bytes.specs.WasmPlatform.TheImpl as wasm
 use Rattle.program_frame.specs.declared.misuse.Misuse.{Misuse}
 use Rattle.program_frame.specs.declared.misuse.Misuse.TheVariants.{Argument, Missing, Invalid, Misplaced}
 
--- a word of the command line is printed as its escape on one line
+-- an argument is printed as its escape on one line
 abbrev pub misuse_text : Misuse → List ℕ
 misuse_text (Argument error) = fault_text wasm.ghosts.units (fault_of error)
 misuse_text (Missing what) = codes "missing " ++ what.now

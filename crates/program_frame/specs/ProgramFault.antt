@@ -12,12 +12,12 @@ abbrev pub text_of : {F U : Type 0} → List ℕ → (F → List ℕ) → (U →
 text_of item reason words (OfList fault) = list_fault.text_of item reason fault
 text_of item reason words (Words why) = words why
 
--- the run may end with this fault, where this states whether an item that is refused may end it
+-- the run may end with this fault, where this states whether an item that is rejected may end it
 abbrev pub EndsRunOf : {F U : Type 0} → Type 0 → Fault F U → Type 0
 EndsRunOf stops (OfList fault) = EndsRun stops fault
 EndsRunOf stops (Words why) = Unit {0}
 
--- the status that the program ends with, where refusals of words have these
+-- the status that the program ends with, where refusals of arguments have these
 abbrev pub status_of : {F U : Type 0} → (U → ℕ) → Fault F U → ℕ
 status_of words (OfList fault) = list_fault.status_of fault
 status_of words (Words why) = words why

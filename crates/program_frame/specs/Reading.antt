@@ -31,7 +31,7 @@ pub record Reads {F : Type 0} (list : ListRules F) (old : State) (bytes : List �
 abbrev pub IsWhole : {F : Type 0} → ListRules F → List ℕ → Type 0
 IsWhole list rest = ((rest ≡ []) × list.takes_unended) ⊎ ((more : List ℕ) × (rest ≡ list.end ∷ more))
 
--- what comes after an item that is refused with this fault: one that is too long, or that has no memory, is refused before its end is known
+-- what comes after an item that is rejected with this fault: one that is too long, or that has no memory, is rejected before its end is known
 abbrev pub IsEnded : {F : Type 0} → ListRules F → ListFault F → List ℕ → Type 0
 IsEnded list (Refused n why) rest = IsWhole list rest
 IsEnded list (TooLong n most) rest = Unit {0}
@@ -51,7 +51,7 @@ pub record Stops {F : Type 0} (list : ListRules F) (old : State) (bytes output :
   pub because : IsRefused list (old.count + length entries + 1) item fault
   pub written : output ≡ old.output ++ texts_of entries
 
--- an item is too long, or memory for it was refused
+-- an item is too long, or the allocation for it failed
 abbrev pub IsKeepFault : {F : Type 0} → ListRules F → ℕ → List ℕ → ListFault F → Type 0
 IsKeepFault list number item fault = ((fault ≡ TooLong number list.max) × (list.longest < length item)) ⊎ (fault ≡ Run Memory)
 

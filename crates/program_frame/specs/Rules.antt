@@ -1,4 +1,4 @@
--- What is done with the items of a list, and with which faults they are refused.
+-- What is done with the items of a list, and with which faults they are rejected.
 use Rattle.std.specs.Prelude.{◌≡◌, ◌≢◌, ◌⊎◌, ℕ, ◌<◌, ◌≤◌, List, [], length}
 use Rattle.program_frame.specs.declared.fault.Failure.TheVariants.{Memory}
 use Rattle.program_frame.specs.declared.lists.fault.ItemFault.{ItemFault}
@@ -22,13 +22,13 @@ module _ {F : Type 0} (list : ListRules F) where
   abbrev pub AreIn : List Entry → List ℕ → Type 0
   AreIn entries input = (input ≡ items_of list.end entries) ⊎ (list.takes_unended × IsLastUnended list.end entries input)
 
-  -- why nothing is written for an item; memory may be refused at any
+  -- why nothing is written for an item; an allocation may fail at any
   abbrev pub IsItemFault : List ℕ → ItemFault F → Type 0
   IsItemFault item (item_fault.Refused why) = list.refuses item why
   IsItemFault item item_fault.TooLong = list.is_of_long item
   IsItemFault item item_fault.Memory = Unit {0}
 
-  -- with which fault the item with this number ends the run; memory may be refused at any item
+  -- with which fault the item with this number ends the run; an allocation may fail at any item
   abbrev pub IsFaultAt : ℕ → List ℕ → ListFault F → Type 0
   IsFaultAt number item (Refused n why) = (n ≡ number) × ((length item ≤ list.longest) × list.refuses item why)
   IsFaultAt number item (TooLong n most) = (n ≡ number) × ((most ≡ list.max) × ((list.longest < length item) ⊎ list.is_of_long item))
@@ -44,7 +44,7 @@ module _ {F : Type 0} (list : ListRules F) where
   IsRefused number item TooMuch = ⊥
   IsRefused number item (Run why) = IsFaultAt number item (Run why)
 
-  -- an item that isn't refused, and what is written for it
+  -- an item that isn't rejected, and what is written for it
   pub record IsEntry (e : Entry) : Type 0 where
     pub whole : Lacks list.end e.0
     pub short : length e.0 ≤ list.longest
@@ -62,15 +62,15 @@ with_texts is_text list = record {
   is_of_long = list.is_of_long;
 }
 
--- nothing is written for an item, since it is refused
+-- nothing is written for an item, since it is rejected
 abbrev pub IsPassedOver : {F : Type 0} → ListRules F → List ℕ → List ℕ → Type 0
 IsPassedOver list item text = (text ≡ []) × ((why : _) × list.refuses item why)
 
--- the list where items that are refused may have been passed over, if the count of those isn't 0
+-- the list where items that are rejected may have been passed over, if the count of those isn't 0
 abbrev pub passing : {F : Type 0} → ℕ → ListRules F → ListRules F
 passing count list = with_texts (λ item text. list.is_text item text ⊎ ((0 < count) × IsPassedOver list item text)) list
 
--- the run may end with this fault, where this states whether an item that is refused may end it
+-- the run may end with this fault, where this states whether an item that is rejected may end it
 abbrev pub EndsRun : {F : Type 0} → Type 0 → ListFault F → Type 0
 EndsRun stops (Refused n why) = stops
 EndsRun stops (TooLong n most) = Unit {0}

@@ -77,7 +77,7 @@ pub enum Given<'a, O> {
 pub enum ReadFault<'a> {
     /// An argument is an unknown option, lacks its value or has one too many.
     Misuse(ArgumentError<'a, OsStr<'a, Wasm>>),
-    /// Memory was refused.
+    /// An allocation failed.
     Memory,
 }
 

@@ -38,8 +38,8 @@ pub struct Ended<F> {
 }
 
 impl<F: ProgramFault> Ended<F> {
-    /// The end of a run of the program of this name with this outcome: a fault's message goes to `errors`, or where not all of
-    /// it is taken a beginning of it. It takes no memory.
+    /// The end of a run of the program of this name with this outcome. A fault's message goes to
+    /// `errors`, or a beginning of it where not all of it is taken. It doesn't allocate.
     ///
     /// ```
     /// use program_frame::ended::Ended;

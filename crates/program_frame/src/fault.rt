@@ -12,7 +12,7 @@ use std::fmt::{InlineText, Write as _};
 /// what `{}` does.
 #[derive(Clone, Copy, PartialEq, Eq)]
 pub enum Failure {
-    /// A request for memory was refused.
+    /// An allocation failed.
     Memory,
     /// A read of the input failed.
     Read,

@@ -17,7 +17,7 @@ pub enum FileFault {
     NoFile,
     /// It couldn't be opened for another reason, or a read failed, as that of a directory does.
     Read,
-    /// Memory was refused.
+    /// An allocation failed.
     Memory,
 }
 

@@ -12,8 +12,8 @@ use std::io::Read;
 ///
 /// # Errors
 ///
-/// [`Failure::Read`] where a read failed, and then the mark is set. [`Failure::Memory`] where memory was
-/// refused.
+/// [`Failure::Read`] if a read failed, and then the mark is set. [`Failure::Memory`] if an
+/// allocation failed.
 ///
 /// ```
 /// use program_frame::input::read_all;

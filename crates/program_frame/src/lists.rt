@@ -2,8 +2,9 @@
 //!
 //! A [`task::ListTask`] defines what is done with each item. [`run::run`] reads the list and writes
 //! the output for its items. If it ends early, a [`fault::ListFault`] states why and, for a fault
-//! of an item, the item's number. [`refusals`] has what becomes of refused items. A program for lists is a [`program::ListProgram`], which
-//! [`program::execute`] runs. [`answers`] has the calls that make its outcome.
+//! of an item, the item's number. [`refusals`] has what becomes of rejected items. A program for
+//! lists is a [`program::ListProgram`], which [`program::execute`] runs. [`answers`] has the calls
+//! that make its outcome.
 
 pub mod answers;
 pub mod fault;

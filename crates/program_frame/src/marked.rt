@@ -68,8 +68,8 @@ impl<T> Marked<T> {
         self.failed
     }
 
-    /// Whether the mark is set, and the last write or flush that failed found that nobody reads what it
-    /// writes any more: a pipe whose reader has gone, as that of `head` has.
+    /// Whether the mark is set, and the last write or flush that failed found that nobody reads
+    /// what it writes any more: a pipe whose reader has gone, as that of `head` has.
     ///
     /// ```
     /// use program_frame::marked::Marked;

@@ -1,4 +1,4 @@
-//! The words of a program.
+//! The arguments of a program.
 ghost use Rattle.std.specs.Prelude.{◌≡◌, ◌≢◌, drop, map, string_bytes, IfOk, IfErr, OnOk, IsOk};
 ghost use Rattle.std.specs.IoError.{error_kind};
 ghost use Rattle.std.specs.Vec.Iter.{into_iter_items};
@@ -12,7 +12,7 @@ use std::io::ErrorKind;
 /// Why a program's arguments aren't available.
 #[derive(Clone, Copy, PartialEq, Eq)]
 pub enum NoWords {
-    /// Memory was refused.
+    /// An allocation failed.
     Memory,
     /// The arguments aren't available for another reason, such as invalid UTF-8 in one of them.
     Unreadable,
@@ -22,7 +22,7 @@ pub enum NoWords {
 ///
 /// # Errors
 ///
-/// [`NoWords::Memory`] where memory was refused, and [`NoWords::Unreadable`] where the arguments
+/// [`NoWords::Memory`] if an allocation failed, and [`NoWords::Unreadable`] if the arguments
 /// aren't available for another reason.
 ///
 /// ```

@@ -1,4 +1,4 @@
--- A command has an output for its input or refuses it, never both, and refuses it with one fault.
+-- A command has an output for its input or rejects it, never both, and rejects it with one fault.
 use Rattle.std.proofs.Common.{◌≡◌, ◌⊎◌, ℕ, List, Option, Result, Err, refl, ap, subst, ◌∙◌, inl, inr}
 use Rattle.std.proofs.KnownBytes.{Consumes-whole}
 use Rattle.std.specs.Str.{IsUtf8}
@@ -172,7 +172,7 @@ one_refusal command input (BadLine m) _ h k = absurd k
 one_refusal command input (BadQuote b) _ h k = absurd k
 one_refusal command input _ g h k = absurd h
 
--- the answer of a run that read all the input, and then had no memory for it or refused it
+-- the result of a run that read all the input, and then had no memory for it or rejected it
 pub refused : {T : Type 0} (command : Command) (input left : Option (List ℕ)) (bytes : List ℕ) (answer : Result T Fault) (given : Fault)
     → Consumes input left bytes → IsAtEnd left → answer ≡ Err given → (given ≡ Memory) ⊎ IsRefusal command bytes given → AnswersRefusal command input answer
 refused command input left bytes answer given read end is (inl memory) =
@@ -180,7 +180,7 @@ refused command input left bytes answer given read end is (inl memory) =
 refused command input left bytes answer given read end is (inr refusal) =
     Consumes-whole input left bytes _ read end (λ fault other. inl (is ∙ ap Err (one_refusal command bytes given fault refusal other)))
 
--- the answer of a run that read all the input, and had an output for it
+-- the result of a run that read all the input, and had an output for it
 pub not_refused : {T : Type 0} (command : Command) (input left : Option (List ℕ)) (bytes output : List ℕ) (answer : Result T Fault)
     → Consumes input left bytes → IsAtEnd left → IsOutput command bytes output → AnswersRefusal command input answer
 not_refused command input left bytes output answer read end given =

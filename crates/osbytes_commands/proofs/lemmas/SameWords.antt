@@ -59,7 +59,7 @@ letter_is (Unquote os) = refl
 same_letter : (c d : Command) → words_of c ≡ words_of d → letter c ≡ letter d
 same_letter c d e = letter_is c ∙ ap (λ words. get_or (get_or words 0 []) 2 0) e ∙ sym (letter_is d)
 
--- what is said of one command's output, of its refusals and of whether it can't run is said of another's with the same words
+-- what holds of one command's output, of its refusals and of whether it can't run holds of another's with the same arguments
 same_meaning : (M : (List ℕ → List ℕ → Type 0) → (List ℕ → Fault → Type 0) → Type 0 → Type 0) (c d : Command) → words_of c ≡ words_of d
     → M (IsOutput c) (IsRefusal c) (IsUnusable c) → M (IsOutput d) (IsRefusal d) (IsUnusable d)
 same_meaning M (Units a) (Units b) e m = subst (λ os. M (IsOutput (Units os)) (IsRefusal (Units os)) ⊥) (same_os a b (ap (λ words. get_or words 1 []) e)) m

@@ -1,4 +1,4 @@
--- The answer of a part that a path may lack.
+-- The result for a part that a path may lack.
 use Rattle.std.proofs.Common.{◌≡◌, ◌⊎◌, inl, inr, ℕ, List, [], Option, None, Some, sym, subst}
 use Rattle.std.specs.Prelude.{MatchOption}
 

@@ -1,4 +1,4 @@
--- Why a path is refused, by what its question asks.
+-- Why a path is rejected, by its task.
 use Rattle.std.proofs.Common.{◌≡◌, ℕ, List}
 use denote.Ref.{Bor}
 use Rattle.os_str_bytes.specs.Platform.{Ghosts}
@@ -12,7 +12,7 @@ use Rattle.paths_commands.specs.declared.fault.Refusal.TheVariants.{NoString, No
 use Rattle.paths_commands.specs.declared.task.Task.{Task}
 use Rattle.paths_commands.specs.declared.task.Task.TheVariants.{Convert, JoinChecked}
 
--- a string without an answer is refused
+-- a string without a result is rejected
 pub unanswered_refused : {E : Type 0} (p : Ghosts E) (style : Style) (task : Task) (path : List ℕ) (why : Refusal) → IsUnanswered style task path why → IsRefusal p style task path why
 unanswered_refused p style task path (NoString error) none = absurd none
 unanswered_refused p style task path NoNormalForm none = none
@@ -21,7 +21,7 @@ unanswered_refused p style task path (NoJoin error) none = none
 unanswered_refused p style task path (NoComponent index) none = none
 unanswered_refused p style task path (NoStringThere error) none = none
 
--- a path that has no path of the other platform has no answer
+-- a path that has no path of the other platform has no result
 pub unconverted_unanswered : (style : Style) (task : Task) (to : Os) (path : List ℕ) (why : Refusal) → task ≡ Convert to
     → IsUnconverted style (style_of to) (strings to).first_fault path why → IsUnanswered style task path why
 unconverted_unanswered style task to path (NoString error) is none = none
@@ -31,7 +31,7 @@ unconverted_unanswered style task to path (NoJoin error) is none = absurd none
 unconverted_unanswered style task to path (NoComponent index) is none = (to, (is, none))
 unconverted_unanswered style task to path (NoStringThere error) is none = (to, (is, none))
 
--- a path that isn't joined to the base has no answer
+-- a path that isn't joined to the base has no result
 pub unjoined_unanswered : (style : Style) (task : Task) (base : Bor (List ℕ)) (path : List ℕ) (why : Refusal) → task ≡ JoinChecked base → IsUnjoined style base.now path why → IsUnanswered style task path why
 unjoined_unanswered style task base path (NoString error) is none = none
 unjoined_unanswered style task base path NoNormalForm is none = absurd none

@@ -64,8 +64,8 @@ pub fn run_list<T: ListTask, U, A: Allocator, R: Read, W: Write>(
     }
 }
 
-/// Runs over the list, with `refusals` to decide what becomes of items that are refused, and returns
-/// the outcome as a program's. Both marks must be unset (test: [`Marked::failed`]).
+/// Runs over the list, with `refusals` to decide what becomes of rejected items, and returns the
+/// outcome as a program's. Both marks must be unset (test: [`Marked::failed`]).
 ///
 /// # Errors
 ///

@@ -8,7 +8,7 @@ use crate::fault::{Failure, write_number};
 use std::fmt;
 use std::fmt::Display as _;
 
-/// Why an item is refused, whatever its number.
+/// Why an item is rejected, whatever its number.
 pub trait ItemRefusal: Copy {
     // what an item is called
     ghost item: { List ℕ };
@@ -43,18 +43,18 @@ pub trait ItemRefusal: Copy {
 /// Why nothing is written for an item.
 #[derive(Clone, Copy, PartialEq, Eq)]
 pub enum ItemFault<F> {
-    /// It is refused.
+    /// It is rejected.
     Refused(F),
     /// It isn't too long, but the name that it encodes is.
     TooLong,
-    /// Memory was refused.
+    /// An allocation failed.
     Memory,
 }
 
 /// Why a run over a list ended before the list did. Items are counted from 1.
 #[derive(Clone, Copy, PartialEq, Eq)]
 pub enum ListFault<F> {
-    /// The item with this number is refused.
+    /// The item with this number is rejected.
     Refused(u64, F),
     /// The item with this number, or the name that it encodes, has more than this many bytes.
     TooLong(u64, usize),
@@ -129,7 +129,7 @@ impl<F: ItemRefusal> ProgramFault for ListFault<F> {
     }
 }
 
-/// Writes which item is refused.
+/// Writes which item is rejected.
 fn write_index<F: ItemRefusal, W: fmt::Write>(number: u64, f: &mut fmt::Formatter<W>) -> fmt::Result
     ensures { WritesStyledOnOk W.write_str_gives f.old result (index_text F.item number) f.new }
 {

@@ -30,7 +30,7 @@ pub fn split_at_end(end: u8, bytes: &[u8]) -> Option<(&[u8], &[u8])>
 ///
 /// # Errors
 ///
-/// `AllocError` where memory was refused; then the output is as it was.
+/// `AllocError` if an allocation failed. The output is unchanged then.
 ///
 /// ```
 /// use program_frame::lists::items::push_ended;

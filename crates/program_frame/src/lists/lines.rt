@@ -11,12 +11,12 @@ use std::alloc::{AllocError, Allocator};
 
 /// Appends the escape of a string and a newline.
 ///
-/// A string that isn't plain is looked at again from its start. Its escape is made in memory of its own
+/// A string that isn't plain is read again from its start. Its escape is made in memory of its own
 /// and copied.
 ///
 /// # Errors
 ///
-/// `AllocError` where memory was refused; then the output is as it was.
+/// `AllocError` if an allocation failed. The output is unchanged then.
 ///
 /// ```
 /// use os_str_bytes::{OsStr, Unix};
@@ -42,8 +42,8 @@ pub fn push_line<E: Platform, A: Allocator>(
     push_ended(escape.as_bytes(), b'\n', output)
 }
 
-/// Whether each byte is plain: printable ASCII other than the backslash. All are looked at, also after
-/// one that isn't: so vectors can do it.
+/// Whether each byte is plain: printable ASCII other than the backslash. All are tested, also after
+/// one that isn't, so that vectors can do it.
 ///
 /// ```
 /// use program_frame::lists::lines::is_plain;

@@ -1,4 +1,4 @@
-//! Programs for lists: their words, their run, how it ends, and their help.
+//! Programs for lists: their arguments, their run, how it ends, and their help.
 ghost use Rattle.std.specs.Prelude.{◌≡◌, ◌≢◌, ◌↔◌, ◌⊎◌, ℕ, List, Option, Result, ⊤, true, false, map, string_bytes, IfOk, IfErr, OnOk, IsOk};
 ghost use Rattle.std.specs.Io.KnownBytes.{Appends};
 ghost use Rattle.std.specs.IoError.{error_kind};
@@ -27,10 +27,10 @@ use std::io::{ErrorKind, Read, Write};
 
 /// A program for lists.
 pub trait ListProgram {
-    /// Why an item is refused.
+    /// Why an item is rejected.
     type Refusal: ItemRefusal;
 
-    /// Why the words are refused.
+    /// Why the arguments are rejected.
     type Words: WordsRefusal;
 
     // the program's name

@@ -7,9 +7,9 @@ use crate::lists::fault::{ItemRefusal, ListFault};
 use std::fmt;
 use std::fmt::Display as _;
 
-/// Why a program's words are refused.
+/// Why a program's arguments are rejected.
 pub trait WordsRefusal: Copy {
-    // they ask for no command
+    // they request no command
     ghost usage: { Self };
 
     // what the program prints of the reason
@@ -57,9 +57,9 @@ pub trait WordsRefusal: Copy {
 /// Why a run of a program for lists ended before its input did.
 #[derive(Clone, Copy, PartialEq, Eq)]
 pub enum Fault<F, U> {
-    /// An item is refused, or something keeps the run from going on.
+    /// An item is rejected, or something keeps the run from going on.
     List(ListFault<F>),
-    /// The words are refused.
+    /// The arguments are rejected.
     Words(U),
 }
 

@@ -1,4 +1,4 @@
-//! What becomes of the items that are refused.
+//! What becomes of the items that are rejected.
 ghost use Rattle.std.specs.Prelude.{◌≡◌, ◌<◌, ◌≤◌, ℕ, true, false};
 ghost use Rattle.program_frame.specs.declared.lists.refusals.KeepGoing.{KeepGoing};
 
@@ -9,12 +9,12 @@ use std::fmt;
 use std::fmt::Display as _;
 use std::io::Eprint;
 
-/// What becomes of an item that is refused for an `F`.
+/// What becomes of an item that is rejected for an `F`.
 pub trait Refusals<F> {
     // how many items have been passed over
     ghost passed: { Self → ℕ };
 
-    // an item that is refused may end the run
+    // an item that is rejected may end the run
     ghost stops: { Type 0 };
 
     /// Whether this item, which has this number, is passed over, so that the run goes on. Otherwise
@@ -32,7 +32,7 @@ pub trait Refusals<F> {
         ensures ends { result ≡ false → stops };
 }
 
-/// The first item that is refused ends the run.
+/// The first item that is rejected ends the run.
 #[derive(Clone, Copy)]
 pub struct Stop;
 
@@ -46,7 +46,7 @@ impl<F: Copy> Refusals<F> for Stop {
     }
 }
 
-/// Items that are refused are passed over and counted. For each a line is printed: the program's
+/// Items that are rejected are passed over and counted. For each a line is printed: the program's
 /// name, the text of [`ListFault::Refused`] and the item's escape, with `: ` between them. The
 /// escape is that of a Unix string ([`os_quote::escaped_line`]). A line that can't be printed is
 /// left out.

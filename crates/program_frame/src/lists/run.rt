@@ -1,4 +1,4 @@
-//! One run over a list: items read, what is to be written for them made, and written, block by block.
+//! One run over a list: it reads items, makes their output and writes it, block by block.
 ghost use Rattle.std.specs.Prelude.{◌≡◌, ◌≢◌, ◌↔◌, ◌+◌, ◌<◌, ◌≤◌, ◌^◌, ◌++◌, [], length, ℕ, List, true, false, OnOk, OnErr, IfOk, IfErr};
 ghost use Rattle.std.specs.Io.KnownBytes.{Appends, IsAtEnd};
 ghost use Rattle.program_frame.specs.declared.fault.Failure.{Failure};
@@ -36,7 +36,7 @@ const BLOCK: usize = 16384;
 /// these, exactly the output for the items before the reported one has been written.
 ///
 /// [`ListFault::Run`] has `Read` exactly where a read failed, `Write` exactly where a write or a
-/// flush did, and `Memory` where memory was refused. [`ListFault::TooMuch`] reports an input of
+/// flush did, and `Memory` where an allocation failed. [`ListFault::TooMuch`] reports an input of
 /// 2^64 - 1 bytes or more. Then the output for some of the first items has been written, and each
 /// of them has its end. With `Write` it may be a beginning of that output, or of all the output.
 ///
@@ -87,7 +87,7 @@ pub fn run<T: ListTask, A: Allocator, R: Read, W: Write>(
 }
 
 /// Reads all items that the reader has, and writes the output for each, as [`run`] does. What
-/// becomes of an item that is refused is left to `refusals`: where it passes over it, nothing is
+/// becomes of an item that is rejected is left to `refusals`: where it passes over it, nothing is
 /// written for the item, and the run goes on. Both marks must be unset (test: [`Marked::failed`]).
 ///
 /// # Errors

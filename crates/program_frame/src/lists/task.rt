@@ -7,7 +7,7 @@ use std::alloc::Allocator;
 
 /// What is done with each item of a list.
 pub trait ListTask {
-    /// Why an item is refused.
+    /// Why an item is rejected.
     type Refusal: Copy;
 
     ghost rules: { Self → ListRules Self.Refusal };

@@ -13,7 +13,7 @@ use Rattle.paths_commands.specs.Task.{rules_of}
 use Rattle.paths_commands.specs.declared.task.Task.{Task}
 use Rattle.paths_commands.proofs.program.run_on.Goals as goal
 
--- what was said of a platform, a question and a length is said of equal ones
+-- what holds of a platform, a task and a length holds of equal ones
 same_run : (os other : Os) (t task : Task) (max count : ℕ) (input left old new : Option (List ℕ)) (answer : Result ⊤ Fault) → os ≡ other → t ≡ task → max ≡ longest_path
     → Runs (passing count (rules_of (strings other) (style_of other) t max)) OfList input left old new answer → Runs (passing count (rules_of (strings os) (style_of os) task longest_path)) OfList input left old new answer
 same_run os other t task max count input left old new answer is same most ran =

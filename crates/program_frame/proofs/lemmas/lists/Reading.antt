@@ -76,7 +76,7 @@ module _ {F : Type 0} (list : ListRules F) where
   of_item number item TooMuch h = absurd h
   of_item number item (Run why) h = h
 
-  -- an item that ended is refused
+  -- an item that ended is rejected
   pub at_item : (old mid : State) (block rest last after now : List ℕ) (fault : ListFault F) → IsUpTo list old block rest mid → IsCutAt end rest last after
       → IsFaultAt list (mid.count + 1) (mid.begun ++ last) fault → now ≡ mid.output → (more : List ℕ) → Stops list old (block ++ more) now fault
   at_item old mid block rest last after now fault u k f w more = record {

@@ -31,7 +31,7 @@ few : (end : ℕ) (entries : List Entry) → length entries ≤ length (items_of
 few end [] = omega arith
 few end (e ∷ entries) = omega (arith, few end entries, length-append (e.0 ++ end ∷ []) (items_of end entries), length-append e.0 (end ∷ []))
 
--- what tells answers and faults apart
+-- results and faults differ
 pub no_err : {X F : Type 0} {x : X} {fault : F} → ◌≡◌ {A = Result X F} (Ok x) (Err fault) → ⊥
 no_err e = cc
 
@@ -129,7 +129,7 @@ module _ {F : Type 0} (list : ListRules F) where
   of_stops input text TooMuch q = absurd q.because
   of_stops input text (Run why) q = of_begins input text (stops_begin start input text (Run why) q)
 
-  -- no item is refused for a read or a write
+  -- no item is rejected for a read or a write
   pub item_memory : {X : Type 0} (n : ℕ) (item : List ℕ) (fault : ListFault F) (why : Failure) → IsFaultAt list n item fault → ◌≡◌ {A = Result X (ListFault F)} (Err fault) (Err (Run why)) → why ≡ failure.Memory
   item_memory n item fault why h e = subst (IsFaultAt list n item) (same_run fault why e) h
 
@@ -256,7 +256,7 @@ module _ {F : Type 0} (list : ListRules F) where
     pub finished : (text : List ℕ) → Consumes left next [] → IsAtEnd next → Finishes list begun text → Appends mid new text → WritesOutput list input old new
     finished text c e f w = Consumes-whole input next h.bytes _ (whole c) e (h.text ++ text, (output text f, Appends-trans old mid new h.text text h.written w))
 
-    -- the last item is refused
+    -- the last item is rejected
     at_last : (fault : ListFault F) → IsRefused list (count + 1) begun fault → IsEnded list fault [] → Stops list start h.bytes h.text fault
     at_last fault f ended = record {
       entries = h.reads.entries;

@@ -5,7 +5,7 @@ use Rattle.program_frame.specs.Ended.{message}
 use Rattle.program_frame.specs.ProgramFault.{text_of}
 use Rattle.program_frame.proofs.lists.program.execute.Goals as goal
 
--- what is said of an outcome and a name is said of equal ones
+-- what holds of an outcome and a name holds of equal ones
 same_told : {F : Type 0} (told outcome : Result ⊤ F) (given name : List ℕ) (Says : List ℕ → F → Type 0) → told ≡ outcome → given ≡ name → IfErr outcome (Says given) → IfErr told (Says name)
 same_told told outcome given name Says is same says = subst (λ o. IfErr o (Says name)) (sym is) (subst (λ n. IfErr outcome (Says n)) same says)
 
