@@ -6,6 +6,8 @@ pub mod Cuts
 pub mod Groups
 pub mod LineReadings
 pub mod Nameless
+pub mod OneMeaning
+pub mod OneReading
 pub mod OneVerdict
 pub mod Parts
 pub mod Readings

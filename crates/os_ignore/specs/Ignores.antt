@@ -2,8 +2,10 @@
 use Rattle.std.specs.Prelude.{◌≡◌, ℕ, List, [], ◌∷◌, ◌++◌, length}
 use Rattle.os_ignore.specs.declared.file.File.{File}
 use Rattle.os_ignore.specs.declared.ignore.Ignore.{Ignore}
+use Rattle.os_ignore.specs.Components.{pieces}
 use Rattle.os_ignore.specs.Directories.{IsPlace}
-use Rattle.os_ignore.specs.Files.{AreLines}
+use Rattle.os_ignore.specs.Files.{AreLines, IsLineText, without_mark}
+use Rattle.os_ignore.specs.Lines.{SaysNothing}
 
 module _ {A : Type 0} where
   -- the files, in the order in which their lines are tried, the last first
@@ -29,3 +31,22 @@ module _ {A : Type 0} where
     pub file : File A
     pub files_are : files ≡ file ∷ []
     pub file_is : IsFileAt 0 [] content file
+
+  -- the files are in one directory, have one number, and are read from one text
+  pub record AreOfOneText (file other : File A) : Type 0 where
+    pub number : ℕ
+    pub directory : List ℕ
+    pub content : List ℕ
+    pub file_is : IsFileAt number directory content file
+    pub other_is : IsFileAt number directory content other
+
+-- the other text has an empty line in place of one that says nothing
+pub record IsBlanked (A : Type 0) (content other : List ℕ) : Type 0 where
+  pub front : List (List ℕ)
+  pub back : List (List ℕ)
+  pub line : List ℕ
+  pub text : List ℕ
+  pub read : IsLineText line text
+  pub says : SaysNothing A text
+  pub lines : pieces 0xA (without_mark content) ≡ front ++ line ∷ back
+  pub others : pieces 0xA (without_mark other) ≡ front ++ [] ∷ back
