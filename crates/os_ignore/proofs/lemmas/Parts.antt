@@ -1,7 +1,7 @@
 -- The pieces on both sides of a separator.
 use Rattle.std.proofs.Common.{◌≡◌, ℕ, List, [], ◌∷◌, ◌++◌, eq-eqb, nat_eq, refl, ap, ◌∙◌}
 use Rattle.std.proofs.lemmas.List.Splits.{slice_split_none}
-use Rattle.wildcards.proofs.Parts.{split_append}
+use Rattle.wildcards.proofs.lemmas.Parts.{split_append}
 use Rattle.os_ignore.specs.Components.{IsPlain, IsCut, pieces}
 
 module _ (separator : ℕ) where

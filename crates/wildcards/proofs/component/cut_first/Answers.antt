@@ -1,4 +1,4 @@
-use Rattle.wildcards.proofs.Cuts.{first_cut, none_cut}
+use Rattle.wildcards.proofs.lemmas.Cuts.{first_cut, none_cut}
 use Rattle.wildcards.proofs.component.cut_first.Goals as goal
 
 pub returns-clause-cut : goal.returns-clause-cut

@@ -1,4 +1,4 @@
-use Rattle.wildcards.proofs.Cuts.{last_cut, none_cut}
+use Rattle.wildcards.proofs.lemmas.Cuts.{last_cut, none_cut}
 use Rattle.wildcards.proofs.component.cut_last.Goals as goal
 
 pub returns-clause-cut : goal.returns-clause-cut

@@ -1,7 +1,7 @@
 use Rattle.std.proofs.Common.{◌∙◌, sym, ap}
 use Rattle.std.proofs.lemmas.List.{nil_from_length}
 use Rattle.wildcards.specs.Components.{separates}
-use Rattle.wildcards.proofs.Extensions.{one_passed, all_passed, at_dot, at_separator}
+use Rattle.wildcards.proofs.lemmas.Extensions.{one_passed, all_passed, at_dot, at_separator}
 use Rattle.wildcards.proofs.component.extension.Goals as goal
 
 pub loop-last-preserved : goal.loop-last-preserved

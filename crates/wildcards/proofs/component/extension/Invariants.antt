@@ -1,5 +1,5 @@
 use Rattle.std.proofs.Common.{length}
-use Rattle.wildcards.proofs.Extensions.{Passed}
+use Rattle.wildcards.proofs.lemmas.Extensions.{Passed}
 use Rattle.wildcards.proofs.component.extension.Given as goal
 
 abbrev pub invariant-loop-last : goal.invariant-loop-last

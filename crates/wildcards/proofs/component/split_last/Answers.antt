@@ -1,4 +1,4 @@
-use Rattle.wildcards.proofs.Readings.{last_of, whole}
+use Rattle.wildcards.proofs.lemmas.Readings.{last_of, whole}
 use Rattle.wildcards.proofs.component.split_last.Goals as goal
 
 pub returns-in-Some-clause-parts : goal.returns-in-Some-clause-parts

@@ -1,6 +1,6 @@
 use Rattle.std.proofs.Common.{rules}
 use Rattle.std.proofs.lemmas.List.{nil_from_length}
-use Rattle.wildcards.proofs.Beginnings.{other_prefix, nothing_left, cut_left}
+use Rattle.wildcards.proofs.lemmas.Beginnings.{other_prefix, nothing_left, cut_left}
 use Rattle.wildcards.proofs.component.strip_text.Goals as goal
 
 pub returns-in_err-rest-clause-begins : goal.returns-in_err-rest-clause-begins

@@ -3,7 +3,7 @@ use Rattle.std.proofs.lemmas.Bool.{eqb-true}
 use Rattle.std.proofs.lemmas.List.{nil_from_length}
 use Rattle.wildcards.specs.declared.piece.Piece.TheVariants.{Many, One}
 use Rattle.wildcards.specs.Enough.{is_star_and}
-use Rattle.wildcards.proofs.AnyWith.{first_any}
+use Rattle.wildcards.proofs.lemmas.AnyWith.{first_any}
 use Rattle.wildcards.proofs.enough.has_any_with.Goals as goal
 
 pub returns-then-is_empty : goal.returns-then-is_empty

@@ -1,8 +1,8 @@
 use Rattle.std.proofs.Common.{◌<◌, ◌∙◌, length, sym, subst}
 use Rattle.std.specs.Prelude.{MatchOption}
 use Rattle.wildcards.specs.Enough.{HasText}
-use Rattle.wildcards.proofs.AnyWith.{text_at}
-use Rattle.wildcards.proofs.Literals.{bytes_alike}
+use Rattle.wildcards.proofs.lemmas.AnyWith.{text_at}
+use Rattle.wildcards.proofs.lemmas.Literals.{bytes_alike}
 use Rattle.wildcards.proofs.enough.is_text.Goals as goal
 
 pub returns-in-Some-texts : goal.returns-in-Some-texts

@@ -1,6 +1,6 @@
 use Rattle.std.proofs.Common.{◌∙◌, true, sym, ap}
 use Rattle.wildcards.specs.Components.{is_hidden}
-use Rattle.wildcards.proofs.Readings.{hidden_alike}
+use Rattle.wildcards.proofs.lemmas.Readings.{hidden_alike}
 use Rattle.wildcards.proofs.hidden.is_hidden.Goals as goal
 
 pub returns-in-Some : goal.returns-in-Some

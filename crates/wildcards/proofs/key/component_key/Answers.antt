@@ -3,7 +3,7 @@ use Rattle.std.proofs.lemmas.Bool.{eqb-true}
 use Rattle.std.proofs.lemmas.List.{nil_from_length}
 use Rattle.wildcards.specs.Keys.{IsNeeded}
 use Rattle.wildcards.specs.Literals.{spells}
-use Rattle.wildcards.proofs.Keys.{name_needed, component_needed}
+use Rattle.wildcards.proofs.lemmas.Keys.{name_needed, component_needed}
 use Rattle.wildcards.proofs.key.component_key.Goals.{then-is_empty, else-is_empty}
 use Rattle.wildcards.proofs.key.component_key.Goals as goal
 

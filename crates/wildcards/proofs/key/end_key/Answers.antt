@@ -2,7 +2,7 @@ use Rattle.std.proofs.Common.{IfSome, subst}
 use Rattle.std.proofs.lemmas.Result.{IfOk-weaker}
 use Rattle.wildcards.specs.Keys.{IsNeeded, IsOfEnd}
 use Rattle.wildcards.specs.declared.key.Kind.TheVariants.{Suffix}
-use Rattle.wildcards.proofs.Keys.{end_needed, some_weaker}
+use Rattle.wildcards.proofs.lemmas.Keys.{end_needed, some_weaker}
 use Rattle.wildcards.proofs.key.end_key.Goals as goal
 
 pub returns : goal.returns

@@ -1,6 +1,6 @@
 use Rattle.std.proofs.Common.{◌∷◌, ◌∙◌, ap}
 use Rattle.std.proofs.lemmas.List.{nil_from_length}
-use Rattle.wildcards.proofs.Keys.{next_text, all_texts}
+use Rattle.wildcards.proofs.lemmas.Keys.{next_text, all_texts}
 use Rattle.wildcards.proofs.key.joined_texts.Goals as goal
 
 pub loop-piece-preserved : goal.loop-piece-preserved

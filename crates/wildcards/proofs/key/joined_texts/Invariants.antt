@@ -1,5 +1,5 @@
 use Rattle.std.proofs.Common.{length}
-use Rattle.wildcards.proofs.Keys.{TextsSoFar}
+use Rattle.wildcards.proofs.lemmas.Keys.{TextsSoFar}
 use Rattle.wildcards.proofs.key.joined_texts.Given as goal
 
 abbrev pub invariant-loop-piece : goal.invariant-loop-piece

@@ -1,6 +1,6 @@
 use Rattle.std.proofs.Common.{◌∙◌, IfSome, sym, subst}
 use Rattle.wildcards.specs.Keys.{AreJoinedTexts}
-use Rattle.wildcards.proofs.Keys.{path_needed}
+use Rattle.wildcards.proofs.lemmas.Keys.{path_needed}
 use Rattle.wildcards.proofs.key.key_of.Goals as goal
 
 pub returns-in-Some : goal.returns-in-Some

@@ -1,6 +1,6 @@
 use Rattle.std.proofs.Common.{◌∷◌, [], ◌++◌, ◌∙◌, ap, sym, refl}
 use Rattle.std.proofs.lemmas.Result.{IfOk-weaker}
-use Rattle.wildcards.proofs.Keys.{suffix_needed, of_some_text}
+use Rattle.wildcards.proofs.lemmas.Keys.{suffix_needed, of_some_text}
 use Rattle.wildcards.proofs.key.literal_end.Goals as goal
 
 pub returns : goal.returns

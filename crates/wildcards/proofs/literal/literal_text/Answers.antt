@@ -3,7 +3,7 @@ use Rattle.wildcards.specs.declared.piece.Piece.TheVariants.{One}
 use Rattle.std.specs.List.{AllByRecursion}
 use Rattle.std.proofs.lemmas.List.{nil_from_length}
 use Rattle.wildcards.specs.Literals.{spells}
-use Rattle.wildcards.proofs.Literals.{literal_piece, spells_text, more_text, all_more}
+use Rattle.wildcards.proofs.lemmas.Literals.{literal_piece, spells_text, more_text, all_more}
 use Rattle.wildcards.proofs.literal.literal_text.Goals as goal
 
 pub returns : goal.returns

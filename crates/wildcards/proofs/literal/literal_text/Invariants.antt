@@ -1,6 +1,6 @@
 use Rattle.std.proofs.Common.{◌≡◌, ◌<◌, ◌++◌, map, length}
 use Rattle.std.specs.List.{AllByRecursion}
-use Rattle.wildcards.proofs.Literals.{literal_piece}
+use Rattle.wildcards.proofs.lemmas.Literals.{literal_piece}
 use Rattle.wildcards.proofs.literal.literal_text.Given as goal
 
 abbrev pub invariant-loop-first : goal.invariant-loop-first

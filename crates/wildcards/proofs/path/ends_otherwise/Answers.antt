@@ -1,6 +1,6 @@
 use Rattle.std.proofs.Common.{◌∷◌, ◌++◌, [], ◌∙◌, ap, subst}
 use Rattle.wildcards.specs.Ends.{EndsOtherwise}
-use Rattle.wildcards.proofs.Ends.{never_ends}
+use Rattle.wildcards.proofs.lemmas.Ends.{never_ends}
 use Rattle.wildcards.proofs.path.ends_otherwise.Goals as goal
 
 pub returns : goal.returns

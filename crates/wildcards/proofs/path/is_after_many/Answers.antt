@@ -3,9 +3,9 @@ use Rattle.std.proofs.lemmas.Bool.{eqb-true}
 use Rattle.std.proofs.lemmas.List.{nil_from_length}
 use Rattle.wildcards.specs.Match.{TakesComponent, FitsComponent}
 use Rattle.wildcards.specs.Cuts.{left_components}
-use Rattle.wildcards.proofs.Fitting.{by_components}
-use Rattle.wildcards.proofs.Fitting.{none_hidden}
-use Rattle.wildcards.proofs.Wilds.{takes_rest, all_after, next_many, next_place, none_after, stopped}
+use Rattle.wildcards.proofs.lemmas.Fitting.{by_components}
+use Rattle.wildcards.proofs.lemmas.Fitting.{none_hidden}
+use Rattle.wildcards.proofs.lemmas.Wilds.{takes_rest, all_after, next_many, next_place, none_after, stopped}
 use Rattle.wildcards.proofs.path.is_after_many.Goals as goal
 
 pub returns-in-All : goal.returns-in-All

@@ -2,7 +2,7 @@ use Rattle.std.proofs.Common.{◌≡◌, ◌∷◌, ◌++◌, [], ◌∙◌, tru
 use Rattle.wildcards.specs.declared.piece.Piece.TheVariants.{One}
 use Rattle.wildcards.specs.Match.{TakesComponent, FitsComponent}
 use Rattle.wildcards.specs.Cuts.{left_components}
-use Rattle.wildcards.proofs.Wilds.{none_last, last_one, last_alike}
+use Rattle.wildcards.proofs.lemmas.Wilds.{none_last, last_one, last_alike}
 use Rattle.wildcards.proofs.path.match_last.Goals as goal
 
 pub returns-in_default-from : goal.returns-in_default-from

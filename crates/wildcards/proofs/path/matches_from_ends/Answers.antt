@@ -1,8 +1,8 @@
 use Rattle.std.proofs.Common.{◌≡◌, ◌∷◌, [], true, false}
 use Rattle.wildcards.specs.declared.piece.Piece.TheVariants.{Many}
 use Rattle.wildcards.specs.Match.{TakesComponent, FitsComponent}
-use Rattle.wildcards.proofs.Fitting.{by_components}
-use Rattle.wildcards.proofs.Wilds.{from_many}
+use Rattle.wildcards.proofs.lemmas.Fitting.{by_components}
+use Rattle.wildcards.proofs.lemmas.Wilds.{from_many}
 use Rattle.wildcards.proofs.path.matches_from_ends.Goals as goal
 
 pub returns-in-Some : goal.returns-in-Some

@@ -2,9 +2,9 @@ use Rattle.std.proofs.Common.{◌∷◌, ◌∙◌, ap, sym, arith}
 use Rattle.std.proofs.lemmas.List.{nil_from_length}
 use Rattle.wildcards.specs.Match.{TakesComponent, FitsComponent}
 use Rattle.wildcards.specs.Cuts.{left_components, left_size}
-use Rattle.wildcards.proofs.Fitting.{by_components}
-use Rattle.wildcards.proofs.Parts.{some_component}
-use Rattle.wildcards.proofs.Wilds.{to_many, one_more, differs, left_over}
+use Rattle.wildcards.proofs.lemmas.Fitting.{by_components}
+use Rattle.wildcards.proofs.lemmas.Parts.{some_component}
+use Rattle.wildcards.proofs.lemmas.Wilds.{to_many, one_more, differs, left_over}
 use Rattle.wildcards.proofs.path.up_to_many.Goals as goal
 
 pub returns-in-Many : goal.returns-in-Many

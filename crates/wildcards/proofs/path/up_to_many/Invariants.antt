@@ -1,8 +1,8 @@
 use Rattle.std.proofs.Common.{◌≤◌, length}
 use Rattle.wildcards.specs.Match.{TakesComponent, FitsComponent}
 use Rattle.wildcards.specs.Cuts.{left_components, left_size, IsLeftFormed}
-use Rattle.wildcards.proofs.Fitting.{by_components}
-use Rattle.wildcards.proofs.Wilds.{SoFar}
+use Rattle.wildcards.proofs.lemmas.Fitting.{by_components}
+use Rattle.wildcards.proofs.lemmas.Wilds.{SoFar}
 use Rattle.wildcards.proofs.path.up_to_many.Given as goal
 
 abbrev pub invariant-loop-first : goal.invariant-loop-first

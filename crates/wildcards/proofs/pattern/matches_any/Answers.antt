@@ -1,7 +1,7 @@
 use Rattle.std.proofs.Common.{◌≡◌, ◌∙◌, true, false, refl, sym, subst}
 use Rattle.std.proofs.lemmas.List.{nil_from_length}
 use Rattle.wildcards.specs.Match.{Matches}
-use Rattle.wildcards.proofs.Hits.{first_choice, later_choice, no_choice}
+use Rattle.wildcards.proofs.lemmas.Hits.{first_choice, later_choice, no_choice}
 use Rattle.wildcards.proofs.pattern.matches_any.Goals as goal
 
 pub returns-then-matches : goal.returns-then-matches

@@ -1,7 +1,7 @@
 use Rattle.std.proofs.Common.{refl, length, ◌-◌, subst}
 use Rattle.std.proofs.lemmas.List.{nil_from_length}
 use Rattle.wildcards.specs.Filters.{IsCovered}
-use Rattle.wildcards.proofs.Covers.{covers_none, covers_one, covers_each}
+use Rattle.wildcards.proofs.lemmas.Covers.{covers_none, covers_one, covers_each}
 use Rattle.wildcards.proofs.pattern_set.add_choices.Goals as goal
 
 pub loop-first-init : goal.loop-first-init

@@ -1,5 +1,5 @@
 use Rattle.std.proofs.Common.{length}
-use Rattle.wildcards.proofs.Covers.{CoversSoFar}
+use Rattle.wildcards.proofs.lemmas.Covers.{CoversSoFar}
 use Rattle.wildcards.proofs.pattern_set.add_choices.Given as goal
 
 abbrev pub invariant-loop-first : goal.invariant-loop-first

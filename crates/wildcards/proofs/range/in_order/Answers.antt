@@ -1,7 +1,7 @@
 use Rattle.std.proofs.Common.{rules, ap, sym, subst, ◌∙◌}
 use Rattle.std.proofs.lemmas.List.Sorted.{IsNonDecreasingBy-from_sort_by_key}
 use Rattle.wildcards.specs.Ranges.{is_in, AreOrdered}
-use Rattle.wildcards.proofs.Orders.{moved, same_letters, ordered}
+use Rattle.wildcards.proofs.lemmas.Orders.{moved, same_letters, ordered}
 use Rattle.wildcards.proofs.range.in_order.Goals as goal
 
 pub returns-clause-alike : goal.returns-clause-alike

@@ -1,6 +1,6 @@
 use Rattle.std.proofs.Common.{rules, ltb, arith}
 use Rattle.std.proofs.lemmas.List.Sorted.{IsPartitionPoint-from_clause, IsPartitionedBy-ltb}
-use Rattle.wildcards.proofs.Orders.{found_at, found_nowhere}
+use Rattle.wildcards.proofs.lemmas.Orders.{found_at, found_nowhere}
 use Rattle.wildcards.proofs.range.is_in.Goals as goal
 
 pub returns-then-at-ranges : goal.returns-then-at-ranges

@@ -1,5 +1,5 @@
 use Rattle.std.proofs.Common.{◌<◌, ◌≤◌, length, arith}
-use Rattle.wildcards.proofs.Orders.{one_reached, all_reached}
+use Rattle.wildcards.proofs.lemmas.Orders.{one_reached, all_reached}
 use Rattle.wildcards.proofs.range.reaches.Goals as goal
 
 pub loop-at-preserved : goal.loop-at-preserved

@@ -1,6 +1,6 @@
 use Rattle.std.proofs.Common.{◌≡◌, ◌∷◌, ◌∙◌, true, false, not, ap, sym, subst}
 use Rattle.wildcards.specs.Match.{Fits}
-use Rattle.wildcards.proofs.Readings.{first_ascii}
+use Rattle.wildcards.proofs.lemmas.Readings.{first_ascii}
 use Rattle.wildcards.proofs.run.begins_otherwise.Goals as goal
 
 pub returns-then-byte-lt128 : goal.returns-then-byte-lt128

@@ -1,4 +1,4 @@
-use Rattle.wildcards.proofs.Readings.{ascii_step}
+use Rattle.wildcards.proofs.lemmas.Readings.{ascii_step}
 use Rattle.wildcards.proofs.run.first_letter.Goals as goal
 
 pub returns-then-first-lt128 : goal.returns-then-first-lt128

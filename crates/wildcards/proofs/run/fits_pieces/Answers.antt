@@ -1,6 +1,6 @@
 use Rattle.wildcards.specs.Match.{Fits, TakesLetter}
-use Rattle.wildcards.proofs.Fitting.{by_letters}
-use Rattle.wildcards.proofs.Wilds.{from_many}
+use Rattle.wildcards.proofs.lemmas.Fitting.{by_letters}
+use Rattle.wildcards.proofs.lemmas.Wilds.{from_many}
 use Rattle.wildcards.proofs.run.fits_pieces.Goals as goal
 
 pub returns-in-Many : goal.returns-in-Many

@@ -1,5 +1,5 @@
 use Rattle.std.proofs.lemmas.List.{nil_from_length}
-use Rattle.wildcards.proofs.Skips.{not_first, here, nowhere}
+use Rattle.wildcards.proofs.lemmas.Skips.{not_first, here, nowhere}
 use Rattle.wildcards.proofs.run.from_byte.Goals as goal
 
 pub loop-first-preserved : goal.loop-first-preserved

@@ -1,5 +1,5 @@
 use Rattle.std.proofs.Common.{length}
-use Rattle.wildcards.proofs.Skips.{NotYet}
+use Rattle.wildcards.proofs.lemmas.Skips.{NotYet}
 use Rattle.wildcards.proofs.run.from_byte.Given as goal
 
 abbrev pub invariant-loop-first : goal.invariant-loop-first

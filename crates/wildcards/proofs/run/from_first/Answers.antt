@@ -1,7 +1,7 @@
 use Rattle.std.proofs.Common.{◌∷◌, ◌∙◌, ap, sym, subst, arith}
 use Rattle.wildcards.specs.declared.piece.Piece.TheVariants.{One}
 use Rattle.wildcards.specs.Steps.{SkipsTo}
-use Rattle.wildcards.proofs.Skips.{skips_to}
+use Rattle.wildcards.proofs.lemmas.Skips.{skips_to}
 use Rattle.wildcards.proofs.run.from_first.Goals as goal
 
 pub returns : goal.returns

@@ -2,8 +2,8 @@ use Rattle.std.proofs.Common.{◌≡◌, ◌∙◌, false, true, refl, sym}
 use Rattle.std.proofs.lemmas.Bool.{eqb-true}
 use Rattle.std.proofs.lemmas.List.{nil_from_length}
 use Rattle.wildcards.specs.Match.{Fits, TakesLetter}
-use Rattle.wildcards.proofs.Fitting.{by_letters, letter_taken}
-use Rattle.wildcards.proofs.Wilds.{takes_rest, skipped_after, all_after, next_many, none_after, next_place}
+use Rattle.wildcards.proofs.lemmas.Fitting.{by_letters, letter_taken}
+use Rattle.wildcards.proofs.lemmas.Wilds.{takes_rest, skipped_after, all_after, next_many, none_after, next_place}
 use Rattle.wildcards.proofs.run.is_after_many.Goals as goal
 
 pub returns-then-is_empty : goal.returns-then-is_empty

@@ -1,7 +1,7 @@
 use Rattle.std.proofs.Common.{◌+◌, length}
 use Rattle.wildcards.specs.Match.{Fits, TakesLetter}
-use Rattle.wildcards.proofs.Wilds.{After}
-use Rattle.wildcards.proofs.Fitting.{by_letters}
+use Rattle.wildcards.proofs.lemmas.Wilds.{After}
+use Rattle.wildcards.proofs.lemmas.Fitting.{by_letters}
 use Rattle.wildcards.proofs.run.is_after_many.Given as goal
 
 abbrev pub invariant-loop-left : goal.invariant-loop-left

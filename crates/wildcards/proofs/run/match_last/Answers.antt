@@ -1,8 +1,8 @@
 use Rattle.std.proofs.Common.{◌≡◌, ◌∷◌, ◌++◌, [], ◌∙◌, true, false, ap, sym, subst}
 use Rattle.std.proofs.lemmas.List.{nil_from_length}
 use Rattle.wildcards.specs.Match.{Fits, TakesLetter}
-use Rattle.wildcards.proofs.Readings.{no_letters, last_ascii}
-use Rattle.wildcards.proofs.Wilds.{none_last, last_one, last_alike}
+use Rattle.wildcards.proofs.lemmas.Readings.{no_letters, last_ascii}
+use Rattle.wildcards.proofs.lemmas.Wilds.{none_last, last_one, last_alike}
 use Rattle.wildcards.proofs.run.match_last.Goals as goal
 
 pub returns-in_default-split_last : goal.returns-in_default-split_last

@@ -1,9 +1,9 @@
 use Rattle.std.proofs.Common.{◌∷◌, ◌∙◌, ap, arith, length, sym, ◌==◌, ◌≡◌, true, false}
 use Rattle.std.proofs.lemmas.List.{nil_from_length}
 use Rattle.wildcards.specs.Match.{Fits, TakesLetter}
-use Rattle.wildcards.proofs.Readings.{nothing_read}
-use Rattle.wildcards.proofs.Fitting.{by_letters}
-use Rattle.wildcards.proofs.Wilds.{to_many, one_more, left_over}
+use Rattle.wildcards.proofs.lemmas.Readings.{nothing_read}
+use Rattle.wildcards.proofs.lemmas.Fitting.{by_letters}
+use Rattle.wildcards.proofs.lemmas.Wilds.{to_many, one_more, left_over}
 use Rattle.wildcards.proofs.run.up_to_many.Goals as goal
 
 pub returns-in-Many : goal.returns-in-Many

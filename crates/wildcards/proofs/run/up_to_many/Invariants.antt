@@ -1,7 +1,7 @@
 use Rattle.std.proofs.Common.{◌≤◌, length}
 use Rattle.wildcards.specs.Match.{Fits, TakesLetter}
-use Rattle.wildcards.proofs.Wilds.{SoFar}
-use Rattle.wildcards.proofs.Fitting.{by_letters}
+use Rattle.wildcards.proofs.lemmas.Wilds.{SoFar}
+use Rattle.wildcards.proofs.lemmas.Fitting.{by_letters}
 use Rattle.wildcards.proofs.run.up_to_many.Given as goal
 
 abbrev pub invariant-loop-first : goal.invariant-loop-first

@@ -3,7 +3,7 @@ use Rattle.std.proofs.lemmas.Bool.{eqb-true}
 use Rattle.std.proofs.lemmas.List.{nil_from_length}
 use Rattle.wildcards.specs.Candidates.{comes_again, left_keys, slot_in}
 use Rattle.wildcards.specs.Tables.{places_at, bucket}
-use Rattle.wildcards.proofs.Queries.{none_asked}
+use Rattle.wildcards.proofs.lemmas.Queries.{none_asked}
 use Rattle.wildcards.proofs.candidates.Query.asked.Goals as goal
 
 pub returns-then-is_empty : goal.returns-then-is_empty

@@ -3,8 +3,8 @@ use Rattle.wildcards.specs.Filters.{Asks}
 use Rattle.wildcards.specs.Keys.{IsNeeded}
 use Rattle.wildcards.specs.Sets.{Has}
 use Rattle.wildcards.specs.Tables.{bucket}
-use Rattle.wildcards.proofs.Found.{has_pushed}
-use Rattle.wildcards.proofs.Covers.{more_others, listed_covered, grows_on}
+use Rattle.wildcards.proofs.lemmas.Found.{has_pushed}
+use Rattle.wildcards.proofs.lemmas.Covers.{more_others, listed_covered, grows_on}
 use Rattle.wildcards.proofs.filter.Filter.add.Goals as goal
 
 pub returns-in_default-clause-covered : goal.returns-in_default-clause-covered

@@ -1,7 +1,7 @@
 use Rattle.std.proofs.Common.{◌<◌, ◌∙◌, ◌∷◌, ◌++◌, [], inl, inr, length, refl, ap, sym, subst, arith}
 use Rattle.wildcards.specs.Sets.{Has}
-use Rattle.wildcards.proofs.Found.{has_pushed}
-use Rattle.wildcards.proofs.Covers.{more_others, more_listed, pushed_all, pushed_one}
+use Rattle.wildcards.proofs.lemmas.Found.{has_pushed}
+use Rattle.wildcards.proofs.lemmas.Covers.{more_others, more_listed, pushed_all, pushed_one}
 use Rattle.wildcards.proofs.filter.Filter.list.Goals as goal
 
 pub returns-then-slot-len-clause-listed : goal.returns-then-slot-len-clause-listed

@@ -1,7 +1,7 @@
 use Rattle.std.proofs.Common.{sym, subst}
 use Rattle.wildcards.specs.Sets.{Has}
-use Rattle.wildcards.proofs.Found.{has_pushed}
-use Rattle.wildcards.proofs.Covers.{asks_suffix, more_lengths}
+use Rattle.wildcards.proofs.lemmas.Found.{has_pushed}
+use Rattle.wildcards.proofs.lemmas.Covers.{asks_suffix, more_lengths}
 use Rattle.wildcards.proofs.filter.Filter.note.Goals as goal
 
 pub returns-in_ok-push-in-Suffix-clause-asked : goal.returns-in_ok-push-in-Suffix-clause-asked

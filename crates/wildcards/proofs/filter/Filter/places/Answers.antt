@@ -1,6 +1,6 @@
 use Rattle.std.proofs.Common.{◌≤◌, ◌<◌, ◌∙◌, length, ap, sym, arith}
 use Rattle.wildcards.specs.Tables.{places_at}
-use Rattle.wildcards.proofs.Covers.{at_slot, past_slots}
+use Rattle.wildcards.proofs.lemmas.Covers.{at_slot, past_slots}
 use Rattle.wildcards.proofs.filter.Filter.places.Goals as goal
 
 pub returns-then-slot-buckets : goal.returns-then-slot-buckets

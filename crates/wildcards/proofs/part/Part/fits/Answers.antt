@@ -1,6 +1,6 @@
 use Rattle.std.proofs.Common.{◌≡◌, ◌∙◌, true, ap, sym}
 use Rattle.wildcards.specs.Literals.{spells_some}
-use Rattle.wildcards.proofs.Literals.{literal_fits, bytes_alike}
+use Rattle.wildcards.proofs.lemmas.Literals.{literal_fits, bytes_alike}
 use Rattle.wildcards.proofs.part.Part.fits.Goals as goal
 
 pub returns-in-Some : goal.returns-in-Some

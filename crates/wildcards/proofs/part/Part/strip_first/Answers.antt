@@ -1,9 +1,9 @@
 use Rattle.std.proofs.Common.{◌≡◌, ◌∙◌, true, ap, sym, subst}
 use Rattle.wildcards.specs.Literals.{spells, spells_some}
 use Rattle.wildcards.specs.Cuts.{IsPlain}
-use Rattle.wildcards.proofs.Beginnings.{text_says}
+use Rattle.wildcards.proofs.lemmas.Beginnings.{text_says}
 use Rattle.wildcards.specs.Ends.{BeginsOtherwise}
-use Rattle.wildcards.proofs.Ends.{first_differs}
+use Rattle.wildcards.proofs.lemmas.Ends.{first_differs}
 use Rattle.wildcards.proofs.part.Part.strip_first.Goals as goal
 
 pub returns-in-Some : goal.returns-in-Some

@@ -1,5 +1,5 @@
 use Rattle.std.proofs.Common.{◌≡◌, ◌∙◌, true, false, sym}
-use Rattle.wildcards.proofs.Adding.{one_added, one_passed}
+use Rattle.wildcards.proofs.lemmas.Adding.{one_added, one_passed}
 use Rattle.wildcards.proofs.pattern_set.PatternSet.add_hits.Goals as goal
 
 pub loop-place-preserved : goal.loop-place-preserved

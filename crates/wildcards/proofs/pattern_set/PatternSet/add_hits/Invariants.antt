@@ -1,5 +1,5 @@
 use Rattle.std.proofs.Common.{length}
-use Rattle.wildcards.proofs.Adding.{Adding}
+use Rattle.wildcards.proofs.lemmas.Adding.{Adding}
 use Rattle.wildcards.proofs.pattern_set.PatternSet.add_hits.Given as goal
 
 abbrev pub invariant-loop-place : goal.invariant-loop-place

@@ -1,8 +1,8 @@
 use Rattle.std.proofs.Common.{◌∙◌, refl, sym, ap, subst}
 use Rattle.wildcards.specs.Candidates.{all_lists, key_lists, path_keys}
 use Rattle.wildcards.specs.Filters.{AddsHits}
-use Rattle.wildcards.proofs.Adding.{none_found, list_found, all_found}
-use Rattle.wildcards.proofs.Queries.{of_hit}
+use Rattle.wildcards.proofs.lemmas.Adding.{none_found, list_found, all_found}
+use Rattle.wildcards.proofs.lemmas.Queries.{of_hit}
 use Rattle.wildcards.proofs.pattern_set.PatternSet.add_matches.Goals as goal
 
 pub loop-places-init : goal.loop-places-init

@@ -1,6 +1,6 @@
 use Rattle.std.proofs.Common.{length}
 use Rattle.wildcards.specs.Candidates.{left_keys, key_lists, all_lists}
-use Rattle.wildcards.proofs.Adding.{Finding}
+use Rattle.wildcards.proofs.lemmas.Adding.{Finding}
 use Rattle.wildcards.proofs.pattern_set.PatternSet.add_matches.Given as goal
 
 abbrev pub invariant-loop-places : goal.invariant-loop-places

@@ -1,6 +1,6 @@
 use Rattle.std.proofs.Common.{◌≡◌, ◌∙◌, true, false, sym}
 use Rattle.wildcards.specs.Filters.{IsHitAt}
-use Rattle.wildcards.proofs.Adding.{not_first}
+use Rattle.wildcards.proofs.lemmas.Adding.{not_first}
 use Rattle.wildcards.proofs.pattern_set.PatternSet.any_hit.Goals as goal
 
 pub returns-then-is_hit-clause-sound : goal.returns-then-is_hit-clause-sound

@@ -1,8 +1,8 @@
 use Rattle.std.proofs.Common.{subst}
 use Rattle.std.specs.Prelude.{MatchOption}
 use Rattle.wildcards.specs.Enough.{HasText}
-use Rattle.wildcards.proofs.AnyWith.{enough_hits}
-use Rattle.wildcards.proofs.Hits.{hit_of_place}
+use Rattle.wildcards.proofs.lemmas.AnyWith.{enough_hits}
+use Rattle.wildcards.proofs.lemmas.Hits.{hit_of_place}
 use Rattle.wildcards.proofs.pattern_set.PatternSet.is_hit.Goals as goal
 
 pub returns-then-is_text-clause-sound : goal.returns-then-is_text-clause-sound

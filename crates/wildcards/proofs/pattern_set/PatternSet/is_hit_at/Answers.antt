@@ -1,7 +1,7 @@
 use Rattle.std.proofs.Common.{◌<◌, ◌∙◌, length, ap, sym, subst, arith}
 use Rattle.std.specs.Prelude.{slice_index_or}
 use Rattle.wildcards.specs.Match.{Matches}
-use Rattle.wildcards.proofs.Hits.{at_place}
+use Rattle.wildcards.proofs.lemmas.Hits.{at_place}
 use Rattle.wildcards.proofs.pattern_set.PatternSet.is_hit_at.Goals as goal
 
 pub returns-then-place-choices : goal.returns-then-place-choices

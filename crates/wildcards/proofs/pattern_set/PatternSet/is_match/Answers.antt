@@ -2,8 +2,8 @@ use Rattle.std.proofs.Common.{◌≡◌, ◌∙◌, true, false, refl, sym, ap, 
 use Rattle.wildcards.specs.Candidates.{OneHas, key_lists}
 use Rattle.wildcards.specs.Filters.{IsHitAt}
 use Rattle.wildcards.specs.Sets.{Has}
-use Rattle.wildcards.proofs.Adding.{not_first_list}
-use Rattle.wildcards.proofs.Queries.{of_hit}
+use Rattle.wildcards.proofs.lemmas.Adding.{not_first_list}
+use Rattle.wildcards.proofs.lemmas.Queries.{of_hit}
 use Rattle.wildcards.proofs.pattern_set.PatternSet.is_match.Goals as goal
 
 pub returns-then-any_hit : goal.returns-then-any_hit

@@ -1,7 +1,7 @@
 use Rattle.std.proofs.Common.{subst, sym}
 use Rattle.std.proofs.lemmas.List.Filters.{dedup_is}
 use Rattle.wildcards.specs.Sets.{AreHits}
-use Rattle.wildcards.proofs.Found.{in_order}
+use Rattle.wildcards.proofs.lemmas.Found.{in_order}
 use Rattle.wildcards.proofs.pattern_set.PatternSet.matches.Goals as goal
 
 pub returns-in-Ok-clause-hits : goal.returns-in-Ok-clause-hits

@@ -2,8 +2,8 @@ use Rattle.std.proofs.Common.{◌<◌, ◌∷◌, [], length, ap, subst, arith, 
 use Rattle.std.specs.Prelude.{IfSome}
 use Rattle.wildcards.specs.Enough.{IsEnough}
 use Rattle.wildcards.specs.Filters.{AreCovered}
-use Rattle.wildcards.proofs.AnyWith.{one_enough}
-use Rattle.wildcards.proofs.Covers.{covers_next, covers_all}
+use Rattle.wildcards.proofs.lemmas.AnyWith.{one_enough}
+use Rattle.wildcards.proofs.lemmas.Covers.{covers_next, covers_all}
 use Rattle.wildcards.proofs.pattern_set.PatternSet.new.Goals as goal
 
 pub loop-at-preserved : goal.loop-at-preserved

@@ -13,9 +13,9 @@ use Rattle.wildcards.specs.Ends.{BeginsOtherwise, EndsOtherwise}
 use Rattle.wildcards.specs.Match.{Fits, TakesLetter, TakesComponent, FitsComponent, Matches}
 use Rattle.wildcards.specs.PathSteps.{FirstDiffers}
 use Rattle.wildcards.specs.Wild.{Wild}
-use Rattle.wildcards.proofs.Fitting.{by_letters}
-use Rattle.wildcards.proofs.Parts.{split_append, some_component, last_ends}
-use Rattle.wildcards.proofs.Wilds.{no_place, one_place, none_last, last_one}
+use Rattle.wildcards.proofs.lemmas.Fitting.{by_letters}
+use Rattle.wildcards.proofs.lemmas.Parts.{split_append, some_component, last_ends}
+use Rattle.wildcards.proofs.lemmas.Wilds.{no_place, one_place, none_last, last_one}
 
 module _ (formed : List ℕ → Type 0) (letters : List ℕ → List ℕ) {A : Type 0} (o : Options) (part : Part A) (path : List ℕ) (h : BeginsOtherwise part.pieces.items (letters path)) where
   abbrev s : Separators

@@ -27,9 +27,9 @@ use Rattle.wildcards.specs.Match.{Matches}
 use Rattle.wildcards.specs.Reading.{LetterLaws}
 use Rattle.wildcards.specs.Sets.{Has, MatchesChoice, IsHit}
 use Rattle.wildcards.specs.Tables.{places_at, bucket}
-use Rattle.wildcards.proofs.Extensions.{has_dot, one_extension}
-use Rattle.wildcards.proofs.Parts.{one_component, first_component}
-use Rattle.wildcards.proofs.Readings.{whole, first_of, cut_letters}
+use Rattle.wildcards.proofs.lemmas.Extensions.{has_dot, one_extension}
+use Rattle.wildcards.proofs.lemmas.Parts.{one_component, first_component}
+use Rattle.wildcards.proofs.lemmas.Readings.{whole, first_of, cut_letters}
 
 -- a list is cut at its first separator, or has none
 pub record FirstCut (o : Separators) (s : List ℕ) : Type 0 where

@@ -17,7 +17,7 @@ use Rattle.wildcards.specs.Filters.{Asks, IsCovered, Grows, AreCovered, CoversBe
 use Rattle.wildcards.specs.Keys.{IsNeeded}
 use Rattle.wildcards.specs.Sets.{Has}
 use Rattle.wildcards.specs.Tables.{slot_of, places_at, bucket}
-use Rattle.wildcards.proofs.Found.{has_more, has_pushed}
+use Rattle.wildcards.proofs.lemmas.Found.{has_more, has_pushed}
 
 module _ {A : Type 0} where
   pub at_slot : (bs : List (Vec Place A)) (slot : ℕ) (d : Vec Place A) → slot < length bs → places_at bs slot ≡ (get_or bs slot d).items

@@ -8,7 +8,7 @@ use Rattle.wildcards.specs.declared.separators.Separators.TheVariants as separat
 use Rattle.wildcards.specs.Components.{separates, components, is_hidden}
 use Rattle.wildcards.specs.Cuts.{IsPlain, IsCut}
 use Rattle.wildcards.specs.Reading.{LetterLaws, IsFirstLetter}
-use Rattle.wildcards.proofs.Parts.{one_component, first_component, last_of_cut}
+use Rattle.wildcards.proofs.lemmas.Parts.{one_component, first_component, last_of_cut}
 
 -- a separator is ASCII
 pub separator_ascii : (o : Separators) (b : ℕ) → separates o b ≡ true → b < 0x80

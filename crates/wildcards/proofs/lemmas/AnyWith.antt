@@ -19,8 +19,8 @@ use Rattle.wildcards.specs.Match.{Fits, TakesLetter, TakesComponent, Matches}
 use Rattle.wildcards.specs.Reading.{LetterLaws}
 use Rattle.wildcards.specs.Sets.{MatchesChoice, IsHit}
 use Rattle.wildcards.specs.Wild.{Wild}
-use Rattle.wildcards.proofs.Literals.{spelled_ascii, matches_itself}
-use Rattle.wildcards.proofs.Queries.{either_true, read_parts}
+use Rattle.wildcards.proofs.lemmas.Literals.{spelled_ascii, matches_itself}
+use Rattle.wildcards.proofs.lemmas.Queries.{either_true, read_parts}
 
 from_either : {P Q R : Type 0} → P ⊎ Q → (P → R) → (Q → R) → R
 from_either (inl p) f g = f p

@@ -6,7 +6,7 @@ use Rattle.wildcards.specs.declared.set.Pattern.{Pattern}
 use Rattle.wildcards.specs.Candidates.{OneHas}
 use Rattle.wildcards.specs.Filters.{AddsHits, IsHitAt}
 use Rattle.wildcards.specs.Sets.{Has, IsHit, AreFound}
-use Rattle.wildcards.proofs.Found.{has_or_not, has_more, has_pushed, has_either}
+use Rattle.wildcards.proofs.lemmas.Found.{has_or_not, has_more, has_pushed, has_either}
 
 module _ {X : Type 0} (P : X → Type 0) where
   pub not_first : (left rest : List X) (x : X) → left ≡ x ∷ rest → (P x → ⊥) → (i : X) → P i → Has left i → Has rest i

@@ -9,9 +9,9 @@ use Rattle.wildcards.specs.Match.{Fits, TakesLetter}
 use Rattle.wildcards.specs.Reading.{LetterLaws}
 use Rattle.wildcards.specs.Steps.{StartsWith, IsFromByte, SkipsTo}
 use Rattle.wildcards.specs.Wild.{Wild}
-use Rattle.wildcards.proofs.Fitting.{by_letters, letter_taken}
-use Rattle.wildcards.proofs.Readings.{no_letters, first_ascii}
-use Rattle.wildcards.proofs.Wilds.{run_cases, one_place, longer_run, all_taken}
+use Rattle.wildcards.proofs.lemmas.Fitting.{by_letters, letter_taken}
+use Rattle.wildcards.proofs.lemmas.Readings.{no_letters, first_ascii}
+use Rattle.wildcards.proofs.lemmas.Wilds.{run_cases, one_place, longer_run, all_taken}
 
 -- none of them is this
 abbrev pub HasNone : ℕ → List ℕ → Type 0

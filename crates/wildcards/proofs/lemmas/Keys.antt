@@ -19,9 +19,9 @@ use Rattle.wildcards.specs.Keys.{IsNeeded, IsOfEnd, AreTexts, AreJoinedTexts, jo
 use Rattle.wildcards.specs.Literals.{spells, spells_some}
 use Rattle.wildcards.specs.Match.{Fits, TakesLetter, TakesComponent, FitsComponent, MatchesParts, Matches}
 use Rattle.wildcards.specs.Wild.{Wild}
-use Rattle.wildcards.proofs.Literals.{only_text, spelled_ascii}
-use Rattle.wildcards.proofs.Parts.{one_component}
-use Rattle.wildcards.proofs.Wilds.{rest_matches}
+use Rattle.wildcards.proofs.lemmas.Literals.{only_text, spelled_ascii}
+use Rattle.wildcards.proofs.lemmas.Parts.{one_component}
+use Rattle.wildcards.proofs.lemmas.Wilds.{rest_matches}
 
 -- the texts that are left, each after a separator unless it is the first
 abbrev pub joined_left : Bool → List (List ℕ) → List ℕ

@@ -8,7 +8,7 @@ use Rattle.wildcards.specs.declared.separators.Separators.TheVariants as separat
 use Rattle.wildcards.specs.Components.{components, separates}
 use Rattle.wildcards.specs.Cuts.{IsPlain}
 use Rattle.wildcards.specs.Extensions.{LacksDot, IsExtension, LacksExtension}
-use Rattle.wildcards.proofs.Parts.{one_component, last_of_cut, last_ends}
+use Rattle.wildcards.proofs.lemmas.Parts.{one_component, last_of_cut, last_ends}
 
 dot_plain : (o : Separators) → separates o 0x2E ≡ false
 dot_plain separators.None = refl

@@ -15,9 +15,9 @@ use Rattle.wildcards.specs.Literals.{spells}
 use Rattle.wildcards.specs.Match.{FitsComponent}
 use Rattle.wildcards.specs.PathSteps.{FirstFits, FirstDiffers}
 use Rattle.wildcards.specs.Reading.{LetterLaws}
-use Rattle.wildcards.proofs.Literals.{bytes_alike, literal_fits}
-use Rattle.wildcards.proofs.Queries.{FirstCut, first_cut}
-use Rattle.wildcards.proofs.Readings.{first_of, whole, cut_letters}
+use Rattle.wildcards.proofs.lemmas.Literals.{bytes_alike, literal_fits}
+use Rattle.wildcards.proofs.lemmas.Queries.{FirstCut, first_cut}
+use Rattle.wildcards.proofs.lemmas.Readings.{first_of, whole, cut_letters}
 
 -- what separates nothing where both separate, separates nothing elsewhere
 pub never_separates : (o : Separators) (b : ℕ) → separates separators.SlashAndBackslash b ≡ false → separates o b ≡ false
