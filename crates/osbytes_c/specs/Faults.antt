@@ -10,8 +10,8 @@ use Rattle.wtf8_core.specs.declared.checker.SavedChecker.{SavedChecker}
 use Rattle.wtf8_core.specs.declared.fault.EncodingError.{EncodingError}
 use Rattle.wtf8_core.specs.declared.fault.EncodingError.TheVariants.{Byte, CodePoint, End, Utf8}
 use Rattle.wtf8_core.specs.FaultText.{fault_text}
-use Rattle.osbytes_c.specs.declared.fault.Fault.{Fault}
-use Rattle.osbytes_c.specs.declared.checker.Open.{Open}
+use Rattle.osbytes_c.specs.declared.strings.fault.Fault.{Fault}
+use Rattle.osbytes_c.specs.declared.strings.checker.Open.{Open}
 
 -- the number of a fault's kind
 abbrev pub kind_of : EncodingError → ℕ

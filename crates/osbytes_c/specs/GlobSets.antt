@@ -6,9 +6,9 @@ use Rattle.wildcards.specs.declared.options.Options.{Options}
 use Rattle.wildcards.specs.declared.set.Pattern.{Pattern}
 use Rattle.glob_patterns.specs.declared.options.GlobOptions.{GlobOptions}
 use Rattle.osbytes_c.specs.declared.globs.Refusal.{Refusal}
-use Rattle.osbytes_c.specs.declared.glob_sets.Globs.{Globs}
-use Rattle.osbytes_c.specs.declared.glob_sets.PlatformGlobs.{PlatformGlobs}
-use Rattle.osbytes_c.specs.declared.glob_sets.PlatformGlobs.TheVariants.{Unix, Windows, Wasm}
+use Rattle.osbytes_c.specs.declared.globs.sets.Globs.{Globs}
+use Rattle.osbytes_c.specs.declared.globs.sets.PlatformGlobs.{PlatformGlobs}
+use Rattle.osbytes_c.specs.declared.globs.sets.PlatformGlobs.TheVariants.{Unix, Windows, Wasm}
 use Rattle.osbytes_c.specs.Globs.{AreCompiled, AreNamesTold, IsListRefusal, IsMatched}
 use Rattle.osbytes_c.specs.ItemLists.{HasOther}
 use Rattle.osbytes_c.specs.Platforms.{formed_on, units_on}

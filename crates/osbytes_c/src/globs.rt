@@ -1,4 +1,6 @@
 //! Which paths of a list a pattern of another list matches.
+//!
+//! [`sets`] compiles sets of patterns, which C keeps in one of its [`places`].
 ghost use Rattle.std.specs.Prelude.{◌≡◌, ◌<◌, ◌↔◌, ◌∷◌, [], map, MatchOption, MatchResult};
 ghost use Rattle.std.specs.List.{AllByRecursion};
 ghost use Rattle.platform_str.specs.Strings.{bytes};
@@ -6,6 +8,9 @@ ghost use Rattle.osbytes_c.specs.Answers.{IsOneOf, IsWritten};
 ghost use Rattle.osbytes_c.specs.Globs.{AreCompiled, AreMatchesTold, AreNamesTold, AreNoOptions, HasUnstring, IsGlobFault, IsListRefusal, IsMatched, IsNoSet, IsRefusal, IsTold, fault_number, glob_options};
 ghost use Rattle.osbytes_c.specs.ItemLists.{AreItems};
 ghost use Rattle.osbytes_c.specs.Platforms.{formed_on, units_on};
+
+pub mod places;
+pub mod sets;
 
 use crate::built::write_list;
 use crate::item_list::first_item;

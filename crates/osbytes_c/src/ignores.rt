@@ -1,8 +1,13 @@
 //! Which line of an ignore file decides each path of a list.
+//!
+//! [`sets`] reads ignore files of several directories, which C keeps in one of its [`places`].
 ghost use Rattle.std.specs.Prelude.{◌≡◌, ◌≢◌, ◌↔◌, ◌+◌, ◌<◌, ◌^◌, ◌∷◌, [], length, true, get_or};
 ghost use Rattle.os_ignore.specs.Ignores.{files_of};
 ghost use Rattle.osbytes_c.specs.Answers.{IsDone, IsOneOf};
 ghost use Rattle.osbytes_c.specs.Ignores.{AreToldIn, IsIgnoreTold, PushesTold, Tells};
+
+pub mod places;
+pub mod sets;
 
 use crate::item_list::first_item;
 use crate::status::{NO_MEMORY, fits};

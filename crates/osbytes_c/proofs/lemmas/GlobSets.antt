@@ -7,9 +7,9 @@ use Rattle.wildcards.specs.declared.options.Options.{Options}
 use Rattle.wildcards.specs.declared.set.Pattern.{Pattern}
 use Rattle.glob_patterns.specs.declared.options.GlobOptions.{GlobOptions}
 use Rattle.osbytes_c.specs.declared.globs.GlobFault.{GlobFault}
-use Rattle.osbytes_c.specs.declared.glob_sets.Globs.{Globs}
-use Rattle.osbytes_c.specs.declared.glob_sets.PlatformGlobs.{PlatformGlobs}
-use Rattle.osbytes_c.specs.declared.glob_sets.PlatformGlobs.TheVariants.{Unix, Windows, Wasm}
+use Rattle.osbytes_c.specs.declared.globs.sets.Globs.{Globs}
+use Rattle.osbytes_c.specs.declared.globs.sets.PlatformGlobs.{PlatformGlobs}
+use Rattle.osbytes_c.specs.declared.globs.sets.PlatformGlobs.TheVariants.{Unix, Windows, Wasm}
 use Rattle.osbytes_c.specs.Globs.{AreCompiled, AreMatchesTold, AreNamesTold, IsGlobFault}
 use Rattle.osbytes_c.specs.GlobSets.{AreToldBy, AreToldOn, IsAnswer, IsAnswerOf, IsAsked, IsMade, IsSetOf}
 use Rattle.osbytes_c.specs.ItemLists.{HasOther}
