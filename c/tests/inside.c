@@ -1,7 +1,7 @@
 /* The edge with what its tests reach only from inside: sums of lengths that no program has memory for.
  * OSB_EDGE is the edge's file. */
 #ifndef OSB_EDGE
-#define OSB_EDGE "osbytes.c"
+#define OSB_EDGE "../src/osbytes.c"
 #endif
 #include OSB_EDGE
 
