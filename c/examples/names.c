@@ -5,9 +5,10 @@
 #include <string.h>
 
 int main(int count, char **words) {
-    const char *pattern = count > 2 ? words[2] : "*";
+    const char *given = count > 2 ? words[2] : "*";
+    const osb_view pattern = {given, strlen(given)};
     osb_globs *globs;
-    osb_status status = osb_globs_new(OSB_UNIX, OSB_GLOB_SLASH, pattern, strlen(pattern), &globs, NULL);
+    osb_status status = osb_globs_new(OSB_UNIX, OSB_GLOB_SLASH, &pattern, 1, &globs, NULL);
     if (status != OSB_OK) return fprintf(stderr, "%s\n", osb_status_text(status)), 2;
     DIR *folder = opendir(count > 1 ? words[1] : ".");
     struct dirent *entry;

@@ -46,10 +46,20 @@
  *     if (found < 0) fputs(osb_status_text((osb_status)-found), stderr);
  *     else if (found) puts("it has two dots");
  *
- * Lists. Words are an array of osb_view. Patterns and paths are one text in which a 0 byte comes
- * after each item, as `find -print0` writes them; the last may lack it, as in "*.c\0*.h". What is
- * written as a list goes into an array of the caller's, or for words of a line into a buffer with a
- * 0 after each. Iterators return their items one by one (_next), or many at once (_fill).
+ * Lists. A list that a call reads is an array of osb_view and how many there are: patterns, paths,
+ * words. What a call writes for each item goes into an array of the caller's with as many items. A
+ * text in which a 0 ends each item, as `find -print0` and `git ls-files -z` write it, is cut into views
+ * by osb_split_start with the pattern "\0", of 1 byte, and osb_split_fill; the last 0 is left off:
+ *
+ *     osb_view paths[256];
+ *     bool matched[256];
+ *     osb_split split;
+ *     osb_status status = len == 0 ? OSB_ENDED : osb_split_start(&split, text, len - 1, "\0", 1);
+ *     while (status == OSB_OK && (status = osb_split_fill(&split, paths, 256, &count)) == OSB_OK)
+ *         status = osb_globs_matches(globs, paths, count, matched);
+ *
+ * What else is written as a list goes into an array of the caller's, or for words of a line into a
+ * buffer with a 0 after each. Iterators return their items one by one (_next), or many at once (_fill).
  *
  * Threads and signals. No call keeps state or writes anything but what its arguments say. So every
  * call may run in any thread, if no other thread writes to what it reads or touches what it writes.
@@ -536,36 +546,35 @@ typedef struct osb_glob_fault {
     osb_glob_fault_kind kind;
 } osb_glob_fault;
 
-/* Writes for each path of a list whether one of the patterns of another list matches it: 1, or else 0. In
- * both lists a 0 byte comes after each item, which the last may lack, as in "*.c\0*.h". OSB_OK, OSB_NO_ROOM,
- * OSB_NO_MEMORY, OSB_BAD_PATTERN, OSB_FAULTY (a pattern isn't a string of the platform; or the patterns have
- * no fault, and a path isn't one), OSB_BAD_OPTION, OSB_BAD_PLATFORM. `*count` is the number of paths. The
+/* Writes for each path whether one of the patterns matches it, in `matched`, which has as many items as
+ * there are paths: OSB_OK, OSB_NO_MEMORY, OSB_BAD_PATTERN, OSB_FAULTY (a pattern isn't a string of the
+ * platform; or the patterns have no fault, and a path isn't one), OSB_BAD_OPTION, OSB_BAD_PLATFORM. The
  * patterns are compiled in each call: osb_globs_new keeps them compiled. `fault` may be null; it is written
  * with OSB_BAD_PATTERN. */
 OSB_NODISCARD osb_status osb_glob_matches(osb_platform platform, uint32_t options,
-                                          const char *patterns, size_t patterns_len,
-                                          const char *paths, size_t paths_len, uint8_t *matched,
-                                          size_t room, size_t *count, osb_glob_fault *fault);
+                                          const osb_view *patterns, size_t patterns_len,
+                                          const osb_view *paths, size_t paths_len, bool *matched,
+                                          osb_glob_fault *fault);
 
 /* A set of patterns that is compiled once. It has memory of malloc's from osb_globs_new or osb_globs_share
  * to osb_globs_free. One call at a time may use a set: of two threads each takes its own by osb_globs_share,
  * or they take turns. Sets that share their patterns may be used at once. */
 typedef struct osb_globs osb_globs;
 
-/* Compiles the patterns of a list, and keeps them in `*globs`, which has to be freed: OSB_OK, OSB_NO_MEMORY,
+/* Compiles patterns, and keeps them in `*globs`, which has to be freed: OSB_OK, OSB_NO_MEMORY,
  * OSB_BAD_PATTERN, OSB_FAULTY (a pattern isn't a string of the platform), OSB_BAD_OPTION, OSB_BAD_PLATFORM.
  * With any but OSB_OK nothing is kept, and `*globs` stays as it is. Without patterns nothing matches.
  * `fault` may be null; it is written with OSB_BAD_PATTERN. */
 OSB_NODISCARD osb_status osb_globs_new(osb_platform platform, uint32_t options,
-                                       const char *patterns, size_t patterns_len,
-                                       osb_globs **globs, osb_glob_fault *fault);
+                                       const osb_view *patterns, size_t len, osb_globs **globs,
+                                       osb_glob_fault *fault);
 /* Whether one of the patterns of a set matches a path: 1, 0, -OSB_FAULTY (it isn't a string of the set's
  * platform). It takes no memory. */
 OSB_NODISCARD int osb_globs_is_match(osb_globs *globs, const char *path, size_t len);
-/* Writes for each path of a list whether one of the patterns of a set matches it, as osb_glob_matches does:
- * OSB_OK, OSB_NO_ROOM, OSB_NO_MEMORY, OSB_FAULTY. */
-OSB_NODISCARD osb_status osb_globs_matches(osb_globs *globs, const char *paths, size_t paths_len,
-                                           uint8_t *matched, size_t room, size_t *count);
+/* Writes for each path whether one of the patterns of a set matches it, as osb_glob_matches does: OSB_OK,
+ * OSB_NO_MEMORY, OSB_FAULTY (a path isn't a string of the set's platform). */
+OSB_NODISCARD osb_status osb_globs_matches(osb_globs *globs, const osb_view *paths, size_t len,
+                                           bool *matched);
 /* Makes another set with the same compiled patterns, for another thread, which has to be freed, too: OSB_OK,
  * OSB_NO_MEMORY. The patterns are kept until the last set that has them is freed. */
 OSB_NODISCARD osb_status osb_globs_share(osb_globs *globs, osb_globs **other);
@@ -584,13 +593,13 @@ typedef struct osb_verdict {
     size_t line; /* which line says it, from 1; 0 if none does */
 } osb_verdict;
 
-/* Writes the verdict of a file .gitignore at the top of a tree on each path of a list, as git does: OSB_OK,
- * OSB_NO_ROOM, OSB_NO_MEMORY. No line is a fault. Paths are bytes from the top of the tree, with a 0 after
- * each, which the last may lack. A path is a directory if its byte of `dirs`, which may be fewer, isn't 0.
- * `room` and `*count` count paths. The lines are compiled in each call, so pass many paths at once. */
-OSB_NODISCARD osb_status osb_ignore_matches(const char *file, size_t file_len, const char *paths,
-                                            size_t paths_len, const uint8_t *dirs, size_t dirs_len,
-                                            osb_verdict *out, size_t room, size_t *count);
+/* Writes the verdict of a file .gitignore at the top of a tree on each path, as git does: OSB_OK,
+ * OSB_NO_MEMORY. No line is a fault. Paths are relative to the top of the tree. A path is a directory if its
+ * item of `dirs` is true; without directories `dirs` may be null. `dirs` and `verdicts` have as many items
+ * as there are paths. The lines are compiled in each call, so pass many paths at once. */
+OSB_NODISCARD osb_status osb_ignore_matches(const char *file, size_t file_len,
+                                            const osb_view *paths, size_t len, const bool *dirs,
+                                            osb_verdict *verdicts);
 
 /* The ignore files of a tree, in several directories, compiled once. They have memory of malloc's from
  * osb_ignores_new to osb_ignores_free. One call at a time may use them. */

@@ -191,13 +191,13 @@ uint32_t osb_core_flag(const char *word, size_t len, size_t at, struct core_opti
 struct core_block rattle_alloc(size_t len, size_t align);
 struct core_block rattle_realloc(void *at, size_t kept, size_t len, size_t align);
 void rattle_dealloc(void *at);
-uint32_t osb_core_glob_matches(uint32_t platform, uint32_t options, const char *patterns,
-                               size_t patterns_len, const char *paths, size_t paths_len,
+uint32_t osb_core_glob_matches(uint32_t platform, uint32_t options, const osb_view *patterns,
+                               size_t patterns_len, const osb_view *paths, size_t paths_len,
                                uint8_t *matched, size_t room, size_t *count, osb_glob_fault *fault);
-uint32_t osb_core_globs_new(uint32_t platform, uint32_t options, const char *patterns,
+uint32_t osb_core_globs_new(uint32_t platform, uint32_t options, const osb_view *patterns,
                             size_t patterns_len, struct core_held *held, osb_glob_fault *fault);
 uint32_t osb_core_globs_is_match(struct core_held *held, const char *path, size_t len);
-uint32_t osb_core_globs_matches(struct core_held *held, const char *paths, size_t paths_len,
+uint32_t osb_core_globs_matches(struct core_held *held, const osb_view *paths, size_t paths_len,
                                 uint8_t *matched, size_t room, size_t *count);
 uint32_t osb_core_globs_share(struct core_held *held, struct core_held *other);
 uint32_t osb_core_globs_free(struct core_held *held);
@@ -207,7 +207,7 @@ uint32_t osb_core_ignores_add(struct core_held *held, const char *directory, siz
 uint32_t osb_core_ignores_match(struct core_held *held, const char *path, size_t len,
                                 uint32_t is_dir, osb_decision *decision);
 uint32_t osb_core_ignores_free(struct core_held *held);
-uint32_t osb_core_ignore_matches(const char *file, size_t file_len, const char *paths,
+uint32_t osb_core_ignore_matches(const char *file, size_t file_len, const osb_view *paths,
                                  size_t paths_len, const char *dirs, size_t dirs_len,
                                  osb_verdict *out, size_t room, size_t *count);
 /* Those that fill an array take the address at which the string begins as a number, too, and write views of it. */
@@ -1178,38 +1178,59 @@ osb_status osb_symbols_fill(osb_symbols *symbols, osb_symbol *out, size_t room, 
     return OSB_OK;
 }
 
-osb_status osb_glob_matches(osb_platform platform, uint32_t options, const char *patterns,
-                            size_t patterns_len, const char *paths, size_t paths_len,
-                            uint8_t *matched, size_t room, size_t *count, osb_glob_fault *fault) {
-    size_t own = 0;
+/* The views of a list as the exports take them, without a null pointer: the caller's, or a copy where an
+ * empty item is null, which `*own` is then. Null if there is no memory for the copy. */
+static const osb_view *without_null(const osb_view *views, size_t len, osb_view **own) {
+    static const osb_view none;
+    size_t i = 0;
+    while (i < len && views[i].at != NULL) i++;
+    *own = NULL;
+    if (i == len) return len == 0 ? &none : views;
+    *own = malloc(len * sizeof *views);
+    for (i = 0; *own != NULL && i < len; i++)
+        (*own)[i] = (osb_view){bytes(views[i].at), views[i].len};
+    return *own;
+}
+
+osb_status osb_glob_matches(osb_platform platform, uint32_t options, const osb_view *patterns,
+                            size_t patterns_len, const osb_view *paths, size_t paths_len,
+                            bool *matched, osb_glob_fault *fault) {
+    size_t count = 0;
+    osb_view *own[2];
     osb_glob_fault own_fault = {0, 0, 0};
-    if (count == NULL || is_bad(patterns, patterns_len) || is_bad(paths, paths_len) ||
-        is_bad(matched, room) || do_overlap(patterns, patterns_len, matched, room) ||
-        do_overlap(paths, paths_len, matched, room))
+    if (is_bad(matched, paths_len) || are_bad_words(patterns, patterns_len, matched, paths_len) ||
+        are_bad_words(paths, paths_len, matched, paths_len))
         return OSB_BAD_POINTER;
-    osb_status status = osb_core_glob_matches(
-        platform, options, bytes(patterns), patterns_len, bytes(paths), paths_len,
-        room == 0 ? (uint8_t *)no_room : matched, room, &own, &own_fault);
-    if (status == OSB_OK || status == OSB_NO_ROOM) *count = own;
-    if (status == OSB_BAD_PATTERN && fault != NULL) *fault = own_fault;
+    patterns = without_null(patterns, patterns_len, &own[0]);
+    paths = without_null(paths, paths_len, &own[1]);
+    osb_status status = OSB_NO_MEMORY;
+    if (patterns != NULL && paths != NULL)
+        status = osb_core_glob_matches(platform, options, patterns, patterns_len, paths, paths_len,
+                                       paths_len == 0 ? (uint8_t *)no_room : (uint8_t *)matched,
+                                       paths_len, &count, &own_fault);
+    free(own[0]);
+    free(own[1]);
+    if (fault != NULL && status == OSB_BAD_PATTERN) *fault = own_fault;
     return status;
 }
 
-osb_status osb_ignore_matches(const char *file, size_t file_len, const char *paths,
-                              size_t paths_len, const uint8_t *dirs, size_t dirs_len,
-                              osb_verdict *out, size_t room, size_t *count) {
-    size_t own = 0;
+osb_status osb_ignore_matches(const char *file, size_t file_len, const osb_view *paths, size_t len,
+                              const bool *dirs, osb_verdict *verdicts) {
+    size_t count = 0, dirs_len = dirs == NULL ? 0 : len;
+    osb_view *own;
     osb_verdict none;
-    if (count == NULL || is_bad(file, file_len) || is_bad(paths, paths_len) ||
-        is_bad(dirs, dirs_len) ||
-        is_bad_array(out, room, sizeof none, _Alignof(osb_verdict), (osb_view){file, file_len}) ||
-        do_overlap(out, room * sizeof none, paths, paths_len) ||
-        do_overlap(out, room * sizeof none, dirs, dirs_len))
+    if (is_bad(file, file_len) || is_bad(dirs, dirs_len) ||
+        is_bad_array(verdicts, len, sizeof none, _Alignof(osb_verdict), (osb_view){file, file_len}) ||
+        do_overlap(verdicts, len * sizeof none, dirs, dirs_len) ||
+        are_bad_words(paths, len, verdicts, len * sizeof none))
         return OSB_BAD_POINTER;
-    osb_status status =
-        osb_core_ignore_matches(bytes(file), file_len, bytes(paths), paths_len,
-                                bytes((const char *)dirs), dirs_len, room == 0 ? &none : out, room, &own);
-    if (status == OSB_OK || status == OSB_NO_ROOM) *count = own;
+    paths = without_null(paths, len, &own);
+    osb_status status = OSB_NO_MEMORY;
+    if (paths != NULL)
+        status = osb_core_ignore_matches(bytes(file), file_len, paths, len,
+                                         bytes((const char *)dirs), dirs_len,
+                                         len == 0 ? &none : verdicts, len, &count);
+    free(own);
     return status;
 }
 
@@ -1230,15 +1251,18 @@ static osb_globs *empty_globs(void) {
     return globs;
 }
 
-osb_status osb_globs_new(osb_platform platform, uint32_t options, const char *patterns,
-                         size_t patterns_len, osb_globs **globs, osb_glob_fault *fault) {
+osb_status osb_globs_new(osb_platform platform, uint32_t options, const osb_view *patterns,
+                         size_t len, osb_globs **globs, osb_glob_fault *fault) {
+    osb_view *own;
     osb_glob_fault own_fault = {0, 0, 0};
-    if (globs == NULL || is_bad(patterns, patterns_len)) return OSB_BAD_POINTER;
+    if (globs == NULL || are_bad_words(patterns, len, NULL, 0)) return OSB_BAD_POINTER;
+    patterns = without_null(patterns, len, &own);
     osb_globs *made = empty_globs();
-    if (made == NULL) return OSB_NO_MEMORY;
-    osb_status status = osb_core_globs_new(platform, options, bytes(patterns), patterns_len,
-                                           &made->held, &own_fault);
-    if (fault != NULL && status == OSB_BAD_PATTERN) *fault = own_fault;
+    osb_status status = OSB_NO_MEMORY;
+    if (patterns != NULL && made != NULL)
+        status = osb_core_globs_new(platform, options, patterns, len, &made->held, &own_fault);
+    free(own);
+    if (status == OSB_BAD_PATTERN && fault != NULL) *fault = own_fault;
     if (status == OSB_OK) *globs = made;
     else free(made);
     return status;
@@ -1249,15 +1273,17 @@ int osb_globs_is_match(osb_globs *globs, const char *path, size_t len) {
     return answer(osb_core_globs_is_match(&globs->held, bytes(path), len));
 }
 
-osb_status osb_globs_matches(osb_globs *globs, const char *paths, size_t paths_len,
-                             uint8_t *matched, size_t room, size_t *count) {
-    size_t own = 0;
-    if (globs == NULL || count == NULL || is_bad(paths, paths_len) || is_bad(matched, room) ||
-        do_overlap(paths, paths_len, matched, room))
+osb_status osb_globs_matches(osb_globs *globs, const osb_view *paths, size_t len, bool *matched) {
+    size_t count = 0;
+    osb_view *own;
+    if (globs == NULL || is_bad(matched, len) || are_bad_words(paths, len, matched, len))
         return OSB_BAD_POINTER;
-    osb_status status = osb_core_globs_matches(&globs->held, bytes(paths), paths_len,
-                                               room == 0 ? (uint8_t *)no_room : matched, room, &own);
-    if (status == OSB_OK || status == OSB_NO_ROOM) *count = own;
+    paths = without_null(paths, len, &own);
+    osb_status status = OSB_NO_MEMORY;
+    if (paths != NULL)
+        status = osb_core_globs_matches(&globs->held, paths, len,
+                                        len == 0 ? (uint8_t *)no_room : (uint8_t *)matched, len, &count);
+    free(own);
     return status;
 }
 

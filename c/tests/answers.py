@@ -334,22 +334,20 @@ def glob(
     osb: CDLL, pattern: str, path: str, separators: str, dot: str, escapes: str, ignore_case: str, answer: str
 ) -> Answers:
     options = (0, 1, 3)[int(separators)] + 4 * int(dot) + 8 * int(escapes) + 32 * int(ignore_case)
-    patterns, paths, told, count = raw(pattern) + b"\0", raw(path) + b"\0", create_string_buffer(1), c_size_t()
-    given = patterns, len(patterns), paths, len(paths)
-    status = osb.osb_glob_matches(UNIX, options, *given, told, 1, byref(count), None)
-    assert status in (OK, BAD_PATTERN) and (status != OK or count.value == 1), status
+    patterns, paths, told = views_of([raw(pattern)]), views_of([raw(path)]), create_string_buffer(1)
+    status = osb.osb_glob_matches(UNIX, options, patterns, 1, paths, 1, told, None)
+    assert status in (OK, BAD_PATTERN), status
     yield str(told.raw[0]) if status == OK else "error", answer
     kept, string = c_void_p(), raw(path)
-    status = osb.osb_globs_new(UNIX, options, patterns, len(patterns), byref(kept), None)
+    status = osb.osb_globs_new(UNIX, options, patterns, 1, byref(kept), None)
     assert status in (OK, BAD_PATTERN), status
     yield str(osb.osb_globs_is_match(kept, string, len(string))) if status == OK else "error", answer
     osb.osb_globs_free(kept)
 
 
 def ignore(osb: CDLL, file: str, path: str, is_dir: str, answer: str) -> Answers:
-    lines, paths, flags, told, count = raw(file), raw(path) + b"\0", bytes([int(is_dir)]), Verdict(), c_size_t()
-    given = lines, len(lines), paths, len(paths), flags, 1
-    assert osb.osb_ignore_matches(*given, byref(told), 1, byref(count)) == OK and count.value == 1
+    lines, flags, told = raw(file), bytes([int(is_dir)]), Verdict()
+    assert osb.osb_ignore_matches(lines, len(lines), views_of([raw(path)]), 1, flags, byref(told)) == OK
     yield "-iw"[told.kind] + str(told.line or ""), answer
 
 

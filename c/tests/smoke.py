@@ -97,9 +97,10 @@ def load(name: str) -> CDLL:
     osb.osb_compare.argtypes = [c_char_p, c_size_t, c_char_p, c_size_t, POINTER(c_int32)]
     osb.osb_is_boundary.argtypes = [c_char_p, c_size_t, c_size_t]
     given = [c_char_p, c_size_t]
-    osb.osb_ignore_matches.argtypes = [*given, *given, *given, POINTER(Verdict), c_size_t, POINTER(c_size_t)]
-    osb.osb_glob_matches.argtypes = [c_uint32, c_uint32, *given, *given, c_char_p, c_size_t, POINTER(c_size_t), c_void_p]
-    osb.osb_globs_new.argtypes = [c_uint32, c_uint32, *given, POINTER(c_void_p), c_void_p]
+    views = [POINTER(View), c_size_t]
+    osb.osb_ignore_matches.argtypes = [*given, *views, c_char_p, POINTER(Verdict)]
+    osb.osb_glob_matches.argtypes = [c_uint32, c_uint32, *views, *views, c_char_p, c_void_p]
+    osb.osb_globs_new.argtypes = [c_uint32, c_uint32, *views, POINTER(c_void_p), c_void_p]
     osb.osb_globs_is_match.argtypes = [c_void_p, *given]
     osb.osb_globs_free.argtypes = [c_void_p]
     osb.osb_globs_free.restype = None

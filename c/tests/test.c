@@ -2003,49 +2003,68 @@ static void bad_arrays(void) {
     EXPECT(osb_symbols_fill(&symbols, symbol, 1, &count) == OSB_OK && count == 1);
 }
 
-/* What patterns tell of paths, as `wanted`, in every room; and with each request for memory refused. */
-static bool tells(osb_platform platform, uint32_t options, const char *patterns, size_t patterns_len,
-                  const char *paths, size_t paths_len, const char *wanted) {
-    size_t all = strlen(wanted), count = 99;
-    for (size_t room = 0; room < all + 2; room++) {
-        uint8_t told[20] = {77, 77, 77, 77, 77, 77, 77, 77, 77, 77, 77, 77, 77, 77, 77};
-        size_t before = blocks;
-        osb_status status = osb_glob_matches(platform, options, patterns, patterns_len, paths, paths_len,
-                                             room == 0 ? NULL : told, room, &count, NULL);
-        if (count != all || status != (room < all ? OSB_NO_ROOM : OSB_OK) || blocks != before) return false;
-        for (size_t i = 0; i < all && i < room; i++)
-            if (told[i] != wanted[i] - '0') return false;
-        if (told[room < all ? room : all] != 77) return false;
+/* A list: the views of the items of a text, each of which a 0 ends that the last may lack. That of an empty item is
+ * null. */
+typedef struct list {
+    osb_view views[12];
+    size_t len;
+} list;
+
+static list list_of(const char *text, size_t len) {
+    list made = {.len = 0};
+    while (len != 0) {
+        const char *end = memchr(text, 0, len);
+        size_t item = end == NULL ? len : (size_t)(end - text), taken = item + (end != NULL);
+        made.views[made.len++] = (osb_view){item == 0 ? NULL : text, item};
+        text += taken;
+        len -= taken;
     }
+    return made;
+}
+
+/* Whether each path of an array has its answer, and nothing after these was written. */
+static bool are_told(const uint8_t *told, const char *wanted) {
+    size_t all = strlen(wanted);
+    for (size_t i = 0; i < all; i++)
+        if (told[i] != wanted[i] - '0') return false;
+    return told[all] == 77;
+}
+
+/* What patterns return for paths, as `wanted`; and with each request for memory refused. */
+static bool tells(osb_platform platform, uint32_t options, list patterns, list paths, const char *wanted) {
+    uint8_t told[20];
+    osb_glob_fault fault;
+    size_t before = blocks;
+    memset(told, 77, sizeof told);
+    if (osb_glob_matches(platform, options, patterns.views, patterns.len, paths.views, paths.len,
+                         paths.len == 0 ? NULL : (bool *)told, &fault) != OSB_OK)
+        return false;
+    if (blocks != before || !are_told(told, wanted)) return false;
 #ifdef OSB_WRAPPED
-    uint8_t out[20];
     for (size_t given = 0;; given++) {
-        size_t before = blocks;
-        count = 99;
+        memset(told, 77, sizeof told);
         left = given;
-        osb_status status = osb_glob_matches(platform, options, patterns, patterns_len, paths, paths_len,
-                                             out, sizeof out, &count, NULL);
+        osb_status status = osb_glob_matches(platform, options, patterns.views, patterns.len, paths.views,
+                                             paths.len, (bool *)told, NULL);
         left = SIZE_MAX;
         if (blocks != before) return false;
-        if (status == OSB_OK) return count == all;
-        if (status != OSB_NO_MEMORY || count != 99) return false;
+        if (status == OSB_OK) return are_told(told, wanted);
+        if (status != OSB_NO_MEMORY || told[0] != 77) return false;
     }
 #endif
     return true;
 }
-#define LIST(s) (s), sizeof(s)
 
-/* What a set that is kept tells of the same paths, of each and of all, and a set that shares its patterns when the
+/* What a set that is kept returns for the same paths, for each and for all, and a set that shares its patterns when the
  * first is freed. No block of memory is left; with each request for memory refused nothing is kept. */
-static bool keeps(osb_platform platform, uint32_t options, const char *patterns, size_t patterns_len,
-                  const char *paths, size_t paths_len, const char *wanted) {
-    size_t all = strlen(wanted), count = 99, before = blocks;
-    osb_globs *globs = NULL, *other = NULL, *const none = (osb_globs *)&count;
+static bool keeps(osb_platform platform, uint32_t options, list patterns, list paths, const char *wanted) {
+    size_t before = blocks;
+    osb_globs *globs = NULL, *other = NULL, *const none = (osb_globs *)&before;
 #ifdef OSB_WRAPPED
     for (size_t given = 0; globs == NULL; given++) {
         osb_globs *made = none;
         left = given;
-        osb_status status = osb_globs_new(platform, options, patterns, patterns_len, &made, NULL);
+        osb_status status = osb_globs_new(platform, options, patterns.views, patterns.len, &made, NULL);
         left = SIZE_MAX;
         if (status == OSB_OK) globs = made;
         else if (status != OSB_NO_MEMORY || made != none || blocks != before) return false;
@@ -2056,28 +2075,26 @@ static bool keeps(osb_platform platform, uint32_t options, const char *patterns,
     left = SIZE_MAX;
 #else
     (void)none;
-    if (osb_globs_new(platform, options, patterns, patterns_len, &globs, NULL) != OSB_OK) return false;
+    if (osb_globs_new(platform, options, patterns.views, patterns.len, &globs, NULL) != OSB_OK) return false;
 #endif
     if (osb_globs_share(globs, &other) != OSB_OK || other == globs) return false;
     for (int turn = 0; turn < 2; turn++) {
-        const char *at = paths;
+        osb_globs *of = turn == 0 ? globs : other;
+        uint8_t told[20];
         size_t kept = blocks;
-        for (size_t i = 0; i < all; i++) {
-            const char *end = memchr(at, 0, paths_len - (size_t)(at - paths));
-            size_t len = end == NULL ? paths_len - (size_t)(at - paths) : (size_t)(end - at);
-            if (osb_globs_is_match(turn == 0 ? globs : other, at, len) != wanted[i] - '0') return false;
-            at += len + 1;
-        }
-        for (size_t room = 0; room < all + 2; room++) {
-            uint8_t told[20];
-            memset(told, 77, sizeof told);
-            osb_status status = osb_globs_matches(turn == 0 ? globs : other, paths, paths_len,
-                                                  room == 0 ? NULL : told, room, &count);
-            if (count != all || status != (room < all ? OSB_NO_ROOM : OSB_OK) || blocks != kept) return false;
-            for (size_t i = 0; i < all && i < room; i++)
-                if (told[i] != wanted[i] - '0') return false;
-            if (told[room < all ? room : all] != 77) return false;
-        }
+        for (size_t i = 0; i < paths.len; i++)
+            if (osb_globs_is_match(of, paths.views[i].at, paths.views[i].len) != wanted[i] - '0') return false;
+        memset(told, 77, sizeof told);
+        bool *out = paths.len == 0 ? NULL : (bool *)told;
+        if (osb_globs_matches(of, paths.views, paths.len, out) != OSB_OK) return false;
+        if (blocks != kept || !are_told(told, wanted)) return false;
+#ifdef OSB_WRAPPED
+        memset(told, 77, sizeof told);
+        left = 0;
+        osb_status status = osb_globs_matches(of, paths.views, paths.len, (bool *)told);
+        left = SIZE_MAX;
+        if (paths.len != 0 && (status != OSB_NO_MEMORY || blocks != kept || told[0] != 77)) return false;
+#endif
         if (turn == 0) osb_globs_free(globs);
     }
     osb_globs_free(other);
@@ -2086,22 +2103,26 @@ static bool keeps(osb_platform platform, uint32_t options, const char *patterns,
 
 static void kept_globs(void) {
     const uint32_t usual = OSB_GLOB_SLASH | OSB_GLOB_ESCAPES;
-    char both[16] = "a";
-    size_t count = 99;
     osb_glob_fault fault = {9, 9, 9};
-    osb_globs *const none = (osb_globs *)&count, *globs = none, *other = none;
+    osb_globs *const none = (osb_globs *)&fault, *globs = none, *other = none;
     size_t before = blocks;
-#define NEW(platform, options, ...) osb_globs_new(platform, options, __VA_ARGS__, &globs, &fault)
+    list given;
+#define NEW(platform, options, ...)                                                                \
+    (given = list_of(__VA_ARGS__), osb_globs_new(platform, options, given.views, given.len, &globs, &fault))
     EXPECT(NEW(3, usual, TEXT("a")) == OSB_BAD_PLATFORM);
     EXPECT(NEW(OSB_UNIX, 64, TEXT("a")) == OSB_BAD_OPTION);
     EXPECT(NEW(OSB_UNIX, OSB_GLOB_BACKSLASH, TEXT("a")) == OSB_BAD_OPTION);
     EXPECT(NEW(OSB_WINDOWS, usual, TEXT("\xFF")) == OSB_FAULTY);
     EXPECT(NEW(OSB_WINDOWS, usual, TEXT("[\0\xFF")) == OSB_FAULTY);
-    EXPECT(NEW(OSB_UNIX, usual, NULL, 1) == OSB_BAD_POINTER);
-    EXPECT(NEW(OSB_UNIX, usual, "a", SIZE_MAX) == OSB_BAD_POINTER);
-    EXPECT(osb_globs_new(OSB_UNIX, usual, TEXT("a"), NULL, &fault) == OSB_BAD_POINTER);
+    osb_view views[] = {{"a", 1}, {NULL, 1}};
+    EXPECT(osb_globs_new(OSB_UNIX, usual, views, 2, &globs, &fault) == OSB_BAD_POINTER);
+    EXPECT(osb_globs_new(OSB_UNIX, usual, NULL, 1, &globs, &fault) == OSB_BAD_POINTER);
+    EXPECT(osb_globs_new(OSB_UNIX, usual, views, SIZE_MAX, &globs, &fault) == OSB_BAD_POINTER);
+    EXPECT(osb_globs_new(OSB_UNIX, usual, (osb_view *)((char *)views + 4), 1, &globs, &fault) == OSB_BAD_POINTER);
+    EXPECT(osb_globs_new(OSB_UNIX, usual, views, 1, NULL, &fault) == OSB_BAD_POINTER);
     EXPECT(fault.which == 9 && fault.index == 9 && fault.kind == 9);
-    EXPECT(osb_globs_new(OSB_UNIX, usual, TEXT("a\0b[c"), &globs, NULL) == OSB_BAD_PATTERN);
+    given = list_of(TEXT("a\0b[c"));
+    EXPECT(osb_globs_new(OSB_UNIX, usual, given.views, given.len, &globs, NULL) == OSB_BAD_PATTERN);
     EXPECT(NEW(OSB_UNIX, usual, TEXT("a\0b[c")) == OSB_BAD_PATTERN);
     EXPECT(fault.which == 1 && fault.index == 1 && fault.kind == OSB_GLOB_UNCLOSED_CLASS);
     EXPECT(globs == none && blocks == before);
@@ -2113,70 +2134,92 @@ static void kept_globs(void) {
     EXPECT(osb_globs_is_match(globs, "a.c", SIZE_MAX) == -OSB_BAD_POINTER);
     EXPECT(osb_globs_is_match(NULL, TEXT("a.c")) == -OSB_BAD_POINTER);
     uint8_t told[4] = {77, 77, 77, 77};
-    EXPECT(osb_globs_matches(globs, TEXT("a.c\0\xFF"), told, 4, &count) == OSB_FAULTY && count == 99);
-    EXPECT(osb_globs_matches(NULL, TEXT("a"), told, 4, &count) == OSB_BAD_POINTER);
-    EXPECT(osb_globs_matches(globs, NULL, 1, told, 4, &count) == OSB_BAD_POINTER);
-    EXPECT(osb_globs_matches(globs, TEXT("a"), NULL, 1, &count) == OSB_BAD_POINTER);
-    EXPECT(osb_globs_matches(globs, TEXT("a"), told, 4, NULL) == OSB_BAD_POINTER);
-    EXPECT(osb_globs_matches(globs, both, 4, (uint8_t *)both + 3, 4, &count) == OSB_BAD_POINTER);
-    EXPECT(count == 99 && told[0] == 77);
+    bool *const out = (bool *)told;
+    given = list_of(TEXT("a.c\0\xFF"));
+    EXPECT(osb_globs_matches(globs, given.views, given.len, out) == OSB_FAULTY);
+    EXPECT(osb_globs_matches(NULL, given.views, 1, out) == OSB_BAD_POINTER);
+    EXPECT(osb_globs_matches(globs, views, 2, out) == OSB_BAD_POINTER);
+    EXPECT(osb_globs_matches(globs, NULL, 1, out) == OSB_BAD_POINTER);
+    EXPECT(osb_globs_matches(globs, given.views, 1, NULL) == OSB_BAD_POINTER);
+    EXPECT(told[0] == 77);
+    /* an array over the paths, or over their views */
+    views[0] = (osb_view){(char *)told, 4};
+    EXPECT(osb_globs_matches(globs, views, 1, out + 3) == OSB_BAD_POINTER && told[3] == 77);
+    EXPECT(osb_globs_matches(globs, views, 1, (bool *)views + 15) == OSB_BAD_POINTER && views[0].len == 4);
     EXPECT(osb_globs_share(NULL, &other) == OSB_BAD_POINTER && osb_globs_share(globs, NULL) == OSB_BAD_POINTER);
     EXPECT(other == none);
+    /* a path may have a 0, and the text that `find -print0` prints is cut into paths */
+    views[0] = (osb_view){TEXT("\0.c")};
+    EXPECT(osb_globs_matches(globs, views, 1, out) == OSB_OK && told[0] == 1 && told[1] == 77);
+    static const char printed[] = "a.c\0b\0.c";
+    osb_split split;
+    size_t count = 9;
+    EXPECT(osb_split_start(&split, printed, sizeof printed - 1, "\0", 1) == OSB_OK);
+    EXPECT(osb_split_fill(&split, given.views, 12, &count) == OSB_OK && count == 3);
+    EXPECT(osb_globs_matches(globs, given.views, count, out) == OSB_OK);
+    EXPECT(told[0] == 1 && told[1] == 0 && told[2] == 1 && told[3] == 77);
     osb_globs_free(globs);
     osb_globs_free(NULL);
     EXPECT(blocks == before);
 #undef NEW
 }
 
+#define LIST(s) list_of((s), sizeof(s) - 1)
+
 static void globs(void) {
     const uint32_t usual = OSB_GLOB_SLASH | OSB_GLOB_ESCAPES;
-#define TELLS(...) (tells(__VA_ARGS__) && keeps(__VA_ARGS__))
-    EXPECT(TELLS(OSB_UNIX, usual, TEXT("*.c\0*.h"), TEXT("a.c\0b/a.c\0b.h\0c"), "1010"));
+#define TELLS(platform, options, ...)                                                              \
+    (tells(platform, options, __VA_ARGS__) && keeps(platform, options, __VA_ARGS__))
     EXPECT(TELLS(OSB_UNIX, usual, LIST("*.c\0*.h"), LIST("a.c\0b/a.c\0b.h\0c"), "1010"));
-    EXPECT(TELLS(OSB_UNIX, usual, TEXT("**/*.c"), TEXT("a.c\0b/a.c\0\0b.h"), "1100"));
-    EXPECT(TELLS(OSB_UNIX, usual, NULL, 0, TEXT("a\0"), "0"));
-    EXPECT(TELLS(OSB_UNIX, usual, TEXT("\0"), TEXT("\0a"), "10"));
-    EXPECT(TELLS(OSB_UNIX, usual, TEXT("a"), NULL, 0, ""));
-    EXPECT(TELLS(OSB_UNIX, usual, TEXT("?\0\\*"), TEXT("\xFF\0\xC3\xA9\0*\0ab"), "1110"));
-    EXPECT(TELLS(OSB_UNIX, OSB_GLOB_ESCAPES, TEXT("*.c"), TEXT("b/a.c"), "1"));
-    EXPECT(TELLS(OSB_UNIX, OSB_GLOB_SLASH, TEXT("\\*"), TEXT("*\0\\a"), "01"));
-    EXPECT(TELLS(OSB_UNIX, usual, TEXT("*"), TEXT(".a"), "1"));
-    EXPECT(TELLS(OSB_UNIX, usual | OSB_GLOB_LITERAL_DOT, TEXT("*"), TEXT(".a"), "0"));
-    EXPECT(TELLS(OSB_UNIX, usual, TEXT("[\\]]"), TEXT("]\0\\]"), "01"));
-    EXPECT(TELLS(OSB_UNIX, usual | OSB_GLOB_CLASS_ESCAPES, TEXT("[\\]]"), TEXT("]\0\\]"), "10"));
-    EXPECT(TELLS(OSB_UNIX, usual, TEXT("a"), TEXT("A"), "0"));
-    EXPECT(TELLS(OSB_UNIX, usual | OSB_GLOB_ANY_CASE, TEXT("a"), TEXT("A"), "1"));
-    EXPECT(TELLS(OSB_WINDOWS, OSB_GLOB_SLASH | OSB_GLOB_BACKSLASH, TEXT("a/?"),
-                 TEXT("a\\\xED\xA0\xBD\0a/b\0a"), "110"));
-    EXPECT(TELLS(OSB_WASM, usual, TEXT("[\xC3\xA9]"), TEXT("\xC3\xA9"), "1"));
+    EXPECT(TELLS(OSB_UNIX, usual, LIST("*.c\0*.h\0"), LIST("a.c\0b/a.c\0b.h\0c\0"), "1010"));
+    EXPECT(TELLS(OSB_UNIX, usual, LIST("**/*.c"), LIST("a.c\0b/a.c\0\0b.h"), "1100"));
+    EXPECT(TELLS(OSB_UNIX, usual, list_of(NULL, 0), LIST("a\0"), "0"));
+    EXPECT(TELLS(OSB_UNIX, usual, LIST("\0"), LIST("\0a"), "10"));
+    EXPECT(TELLS(OSB_UNIX, usual, LIST("a"), list_of(NULL, 0), ""));
+    EXPECT(TELLS(OSB_UNIX, usual, LIST("?\0\\*"), LIST("\xFF\0\xC3\xA9\0*\0ab"), "1110"));
+    EXPECT(TELLS(OSB_UNIX, OSB_GLOB_ESCAPES, LIST("*.c"), LIST("b/a.c"), "1"));
+    EXPECT(TELLS(OSB_UNIX, OSB_GLOB_SLASH, LIST("\\*"), LIST("*\0\\a"), "01"));
+    EXPECT(TELLS(OSB_UNIX, usual, LIST("*"), LIST(".a"), "1"));
+    EXPECT(TELLS(OSB_UNIX, usual | OSB_GLOB_LITERAL_DOT, LIST("*"), LIST(".a"), "0"));
+    EXPECT(TELLS(OSB_UNIX, usual, LIST("[\\]]"), LIST("]\0\\]"), "01"));
+    EXPECT(TELLS(OSB_UNIX, usual | OSB_GLOB_CLASS_ESCAPES, LIST("[\\]]"), LIST("]\0\\]"), "10"));
+    EXPECT(TELLS(OSB_UNIX, usual, LIST("a"), LIST("A"), "0"));
+    EXPECT(TELLS(OSB_UNIX, usual | OSB_GLOB_ANY_CASE, LIST("a"), LIST("A"), "1"));
+    EXPECT(TELLS(OSB_WINDOWS, OSB_GLOB_SLASH | OSB_GLOB_BACKSLASH, LIST("a/?"),
+                 LIST("a\\\xED\xA0\xBD\0a/b\0a"), "110"));
+    EXPECT(TELLS(OSB_WASM, usual, LIST("[\xC3\xA9]"), LIST("\xC3\xA9"), "1"));
 #undef TELLS
 }
 
 static void bad_globs(void) {
     const uint32_t usual = OSB_GLOB_SLASH | OSB_GLOB_ESCAPES;
     uint8_t told[4] = {77, 77, 77, 77};
-    char both[16] = "a";
-    size_t count = 99;
+    bool *const out = (bool *)told;
     osb_glob_fault fault = {9, 9, 9};
-#define GLOB(platform, options, ...)                                                               \
-    osb_glob_matches(platform, options, __VA_ARGS__, told, 4, &count, &fault)
-    EXPECT(GLOB(OSB_WINDOWS, usual, TEXT("\xFF"), TEXT("a")) == OSB_FAULTY);
-    EXPECT(GLOB(OSB_WINDOWS, usual, TEXT("a"), TEXT("a\0\xFF")) == OSB_FAULTY);
-    EXPECT(GLOB(OSB_WINDOWS, usual, TEXT("\xFF\0["), TEXT("a")) == OSB_FAULTY);
-    EXPECT(GLOB(OSB_WINDOWS, usual, TEXT("[\0\xFF"), TEXT("a")) == OSB_FAULTY);
-    EXPECT(GLOB(OSB_WASM, usual, TEXT("a"), TEXT("\xED\xA0\x80")) == OSB_FAULTY);
-    EXPECT(GLOB(3, usual, TEXT("a"), TEXT("a")) == OSB_BAD_PLATFORM);
-    EXPECT(GLOB(OSB_UNIX, OSB_GLOB_BACKSLASH, TEXT("a"), TEXT("a")) == OSB_BAD_OPTION);
-    EXPECT(GLOB(OSB_UNIX, 64, TEXT("a"), TEXT("a")) == OSB_BAD_OPTION);
-    EXPECT(GLOB(OSB_UNIX, usual, NULL, 1, TEXT("a")) == OSB_BAD_POINTER);
-    EXPECT(GLOB(OSB_UNIX, usual, TEXT("a"), "a", SIZE_MAX) == OSB_BAD_POINTER);
-    EXPECT(osb_glob_matches(0, usual, TEXT("a"), TEXT("a"), NULL, 1, &count, &fault) == OSB_BAD_POINTER);
-    EXPECT(osb_glob_matches(0, usual, TEXT("a"), TEXT("a"), told, 4, NULL, &fault) == OSB_BAD_POINTER);
-    EXPECT(osb_glob_matches(0, usual, both, 4, TEXT("a"), (uint8_t *)both + 3, 4, &count, &fault) ==
-           OSB_BAD_POINTER);
-    EXPECT(osb_glob_matches(0, usual, TEXT("a"), both, 4, (uint8_t *)both + 3, 4, &count, &fault) ==
-           OSB_BAD_POINTER);
-    EXPECT(count == 99 && told[0] == 77 && fault.which == 9 && fault.index == 9 && fault.kind == 9);
+    list patterns, paths;
+#define GLOB(platform, options, patterns_of, paths_of)                                             \
+    (patterns = patterns_of, paths = paths_of,                                                     \
+     osb_glob_matches(platform, options, patterns.views, patterns.len, paths.views, paths.len, out, &fault))
+    EXPECT(GLOB(OSB_WINDOWS, usual, LIST("\xFF"), LIST("a")) == OSB_FAULTY);
+    EXPECT(GLOB(OSB_WINDOWS, usual, LIST("a"), LIST("a\0\xFF")) == OSB_FAULTY);
+    EXPECT(GLOB(OSB_WINDOWS, usual, LIST("\xFF\0["), LIST("a")) == OSB_FAULTY);
+    EXPECT(GLOB(OSB_WINDOWS, usual, LIST("[\0\xFF"), LIST("a")) == OSB_FAULTY);
+    EXPECT(GLOB(OSB_WASM, usual, LIST("a"), LIST("\xED\xA0\x80")) == OSB_FAULTY);
+    EXPECT(GLOB(3, usual, LIST("a"), LIST("a")) == OSB_BAD_PLATFORM);
+    EXPECT(GLOB(OSB_UNIX, OSB_GLOB_BACKSLASH, LIST("a"), LIST("a")) == OSB_BAD_OPTION);
+    EXPECT(GLOB(OSB_UNIX, 64, LIST("a"), LIST("a")) == OSB_BAD_OPTION);
+    osb_view views[] = {{"a", 1}, {NULL, 1}};
+#define BAD(...) (osb_glob_matches(0, usual, __VA_ARGS__, &fault) == OSB_BAD_POINTER)
+    EXPECT(BAD(NULL, 1, views, 1, out) && BAD(views, 2, views, 1, out));
+    EXPECT(BAD(views, 1, NULL, 1, out) && BAD(views, 1, views, 2, out));
+    EXPECT(BAD(views, 1, views, SIZE_MAX, out) && BAD(views, SIZE_MAX, views, 1, out));
+    EXPECT(BAD(views, 1, views, 1, NULL));
+    views[1] = (osb_view){(char *)told, 4};
+    EXPECT(BAD(views + 1, 1, views, 1, out + 3) && BAD(views, 1, views + 1, 1, out + 3));
+    EXPECT(BAD(views + 1, 1, &(osb_view){"a", 1}, 1, (bool *)&views[1].len));
+    EXPECT(BAD(&(osb_view){"a", 1}, 1, views + 1, 1, (bool *)&views[1].len) && views[1].len == 4);
+#undef BAD
+    EXPECT(told[0] == 77 && told[3] == 77 && fault.which == 9 && fault.index == 9 && fault.kind == 9);
     static const struct {
         const char *patterns;
         size_t len, which, index, kind;
@@ -2187,78 +2230,73 @@ static void bad_globs(void) {
         {TEXT("{a,b}{a,b}{a,b}{a,b}{a,b}{a,b}{a,b}{a,b}{a,b}{a,b}{a,b}"), 0, 0, OSB_GLOB_TOO_MANY},
     };
     for (size_t i = 0; i < sizeof FAULTS / sizeof *FAULTS; i++) {
-        EXPECT(GLOB(OSB_UNIX, usual, FAULTS[i].patterns, FAULTS[i].len, TEXT("a")) == OSB_BAD_PATTERN);
+        EXPECT(GLOB(OSB_UNIX, usual, list_of(FAULTS[i].patterns, FAULTS[i].len), LIST("a")) == OSB_BAD_PATTERN);
         EXPECT(fault.which == FAULTS[i].which && fault.index == FAULTS[i].index && fault.kind == FAULTS[i].kind);
-        EXPECT(osb_glob_matches(0, usual, FAULTS[i].patterns, FAULTS[i].len, TEXT("a"), told, 4, &count, NULL) ==
+        EXPECT(osb_glob_matches(0, usual, patterns.views, patterns.len, paths.views, paths.len, out, NULL) ==
                OSB_BAD_PATTERN);
     }
-    EXPECT(GLOB(OSB_WINDOWS, usual, TEXT("["), TEXT("\xFF")) == OSB_BAD_PATTERN);
-    EXPECT(count == 99 && told[0] == 77);
+    EXPECT(GLOB(OSB_WINDOWS, usual, LIST("["), LIST("\xFF")) == OSB_BAD_PATTERN);
+    EXPECT(told[0] == 77);
 #undef GLOB
 }
 
-/* What a file says of paths, of which the directories are flagged: a letter and the line of each, in every room. */
-static bool ignores(const char *file, size_t file_len, const char *paths, size_t paths_len, const char *dirs,
-                    const char *wanted) {
-    size_t all = strlen(wanted) / 2, count = 99, dirs_len = strlen(dirs);
-    uint8_t flags[9] = {0};
+/* The verdicts of a file on paths, of which the directories are flagged: a letter and the line of each. */
+static bool ignores(const char *file, size_t file_len, list paths, const char *dirs, const char *wanted) {
+    size_t before = blocks;
+    bool flags[9] = {false};
     osb_verdict out[9];
-    for (size_t i = 0; i < dirs_len; i++) flags[i] = (uint8_t)(dirs[i] - '0');
-    for (size_t room = 0; room < all + 2; room++) {
-        size_t before = blocks;
-        for (size_t i = 0; i < 9; i++) out[i].line = 77;
-        osb_status status = osb_ignore_matches(file, file_len, paths, paths_len, flags, dirs_len,
-                                               room == 0 ? NULL : out, room, &count);
-        if (count != all || status != (room < all ? OSB_NO_ROOM : OSB_OK) || blocks != before) return false;
-        for (size_t i = 0; i < all && i < room; i++)
-            if (out[i].kind != (uint32_t)(wanted[2 * i] == '-' ? 0 : wanted[2 * i] == 'i' ? 1 : 2) ||
-                out[i].line != (size_t)(wanted[2 * i + 1] - '0'))
-                return false;
-        if (out[room < all ? room : all].line != 77) return false;
-    }
+    for (size_t i = 0; i < strlen(dirs); i++) flags[i] = dirs[i] == '1';
+    const bool *given = *dirs == 0 ? NULL : flags;
 #ifdef OSB_WRAPPED
-    for (size_t given = 0;; given++) {
-        size_t before = blocks;
-        count = 99;
-        left = given;
-        osb_status status =
-            osb_ignore_matches(file, file_len, paths, paths_len, flags, dirs_len, out, 9, &count);
+    for (size_t requests = 0;; requests++) {
+        out[0].line = 77;
+        left = requests;
+        osb_status status = osb_ignore_matches(file, file_len, paths.views, paths.len, given, out);
         left = SIZE_MAX;
         if (blocks != before) return false;
-        if (status == OSB_OK) return count == all;
-        if (status != OSB_NO_MEMORY || count != 99) return false;
+        if (status == OSB_OK) break;
+        if (status != OSB_NO_MEMORY || out[0].line != 77) return false;
     }
 #endif
-    return true;
+    for (size_t i = 0; i < 9; i++) out[i].line = 77;
+    if (osb_ignore_matches(file, file_len, paths.views, paths.len, given, paths.len == 0 ? NULL : out) != OSB_OK)
+        return false;
+    for (size_t i = 0; i < paths.len; i++)
+        if (out[i].kind != (uint32_t)(wanted[2 * i] == '-' ? 0 : wanted[2 * i] == 'i' ? 1 : 2) ||
+            out[i].line != (size_t)(wanted[2 * i + 1] - '0'))
+            return false;
+    return blocks == before && 2 * paths.len == strlen(wanted) && out[paths.len].line == 77;
 }
 
 static void ignore_files(void) {
-    EXPECT(ignores(TEXT("*.log\ntarget/\n!keep.log\n"), TEXT("a/b.log\0target\0target\0target/keep.log\0keep.log\0c"),
-                   "001", "i1-0i2i2w3-0"));
-    EXPECT(ignores(TEXT("/build\n!build/out\ndoc/**\n!doc/*/"), TEXT("build/out\0doc/a\0doc/a\0doc/a/b\0"), "010",
+    EXPECT(ignores(TEXT("*.log\ntarget/\n!keep.log\n"), LIST("a/b.log\0target\0target\0target/keep.log\0keep.log\0c"),
+                   "001000", "i1-0i2i2w3-0"));
+    EXPECT(ignores(TEXT("/build\n!build/out\ndoc/**\n!doc/*/"), LIST("build/out\0doc/a\0doc/a\0doc/a/b\0"), "0100",
                    "i1w4i3i3"));
-    EXPECT(ignores(NULL, 0, TEXT("a\0b"), "", "-0-0"));
-    EXPECT(ignores(TEXT("a"), NULL, 0, "1", ""));
-    EXPECT(ignores(TEXT("\xFF*"), TEXT("\xFF" "a\0\0a"), "", "i1-0-0"));
+    EXPECT(ignores(NULL, 0, LIST("a\0b"), "", "-0-0"));
+    EXPECT(ignores(TEXT("a"), list_of(NULL, 0), "", ""));
+    EXPECT(ignores(TEXT("\xFF*"), LIST("\xFF" "a\0\0a"), "", "i1-0-0"));
     union {
         char text[32];
+        bool dirs[32];
         osb_verdict verdicts[2];
+        osb_view views[2];
     } both = {"a"};
     osb_verdict out[2] = {{9, 77}, {9, 77}};
-    size_t count = 99;
-    const uint8_t *dirs = (const uint8_t *)both.text;
-    EXPECT(osb_ignore_matches(NULL, 1, TEXT("a"), NULL, 0, out, 2, &count) == OSB_BAD_POINTER);
-    EXPECT(osb_ignore_matches(TEXT("a"), NULL, 1, NULL, 0, out, 2, &count) == OSB_BAD_POINTER);
-    EXPECT(osb_ignore_matches(TEXT("a"), TEXT("a"), NULL, 1, out, 2, &count) == OSB_BAD_POINTER);
-    EXPECT(osb_ignore_matches(TEXT("a"), TEXT("a"), NULL, 0, NULL, 1, &count) == OSB_BAD_POINTER);
-    EXPECT(osb_ignore_matches(TEXT("a"), TEXT("a"), NULL, 0, out, 2, NULL) == OSB_BAD_POINTER);
-    EXPECT(osb_ignore_matches(TEXT("a"), TEXT("a"), NULL, 0, out, SIZE_MAX, &count) == OSB_BAD_POINTER);
-    EXPECT(osb_ignore_matches(TEXT("a"), TEXT("a"), NULL, 0, (osb_verdict *)((char *)out + 4), 1, &count) ==
-           OSB_BAD_POINTER);
-    EXPECT(osb_ignore_matches(both.text, 32, TEXT("a"), NULL, 0, both.verdicts, 1, &count) == OSB_BAD_POINTER);
-    EXPECT(osb_ignore_matches(TEXT("a"), both.text, 32, NULL, 0, both.verdicts, 1, &count) == OSB_BAD_POINTER);
-    EXPECT(osb_ignore_matches(TEXT("a"), TEXT("a"), dirs, 32, both.verdicts, 1, &count) == OSB_BAD_POINTER);
-    EXPECT(count == 99 && out[0].line == 77 && both.text[0] == 'a');
+    const osb_view views[] = {{"a", 1}, {NULL, 1}}, over = {both.text, 32};
+#define BAD(...) (osb_ignore_matches(__VA_ARGS__) == OSB_BAD_POINTER)
+    EXPECT(BAD(NULL, 1, views, 1, NULL, out));
+    EXPECT(BAD(TEXT("a"), NULL, 1, NULL, out) && BAD(TEXT("a"), views, 2, NULL, out));
+    EXPECT(BAD(TEXT("a"), views, SIZE_MAX, NULL, out));
+    EXPECT(BAD(TEXT("a"), views, 1, NULL, NULL));
+    EXPECT(BAD(TEXT("a"), views, 1, NULL, (osb_verdict *)((char *)out + 4)));
+    EXPECT(BAD(both.text, 32, views, 1, NULL, both.verdicts));
+    EXPECT(BAD(TEXT("a"), &over, 1, NULL, both.verdicts));
+    EXPECT(BAD(TEXT("a"), views, 1, both.dirs, both.verdicts));
+    EXPECT(out[0].line == 77 && both.text[0] == 'a');
+    both.views[1] = views[0];
+    EXPECT(BAD(TEXT("a"), both.views + 1, 1, NULL, both.verdicts + 1) && both.views[1].len == 1);
+#undef BAD
 }
 
 /* Ignore files of several directories that are kept, with each request for memory refused in turn. */

@@ -9,13 +9,13 @@ enum { THREADS = 4, TURNS = 2000 };
 static void *match(void *at) {
     osb_globs *globs = at;
     size_t wrong = 0;
+    const osb_view paths[] = {{"a", 1}, {"b.rs", 4}};
     for (int i = 0; i < TURNS; i++) {
-        uint8_t matched[2] = {7, 7};
-        size_t count = 0;
+        bool matched[2] = {true, false};
         wrong += osb_globs_is_match(globs, "src/lib.rs", 10) != 1;
         wrong += osb_globs_is_match(globs, "README", 6) != 0;
-        wrong += osb_globs_matches(globs, "a\0b.rs", 6, matched, 2, &count) != OSB_OK;
-        wrong += count != 2 || matched[0] != 0 || matched[1] != 1;
+        wrong += osb_globs_matches(globs, paths, 2, matched) != OSB_OK;
+        wrong += matched[0] || !matched[1];
     }
     osb_globs_free(globs);
     return wrong == 0 ? NULL : at;
@@ -24,8 +24,8 @@ static void *match(void *at) {
 int main(void) {
     osb_globs *globs, *own[THREADS];
     pthread_t threads[THREADS];
-    const char patterns[] = "**/*.rs\0target/**";
-    if (osb_globs_new(OSB_UNIX, OSB_GLOB_SLASH, patterns, sizeof patterns, &globs, NULL) != OSB_OK) return 2;
+    const osb_view patterns[] = {{"**/*.rs", 7}, {"target/**", 9}};
+    if (osb_globs_new(OSB_UNIX, OSB_GLOB_SLASH, patterns, 2, &globs, NULL) != OSB_OK) return 2;
     for (int i = 0; i < THREADS; i++)
         if (osb_globs_share(globs, &own[i]) != OSB_OK) return 3;
     for (int i = 0; i < THREADS; i++)

@@ -46,14 +46,14 @@ pub(crate) enum Refusal {
 }
 
 /// Writes for each path whether a pattern matches it. The patterns are compiled for the time of the
-/// call. Both lists have a 0 after each item, which the last may lack.
+/// call.
 #[unsafe(no_mangle)]
 pub extern "C" fn osb_core_glob_matches(
     alloc: Global,
     platform: u32,
     options: u32,
-    patterns: &[u8],
-    paths: &[u8],
+    patterns: &[&[u8]],
+    paths: &[&[u8]],
     matched: &mut [u8],
     count: &mut usize,
     fault: &mut GlobFault,
@@ -105,8 +105,8 @@ pub(crate) fn options_of(options: u32) -> Option<GlobOptions>
 fn matches_on<E: Platform>(
     alloc: Global,
     options: GlobOptions,
-    patterns: &[u8],
-    paths: &[u8],
+    patterns: &[&[u8]],
+    paths: &[&[u8]],
     matched: &mut [u8],
     count: &mut usize,
     fault: &mut GlobFault,
@@ -134,8 +134,8 @@ fn matches_on<E: Platform>(
 fn told_on<E: Platform>(
     alloc: Global,
     options: GlobOptions,
-    patterns: &[u8],
-    paths: &[u8],
+    patterns: &[&[u8]],
+    paths: &[&[u8]],
 ) -> Result<Vec<u8>, Refusal>
     ensures { MatchResult result
         (λ answers. AreMatchesTold E.well_formed E.units options patterns.now paths.now
@@ -150,7 +150,7 @@ fn told_on<E: Platform>(
 pub(crate) fn made_on<E: Platform>(
     alloc: Global,
     options: GlobOptions,
-    patterns: &[u8],
+    patterns: &[&[u8]],
 ) -> Result<GlobSet<E>, Refusal>
     ensures { MatchResult result
         (λ made. AreCompiled E.well_formed E.units options patterns.now made.set.options
@@ -170,7 +170,10 @@ pub(crate) fn made_on<E: Platform>(
 }
 
 /// The strings that the items of a list are.
-fn strings_of<'a, E: Platform>(alloc: Global, list: &'a [u8]) -> Result<Vec<OsStr<'a, E>>, Refusal>
+fn strings_of<'a, E: Platform>(
+    alloc: Global,
+    list: &[&'a [u8]],
+) -> Result<Vec<OsStr<'a, E>>, Refusal>
     ensures { MatchResult result (λ strings. AreItems list.now (map bytes strings.items)
         × AllByRecursion E.well_formed (map bytes strings.items))
         (λ refusal. IsListRefusal E.well_formed list.now refusal) }
@@ -193,7 +196,7 @@ fn strings_of<'a, E: Platform>(alloc: Global, list: &'a [u8]) -> Result<Vec<OsSt
 pub(crate) fn told_of<E: Platform>(
     alloc: Global,
     set: &GlobSet<E>,
-    paths: &[u8],
+    paths: &[&[u8]],
 ) -> Result<Vec<u8>, Refusal>
     ensures { MatchResult result
         (λ answers. AreNamesTold E.well_formed E.units set.now.set.options

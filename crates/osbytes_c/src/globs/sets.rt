@@ -34,13 +34,13 @@ pub struct Globs {
     set: Arc<PlatformGlobs>,
 }
 
-/// Compiles the patterns of a list, which has a 0 after each, and keeps them in an empty place.
+/// Compiles the patterns of a list, and keeps them in an empty place.
 #[unsafe(no_mangle)]
 pub extern "C" fn osb_core_globs_new(
     alloc: Global,
     platform: u32,
     options: u32,
-    patterns: &[u8],
+    patterns: &[&[u8]],
     held: &mut HeldGlobs,
     fault: &mut GlobFault,
 ) -> u32
@@ -96,7 +96,7 @@ fn made(
     alloc: Global,
     platform: u32,
     options: GlobOptions,
-    patterns: &[u8],
+    patterns: &[&[u8]],
 ) -> Result<PlatformGlobs, Refusal>
     requires { platform ≤ 2 }
     ensures { MatchResult result (λ set. IsSetOf platform options patterns.now set)
@@ -153,7 +153,7 @@ fn answer_on<E: Platform>(set: &GlobSet<E>, path: &[u8]) -> u32
 pub extern "C" fn osb_core_globs_matches(
     alloc: Global,
     held: &mut HeldGlobs,
-    paths: &[u8],
+    paths: &[&[u8]],
     matched: &mut [u8],
     count: &mut usize,
 ) -> u32
@@ -177,7 +177,7 @@ pub extern "C" fn osb_core_globs_matches(
 fn write_told(
     alloc: Global,
     globs: &PlatformGlobs,
-    paths: &[u8],
+    paths: &[&[u8]],
     matched: &mut [u8],
     count: &mut usize,
 ) -> u32
@@ -194,7 +194,7 @@ fn write_told(
 }
 
 /// Returns a byte for each path of a list: whether the set matches it.
-fn told_by(alloc: Global, globs: &PlatformGlobs, paths: &[u8]) -> Result<Vec<u8>, Refusal>
+fn told_by(alloc: Global, globs: &PlatformGlobs, paths: &[&[u8]]) -> Result<Vec<u8>, Refusal>
     ensures { MatchResult result (λ answers. AreToldOn globs.now paths.now answers.items)
         (λ refusal. IsToldRefusal globs.now paths.now refusal) }
 {

@@ -18,7 +18,7 @@ use std::alloc::Global;
 pub fn verdicts_in(
     alloc: Global,
     file: &[u8],
-    paths: &[u8],
+    paths: &[&[u8]],
     flags: &[u8],
     array: &mut [Told],
 ) -> Result<usize, u32>
