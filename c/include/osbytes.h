@@ -61,7 +61,7 @@
  * What else is written as a list goes into an array of the caller's, or for words of a line into a
  * buffer with a 0 after each. Iterators return their items one by one (_next), or many at once (_fill).
  *
- * Threads and signals. No call keeps state or writes anything but what its arguments say. So every
+ * Threads and signals. No call keeps state, or writes anything but through its arguments. So every
  * call may run in any thread, if no other thread writes to what it reads or touches what it writes.
  * It may run in a signal handler, too, except for the calls that take memory by malloc: those that
  * build paths (osb_path_join to osb_path_with_added_extension), osb_glob_matches and
@@ -145,7 +145,7 @@ typedef enum osb_status {
     OSB_BAD_INDEX = 18,    /* the index is past the end */
     OSB_BAD_FAULT = 19,    /* there is no such fault */
     OSB_BAD_STATE = 20,    /* no call leaves a checker so */
-    OSB_TOO_LONG = 21,     /* what the _bound call says is past SIZE_MAX */
+    OSB_TOO_LONG = 21,     /* what the _bound call returns is past SIZE_MAX */
     OSB_BAD_OPTION = 22,   /* there is no such option */
     OSB_BAD_EXTENSION = 23, /* the extension has a separator */
     OSB_BAD_POINTER = 32   /* null, too long, not aligned, or overlapping */
@@ -174,7 +174,7 @@ typedef struct osb_fault {
     osb_fault_kind kind;
     uint32_t value;      /* the byte, the code point, or 0 */
     size_t index;        /* how many bytes before it are well formed */
-    size_t count;        /* how many bytes are refused with it */
+    size_t count;        /* how many bytes are rejected with it */
 } osb_fault;
 
 /* Whether the bytes are a string of the platform: OSB_OK, OSB_FAULTY, OSB_BAD_PLATFORM. `fault`
@@ -433,7 +433,7 @@ OSB_NODISCARD osb_status osb_path_strip_prefix(osb_platform platform, const char
                                                const char *base, size_t base_len, osb_view *rest);
 
 /* Paths that are built of others. Their bytes aren't checked: of strings of a platform the path is one, too.
- * How much room is enough each says itself, with room 0. Each takes memory by malloc while it runs. */
+ * With room 0 each returns how much room is enough. Each takes memory by malloc while it runs. */
 
 /* Writes a path after a base, as std's Path::join does: OSB_OK, OSB_NO_ROOM, OSB_NO_MEMORY,
  * OSB_BAD_PLATFORM. A path with a prefix replaces the base, and one with a root all but the base's prefix.
@@ -457,7 +457,7 @@ typedef enum osb_join_reason {
 
 /* Writes a path below a base, for names out of an archive or a request: the base's components, and after
  * them the names of the path, in which `.` and `..` are resolved. OSB_OK, OSB_NO_ROOM, OSB_NO_MEMORY,
- * OSB_BAD_PLATFORM, and OSB_BAD_PATH, with which `*reason` says why there is none, as OSB_JOIN_LEAVES;
+ * OSB_BAD_PLATFORM, and OSB_BAD_PATH, with which `*reason` is why there is none, as OSB_JOIN_LEAVES;
  * `reason` may be null.
  * It looks at the path alone: links of the file system, 8.3 names and aliases may still lead elsewhere. */
 OSB_NODISCARD osb_status osb_path_join_checked(osb_platform platform, const char *base,
@@ -587,10 +587,10 @@ typedef enum osb_verdict_kind {
     OSB_TAKEN_IN = 2 /* by a line with a ! */
 } osb_verdict_kind;
 
-/* What an ignore file says of a path. */
+/* What an ignore file decides for a path. */
 typedef struct osb_verdict {
     osb_verdict_kind kind;
-    size_t line; /* which line says it, from 1; 0 if none does */
+    size_t line; /* which line decides it, from 1; 0 if none does */
 } osb_verdict;
 
 /* Writes the verdict of a file .gitignore at the top of a tree on each path, as git does: OSB_OK,
@@ -605,11 +605,11 @@ OSB_NODISCARD osb_status osb_ignore_matches(const char *file, size_t file_len,
  * osb_ignores_new to osb_ignores_free. One call at a time may use them. */
 typedef struct osb_ignores osb_ignores;
 
-/* What ignore files say of a path. */
+/* What ignore files decide for a path. */
 typedef struct osb_decision {
     osb_verdict_kind kind;
-    size_t file; /* which file says it, by the order in which they were added, from 0; 0 if none does */
-    size_t line; /* which line says it, from 1; 0 if none does */
+    size_t file; /* which file decides it, by the order in which they were added, from 0; 0 if none does */
+    size_t line; /* which line decides it, from 1; 0 if none does */
 } osb_decision;
 
 /* Keeps no ignore files in `*ignores`, which has to be freed: OSB_OK, OSB_NO_MEMORY. */
@@ -619,7 +619,7 @@ OSB_NODISCARD osb_status osb_ignores_new(osb_ignores **ignores);
  * fault. Its lines match paths below that directory, and come after those of the directories above it. */
 OSB_NODISCARD osb_status osb_ignores_add(osb_ignores *ignores, const char *directory,
                                          size_t directory_len, const char *file, size_t file_len);
-/* Writes what the files say of a path, which is relative to the top of the tree, as git does: OSB_OK. It takes
+/* Writes what the files decide for a path, which is relative to the top of the tree, as git does: OSB_OK. It takes
  * no memory. */
 OSB_NODISCARD osb_status osb_ignores_match(osb_ignores *ignores, const char *path, size_t len,
                                            bool is_dir, osb_decision *decision);
@@ -665,7 +665,7 @@ OSB_NODISCARD osb_status osb_shell_join(const osb_view *names, size_t len, char 
 
 /* How a line is read. Options are added. */
 enum {
-    OSB_SPECIALS = 1,     /* special characters mean themselves, and are not refused */
+    OSB_SPECIALS = 1,     /* special characters mean themselves, and are not rejected */
     OSB_DOLLAR_QUOTES = 2 /* $'..' is read, too */
 };
 
@@ -692,7 +692,7 @@ size_t osb_words_bound(size_t len);
 /* Writes the words of a line as a POSIX shell reads it, where nothing is expanded, with a 0 byte after
  * each: OSB_OK, OSB_NO_ROOM, OSB_BAD_LINE, OSB_HAS_NUL, OSB_TOO_LONG, OSB_BAD_OPTION. `*count` counts
  * the 0 bytes, too: the words are the strings of C in the first `*count` bytes, one after the other. A byte
- * by which some POSIX shell in C or UTF-8 expands or does something else is refused, unless OSB_SPECIALS is
+ * by which some POSIX shell in C or UTF-8 expands or does something else is rejected, unless OSB_SPECIALS is
  * given: | & ; < > ( ) $ * ? [ { } ~ ! ` and CR outside quotes, # = ^ first in a word, $ ! ` in double quotes.
  * Blanks beyond ASCII are part of a word, which yash takes for blanks. `fault`
  * may be null; it is written with OSB_BAD_LINE and with OSB_HAS_NUL. */
@@ -719,7 +719,7 @@ OSB_NODISCARD osb_status osb_windows_quote_name(const char *at, size_t len, uint
                                                 osb_fault *fault);
 /* Writes the line of words. The first is the program's name and the others are arguments. `*which`
  * is the number of the word that `index` and `fault` are about, and may be null. With OSB_NO_ROOM
- * nothing is refused, but for that a sum past SIZE_MAX is OSB_TOO_LONG. Without words the line is
+ * nothing is rejected, but for that a sum past SIZE_MAX is OSB_TOO_LONG. Without words the line is
  * empty. */
 OSB_NODISCARD osb_status osb_windows_command_line(const osb_view *words, size_t len, uint16_t *out,
                                                   size_t room, size_t *count, size_t *which,

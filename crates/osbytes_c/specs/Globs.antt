@@ -117,7 +117,7 @@ module _ (formed : List ℕ → Type 0) (units : List ℕ → List ℕ) (o : Glo
   IsNoSet Faulty = HasOther formed patterns
   IsNoSet (Fault fault) = IsGlobFault fault
 
--- why a list isn't read: memory was refused, or an item isn't a string
+-- why a list isn't read: an allocation failed, or an item isn't a string
 abbrev pub IsListRefusal : (List ℕ → Type 0) → Views → Refusal → Type 0
 IsListRefusal formed list Memory = Unit {0}
 IsListRefusal formed list Faulty = HasOther formed list

@@ -15,7 +15,7 @@ pub struct Fault {
     pub value: u32,
     /// How many bytes are well formed before it.
     pub index: usize,
-    /// How many bytes are refused with it.
+    /// How many bytes are rejected with it.
     pub count: usize,
 }
 
