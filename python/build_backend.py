@@ -26,7 +26,7 @@ from typing import Any, Iterable
 
 HERE = Path(__file__).resolve().parent
 # In a source distribution these are beside this file, and in the repository not.
-HEADERS = (HERE / "osbytes.h", HERE.parent / "c" / "osbytes.h")
+HEADERS = (HERE / "osbytes.h", HERE.parent / "c" / "include" / "osbytes.h")
 LICENSES = tuple(folder / name for folder in (HERE, HERE.parent) for name in ("LICENSE.md", "LICENSE", "NOTICE"))
 # A fixed time, so that the same sources give the same files.
 MADE = (2026, 1, 1, 0, 0, 0)

@@ -2,14 +2,15 @@
 
 from __future__ import annotations
 
-from ctypes import addressof, c_void_p
+from array import array
+from ctypes import addressof, c_bool, c_void_p
 from enum import IntEnum, IntFlag
 from threading import Lock
 from typing import Any, Iterable
 
 from . import _quick as quick
 from ._errors import GlobError, NulError
-from ._library import BAD_OPTION, BAD_PATTERN, HAS_NUL, NO_MEMORY, Call, GlobFault, address_of, is_so, library, written
+from ._library import BAD_OPTION, BAD_PATTERN, HAS_NUL, NO_MEMORY, GlobFault, address_of, is_so, library, views_of
 from ._strings import UNIX, WINDOWS, AnyOsName, Platform, as_platform, done, index_in, read_all, read_valid, said
 
 
@@ -48,10 +49,12 @@ def without_nul(raw: bytes, errors: str | None, which: int | None = None) -> byt
     return raw
 
 
-def _list_of(strings: Iterable[AnyOsName], platform: Platform) -> tuple[list[bytes], bytes, str | None]:
-    """Returns strings, and these with a 0 after each, and how they become a `str`."""
+def _list_of(strings: Iterable[AnyOsName], platform: Platform) -> tuple[list[bytes], array[int], str | None]:
+    """Returns strings that have no NUL, their views, and how they become a `str`."""
     items, errors = read_all(strings, platform)
-    return items, b"".join(without_nul(item, errors, which) + b"\0" for which, item in enumerate(items)), errors
+    for which, item in enumerate(items):
+        without_nul(item, errors, which)
+    return items, views_of(items), errors
 
 
 class GlobSet:
@@ -80,9 +83,10 @@ class GlobSet:
             raise ValueError(said(BAD_OPTION))
         self._platform, self._lock = platform, Lock()
         self._flags = GlobFlag(usual if flags is None else flags)
-        self._patterns, given, errors = _list_of(patterns, platform)
+        self._patterns, views, errors = _list_of(patterns, platform)
+        at, count = views.buffer_info()[0], len(self._patterns)
         made, fault = c_void_p(), GlobFault()
-        status = library.osb_globs_new(platform, self._flags, given, len(given), addressof(made), addressof(fault))
+        status = library.osb_globs_new(platform, self._flags, at, count, addressof(made), addressof(fault))
         if status == NO_MEMORY:
             raise MemoryError
         if status == BAD_PATTERN:
@@ -108,9 +112,8 @@ class GlobSet:
 
     def matches(self, paths: Iterable[AnyOsName]) -> list[bool]:
         """Returns for each path whether it matches, in a fraction of the time of as many calls of `is_match`."""
-        items, given, _ = _list_of(paths, self._platform)
-        other = c_void_p()
-        call: Call = library.osb_globs_matches
+        items, views, _ = _list_of(paths, self._platform)
+        at, other, told = views.buffer_info()[0], c_void_p(), (c_bool * len(items))()
         # a call on one handle excludes others, so a long one has a handle of its own
         with self._lock:
             status = library.osb_globs_share(self._handle, addressof(other))
@@ -118,13 +121,11 @@ class GlobSet:
             raise MemoryError
         done(status)
         try:
-            status, room = written(
-                lambda room: call(other.value, given, len(given), room.out_at, room.size, room.count_at), len(items)
-            )
+            status = library.osb_globs_matches(other.value, at, len(items), addressof(told))
         finally:
             library.osb_globs_free(other.value)
         done(status)
-        return [answer != 0 for answer in room.bytes[: room.count]]
+        return list(told)
 
     def is_match(self, path: AnyOsName) -> bool:
         """Returns whether a path matches.

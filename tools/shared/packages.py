@@ -28,7 +28,7 @@ from sources import ROOT
 sys.path.insert(0, str(ROOT / "python"))
 import build_backend
 
-HEADER = ROOT / "c" / "osbytes.h"
+HEADER = ROOT / "c" / "include" / "osbytes.h"
 # The first comment of a header, a comment before declarations, a declaration of a call, and a type with its comment.
 OPENING = re.compile(r"/\* osbytes\.h: (.*?)\*/", re.S)
 SAID = r"/\*(?P<said>(?:(?!\*/).)*)\*/\n"
@@ -154,13 +154,13 @@ DOCUMENTS = {
     "LICENSE.md": "LICENSE.md",
     "NOTICE": "NOTICE",
     "c/GUIDE.md": "share/doc/osbytes/GUIDE.md",
-    "c/names.c": "share/doc/osbytes/names.c",
-    "c/below.c": "share/doc/osbytes/below.c",
-    "c/outside.c": "share/doc/osbytes/outside.c",
-    "c/outside.cc": "share/doc/osbytes/outside.cc",
-    "c/outside.go": "share/doc/osbytes/outside.go",
-    "c/outside.rs": "share/doc/osbytes/outside.rs",
-    "c/osbytes.h": "include/osbytes.h",
+    "c/examples/names.c": "share/doc/osbytes/names.c",
+    "c/examples/below.c": "share/doc/osbytes/below.c",
+    "c/examples/outside.c": "share/doc/osbytes/outside.c",
+    "c/examples/outside.cc": "share/doc/osbytes/outside.cc",
+    "c/examples/outside.go": "share/doc/osbytes/outside.go",
+    "c/examples/outside.rs": "share/doc/osbytes/outside.rs",
+    "c/include/osbytes.h": "include/osbytes.h",
 }
 
 

@@ -1,8 +1,8 @@
 -- The chunks that an array is filled with.
 use Rattle.std.specs.Prelude.{◌≡◌, ◌↔◌, ℕ, Bool, true, false, List, length}
 use Rattle.wtf8_core.specs.Chunks.{Chunk}
-use Rattle.osbytes_c.specs.declared.chunks.Ends.{Ends}
-use Rattle.osbytes_c.specs.declared.chunks_fill.ChunkView.{ChunkView}
+use Rattle.osbytes_c.specs.declared.walks.chunks.Ends.{Ends}
+use Rattle.osbytes_c.specs.declared.walks.chunks_fill.ChunkView.{ChunkView}
 use Rattle.osbytes_c.specs.Fills.{GiveInOrder, IsView, viewed}
 use Rattle.osbytes_c.specs.Steps.{IsChunkAt}
 

@@ -10,8 +10,8 @@ use Rattle.wtf8_core.specs.declared.checker.SavedChecker.{SavedChecker}
 use Rattle.wtf8_core.specs.declared.fault.EncodingError.{EncodingError}
 use Rattle.wtf8_core.specs.declared.fault.EncodingError.TheVariants.{Byte, CodePoint, End, Utf8}
 use Rattle.wtf8_core.specs.FaultText.{fault_text}
-use Rattle.osbytes_c.specs.declared.fault.Fault.{Fault}
-use Rattle.osbytes_c.specs.declared.checker.Open.{Open}
+use Rattle.osbytes_c.specs.declared.strings.fault.Fault.{Fault}
+use Rattle.osbytes_c.specs.declared.strings.checker.Open.{Open}
 
 -- the number of a fault's kind
 abbrev pub kind_of : EncodingError → ℕ
@@ -50,7 +50,7 @@ pub record IsWtf8Report (bytes : List ℕ) (report : Fault) : Type 0 where
   pub value : report.value ≡ value_of fault
   pub index : IsFaultAt bytes report.index report.count
 
--- the report is the first fault of bytes that aren't UTF-8, with how many bytes are refused: all that are left if the fault has no length
+-- the report is the first fault of bytes that aren't UTF-8, with the number of bytes that are rejected: all that are left if the fault has no length
 pub record IsUtf8Report (bytes : List ℕ) (report : Fault) : Type 0 where
   pub len : Option ℕ
   pub first : IsUtf8Fault bytes report.index len

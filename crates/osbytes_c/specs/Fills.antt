@@ -1,7 +1,7 @@
 -- What an array is filled with: the next items of an iterator, each with the address and the length of its bytes.
 use Rattle.std.specs.Prelude.{◌≡◌, ◌⊎◌, ◌+◌, ◌-◌, ◌≤◌, ◌<◌, ◌^◌, ℕ, Bool, true, false, List, [], ◌∷◌, length, take, drop}
-use Rattle.osbytes_c.specs.declared.view.View.{View}
-use Rattle.osbytes_c.specs.declared.view.Filled.{Filled}
+use Rattle.osbytes_c.specs.declared.walks.view.View.{View}
+use Rattle.osbytes_c.specs.declared.walks.view.Filled.{Filled}
 use Rattle.osbytes_c.specs.Steps.{part, IsFirstPiece, IsLastPiece}
 
 -- the array, whose content was `old`, begins with the items, and after them it is unchanged; `count` is the number of items

@@ -3,8 +3,8 @@ use Rattle.std.specs.Prelude.{Bool, true, false, Option, Some, None}
 use base.Fml.{Fml, ffalse}
 use base.Fraction.{full_share}
 use denote.RawPtr.{Ptr, lies_at, room_at}
-use Rattle.osbytes_c.specs.contracts.glob_sets.Globs.{the_row as the_globs}
-use Rattle.osbytes_c.specs.declared.glob_sets.Globs.{Globs}
+use Rattle.osbytes_c.specs.contracts.globs.sets.Globs.{the_row as the_globs}
+use Rattle.osbytes_c.specs.declared.globs.sets.Globs.{Globs}
 
 -- the set lies at the pointer, or there is room for one
 abbrev pub kept : Bool → Ptr → Option Globs → Fml

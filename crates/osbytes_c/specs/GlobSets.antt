@@ -6,11 +6,11 @@ use Rattle.wildcards.specs.declared.options.Options.{Options}
 use Rattle.wildcards.specs.declared.set.Pattern.{Pattern}
 use Rattle.glob_patterns.specs.declared.options.GlobOptions.{GlobOptions}
 use Rattle.osbytes_c.specs.declared.globs.Refusal.{Refusal}
-use Rattle.osbytes_c.specs.declared.glob_sets.Globs.{Globs}
-use Rattle.osbytes_c.specs.declared.glob_sets.PlatformGlobs.{PlatformGlobs}
-use Rattle.osbytes_c.specs.declared.glob_sets.PlatformGlobs.TheVariants.{Unix, Windows, Wasm}
+use Rattle.osbytes_c.specs.declared.globs.sets.Globs.{Globs}
+use Rattle.osbytes_c.specs.declared.globs.sets.PlatformGlobs.{PlatformGlobs}
+use Rattle.osbytes_c.specs.declared.globs.sets.PlatformGlobs.TheVariants.{Unix, Windows, Wasm}
 use Rattle.osbytes_c.specs.Globs.{AreCompiled, AreNamesTold, IsListRefusal, IsMatched}
-use Rattle.osbytes_c.specs.ItemLists.{HasOther}
+use Rattle.osbytes_c.specs.ItemLists.{Views, HasOther}
 use Rattle.osbytes_c.specs.Platforms.{formed_on, units_on}
 
 module _ (formed : List ℕ → Type 0) (units : List ℕ → List ℕ) where
@@ -21,13 +21,13 @@ module _ (formed : List ℕ → Type 0) (units : List ℕ → List ℕ) where
       ⊎ (((answer ≡ 3) × (formed path × (¬ (IsMatched units matching compiled path)))) ⊎ ((answer ≡ 1) × (¬ (formed path))))
 
 -- the set is that of the list, on the platform
-abbrev pub IsSetOf : ℕ → GlobOptions → List ℕ → PlatformGlobs → Type 0
+abbrev pub IsSetOf : ℕ → GlobOptions → Views → PlatformGlobs → Type 0
 IsSetOf platform o patterns (Unix globs) = (platform ≡ 0) × AreCompiled (formed_on 0) (units_on 0) o patterns globs.set.options globs.set.patterns.items
 IsSetOf platform o patterns (Windows globs) = (platform ≡ 1) × AreCompiled (formed_on 1) (units_on 1) o patterns globs.set.options globs.set.patterns.items
 IsSetOf platform o patterns (Wasm globs) = (platform ≡ 2) × AreCompiled (formed_on 2) (units_on 2) o patterns globs.set.options globs.set.patterns.items
 
 -- such a set is kept
-abbrev pub IsMade : ℕ → GlobOptions → List ℕ → Option Globs → Type 0
+abbrev pub IsMade : ℕ → GlobOptions → Views → Option Globs → Type 0
 IsMade platform o patterns None = ⊥
 IsMade platform o patterns (Some globs) = IsSetOf platform o patterns (arc_value globs.set)
 
@@ -54,35 +54,35 @@ IsAnswer path None answer = answer ≡ 26
 IsAnswer path (Some globs) answer = IsAnswerOf path (arc_value globs.set) answer
 
 -- the number for a path is that of a set compiled from the patterns of the list
-abbrev pub IsAsked : ℕ → GlobOptions → List ℕ → List ℕ → ℕ → Type 0
+abbrev pub IsAsked : ℕ → GlobOptions → Views → List ℕ → ℕ → Type 0
 IsAsked platform o patterns path answer =
     (matching : Options) × ((compiled : List (Pattern Global))
     × (AreCompiled (formed_on platform) (units_on platform) o patterns matching compiled × IsAnswerOn (formed_on platform) (units_on platform) matching compiled path answer))
 
 -- each path of a list has a byte that records whether a pattern of the set matches it
-abbrev pub AreToldOn : PlatformGlobs → List ℕ → List ℕ → Type 0
+abbrev pub AreToldOn : PlatformGlobs → Views → List ℕ → Type 0
 AreToldOn (Unix globs) paths answers = AreNamesTold (formed_on 0) (units_on 0) globs.set.options globs.set.patterns.items paths answers
 AreToldOn (Windows globs) paths answers = AreNamesTold (formed_on 1) (units_on 1) globs.set.options globs.set.patterns.items paths answers
 AreToldOn (Wasm globs) paths answers = AreNamesTold (formed_on 2) (units_on 2) globs.set.options globs.set.patterns.items paths answers
 
 -- the same of what is kept
-abbrev pub AreToldBy : Option Globs → List ℕ → List ℕ → Type 0
+abbrev pub AreToldBy : Option Globs → Views → List ℕ → Type 0
 AreToldBy None paths answers = ⊥
 AreToldBy (Some globs) paths answers = AreToldOn (arc_value globs.set) paths answers
 
 -- an item of a list isn't a string of the set's platform
-abbrev pub HasOtherOn : PlatformGlobs → List ℕ → Type 0
+abbrev pub HasOtherOn : PlatformGlobs → Views → Type 0
 HasOtherOn (Unix globs) list = HasOther (formed_on 0) list
 HasOtherOn (Windows globs) list = HasOther (formed_on 1) list
 HasOtherOn (Wasm globs) list = HasOther (formed_on 2) list
 
 -- the same of what is kept
-abbrev pub HasOtherBy : Option Globs → List ℕ → Type 0
+abbrev pub HasOtherBy : Option Globs → Views → Type 0
 HasOtherBy None list = ⊥
 HasOtherBy (Some globs) list = HasOtherOn (arc_value globs.set) list
 
 -- why a set reports nothing for a list of paths
-abbrev pub IsToldRefusal : PlatformGlobs → List ℕ → Refusal → Type 0
+abbrev pub IsToldRefusal : PlatformGlobs → Views → Refusal → Type 0
 IsToldRefusal (Unix globs) list refusal = IsListRefusal (formed_on 0) list refusal
 IsToldRefusal (Windows globs) list refusal = IsListRefusal (formed_on 1) list refusal
 IsToldRefusal (Wasm globs) list refusal = IsListRefusal (formed_on 2) list refusal

@@ -17,7 +17,7 @@ use Rattle.glob_patterns.specs.declared.options.GlobOptions.{GlobOptions}
 use Rattle.osbytes_c.specs.declared.globs.GlobFault.{GlobFault}
 use Rattle.osbytes_c.specs.declared.globs.Refusal.{Refusal}
 use Rattle.osbytes_c.specs.declared.globs.Refusal.TheVariants.{Memory, Faulty, Fault}
-use Rattle.osbytes_c.specs.ItemLists.{AreItems, HasOther}
+use Rattle.osbytes_c.specs.ItemLists.{Views, AreItems, HasOther}
 
 -- the separators with this number: 0 none, 1 `/`, 3 `/` and `\`
 abbrev pub separators_on : ℕ → Separators
@@ -65,13 +65,13 @@ abbrev pub IsMatched : (List ℕ → List ℕ) → Options → List (Pattern Glo
 IsMatched units matching compiled path = (i : ℕ) × IsHit matching compiled (letters_of units path) i
 
 -- each path of the list is a string, and its byte records whether one of the compiled patterns matches it
-pub record AreNamesTold (formed : List ℕ → Type 0) (units : List ℕ → List ℕ) (matching : Options) (compiled : List (Pattern Global)) (paths answers : List ℕ) : Type 0 where
+pub record AreNamesTold (formed : List ℕ → Type 0) (units : List ℕ → List ℕ) (matching : Options) (compiled : List (Pattern Global)) (paths : Views) (answers : List ℕ) : Type 0 where
   pub names : List (List ℕ)
   pub are_names : AreItems paths names
   pub strings : AllByRecursion formed names
   pub told : AreTold (IsMatched units matching compiled) names answers
 
-module _ (formed : List ℕ → Type 0) (units : List ℕ → List ℕ) (o : GlobOptions) (patterns : List ℕ) where
+module _ (formed : List ℕ → Type 0) (units : List ℕ → List ℕ) (o : GlobOptions) (patterns : Views) where
   -- the patterns of the list, each a string, compiled with these options
   pub record AreCompiled (matching : Options) (compiled : List (Pattern Global)) : Type 0 where
     pub texts : List (List ℕ)
@@ -81,7 +81,7 @@ module _ (formed : List ℕ → Type 0) (units : List ℕ → List ℕ) (o : Glo
     pub meanings : AreMeanings formed (letters_of units) (syntax_of o) Global texts compiled
 
   -- each path of the list is a string, and its byte records whether one of the patterns of the other list matches it
-  pub record AreMatchesTold (paths answers : List ℕ) : Type 0 where
+  pub record AreMatchesTold (paths : Views) (answers : List ℕ) : Type 0 where
     pub matching : Options
     pub compiled : List (Pattern Global)
     pub are_compiled : AreCompiled matching compiled
@@ -102,11 +102,11 @@ module _ (formed : List ℕ → Type 0) (units : List ℕ → List ℕ) (o : Glo
   CanBeCompiled = (matching : Options) × ((compiled : List (Pattern Global)) × AreCompiled matching compiled)
 
   -- a pattern isn't a string; or the patterns can be compiled, and a path isn't a string
-  abbrev pub HasUnstring : List ℕ → Type 0
+  abbrev pub HasUnstring : Views → Type 0
   HasUnstring paths = HasOther formed patterns ⊎ (CanBeCompiled × HasOther formed paths)
 
   -- why nothing is reported: an allocation failed, an item isn't a string, or a pattern has a fault
-  abbrev pub IsRefusal : List ℕ → Refusal → Type 0
+  abbrev pub IsRefusal : Views → Refusal → Type 0
   IsRefusal paths Memory = Unit {0}
   IsRefusal paths Faulty = HasUnstring paths
   IsRefusal paths (Fault fault) = IsGlobFault fault
@@ -117,8 +117,8 @@ module _ (formed : List ℕ → Type 0) (units : List ℕ → List ℕ) (o : Glo
   IsNoSet Faulty = HasOther formed patterns
   IsNoSet (Fault fault) = IsGlobFault fault
 
--- why a list isn't read: memory was refused, or an item isn't a string
-abbrev pub IsListRefusal : (List ℕ → Type 0) → List ℕ → Refusal → Type 0
+-- why a list isn't read: an allocation failed, or an item isn't a string
+abbrev pub IsListRefusal : (List ℕ → Type 0) → Views → Refusal → Type 0
 IsListRefusal formed list Memory = Unit {0}
 IsListRefusal formed list Faulty = HasOther formed list
 IsListRefusal formed list (Fault fault) = ⊥

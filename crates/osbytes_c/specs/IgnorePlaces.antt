@@ -3,8 +3,8 @@ use Rattle.std.specs.Prelude.{Bool, true, false, Option, Some, None}
 use base.Fml.{Fml, ffalse}
 use base.Fraction.{full_share}
 use denote.RawPtr.{Ptr, lies_at, room_at}
-use Rattle.osbytes_c.specs.contracts.ignore_sets.Ignores.{the_row as the_ignores}
-use Rattle.osbytes_c.specs.declared.ignore_sets.Ignores.{Ignores}
+use Rattle.osbytes_c.specs.contracts.ignores.sets.Ignores.{the_row as the_ignores}
+use Rattle.osbytes_c.specs.declared.ignores.sets.Ignores.{Ignores}
 
 -- the files lie at the pointer, or there is room for them
 abbrev pub kept : Bool → Ptr → Option Ignores → Fml

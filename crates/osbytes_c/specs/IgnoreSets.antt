@@ -6,8 +6,8 @@ use Rattle.os_ignore.specs.declared.verdict.Verdict.{Verdict}
 use Rattle.os_ignore.specs.declared.verdict.Verdict.TheVariants.{Neither, Ignored, TakenIn}
 use Rattle.os_ignore.specs.Ignores.{IsAdded, files_of}
 use Rattle.os_ignore.specs.Verdicts.{IsVerdict}
-use Rattle.osbytes_c.specs.declared.ignore_sets.Decision.{Decision}
-use Rattle.osbytes_c.specs.declared.ignore_sets.Ignores.{Ignores}
+use Rattle.osbytes_c.specs.declared.ignores.sets.Decision.{Decision}
+use Rattle.osbytes_c.specs.declared.ignores.sets.Ignores.{Ignores}
 
 -- what is reported of a verdict: 0 neither, 1 ignored by this line of this file, 2 taken in by it
 abbrev pub Reports : Verdict → Decision → Type 0

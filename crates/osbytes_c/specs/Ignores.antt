@@ -7,7 +7,7 @@ use Rattle.os_ignore.specs.declared.verdict.Verdict.TheVariants.{Neither, Ignore
 use Rattle.os_ignore.specs.Ignores.{IsOnly}
 use Rattle.os_ignore.specs.Verdicts.{IsVerdict}
 use Rattle.osbytes_c.specs.declared.ignores.Told.{Told}
-use Rattle.osbytes_c.specs.ItemLists.{AreItems}
+use Rattle.osbytes_c.specs.ItemLists.{Views, AreItems}
 
 -- how a verdict is reported: 0 neither, 1 ignored by this line, 2 taken in by it
 abbrev pub Tells : Verdict → Told → Type 0
@@ -42,7 +42,7 @@ abbrev pub PushesTold : List Told → List Told → ℕ → List Told → ℕ �
 PushesTold more old count new len = (told buffer : List Told) → ToldTruncated told buffer old count → ToldTruncated (told ++ more) buffer new len
 
 -- the verdict of the files on each path of the list is written
-pub record AreToldIn (files : List (File Global)) (flags paths : List ℕ) (old new : List Told) (count : ℕ) : Type 0 where
+pub record AreToldIn (files : List (File Global)) (flags : List ℕ) (paths : Views) (old new : List Told) (count : ℕ) : Type 0 where
   pub names : List (List ℕ)
   pub are_names : AreItems paths names
   pub told : List Told
@@ -50,13 +50,13 @@ pub record AreToldIn (files : List (File Global)) (flags paths : List ℕ) (old 
   pub written : ToldTruncated told old new count
 
 -- the same of a file at the top of the tree
-pub record IsIgnoreTold (file flags paths : List ℕ) (old new : List Told) (count : ℕ) : Type 0 where
+pub record IsIgnoreTold (file flags : List ℕ) (paths : Views) (old new : List Told) (count : ℕ) : Type 0 where
   pub files : List (File Global)
   pub only : IsOnly file files
   pub told : AreToldIn files flags paths old new count
 
 -- the same without an array
-pub record AreToldOf (file flags paths : List ℕ) (told : List Told) : Type 0 where
+pub record AreToldOf (file flags : List ℕ) (paths : Views) (told : List Told) : Type 0 where
   pub files : List (File Global)
   pub only : IsOnly file files
   pub names : List (List ℕ)

@@ -1,28 +1,33 @@
--- Lists of items with a 0 after each, after the last one or not.
-use Rattle.std.specs.Prelude.{◌≡◌, ◌⊎◌, ◌<◌, ℕ, List, [], ◌∷◌, ◌++◌, length}
-use Rattle.os_command_line.specs.ShellWriting.{HasNoNul}
+-- Lists of items that C passes as an array of views.
+use Rattle.std.specs.Prelude.{◌≡◌, ℕ, List, [], ◌∷◌, ◌++◌, map}
+use Rattle.std.specs.Borrow.{Bor}
 
--- the list begins with this item, which has no 0, and after the 0 after it the rest comes, if there is one
-pub record IsFirstItem (list item rest : List ℕ) : Type 0 where
-  pub some : 0 < length list
-  pub no_nul : HasNoNul item
-  pub joined : (list ≡ item ++ 0 ∷ rest) ⊎ ((list ≡ item) × (rest ≡ []))
+-- an array of views, each of the bytes of an item
+abbrev pub Views : Type 0
+Views = List (Bor (List ℕ))
 
--- the list begins with these items, after which the rest comes
-abbrev pub AreFirstItems : List ℕ → List (List ℕ) → List ℕ → Type 0
-AreFirstItems list [] rest = list ≡ rest
-AreFirstItems list (item ∷ items) rest = (more : List ℕ) × (IsFirstItem list item more × AreFirstItems more items rest)
+-- the items that the views are of
+abbrev pub items_of : Views → List (List ℕ)
+items_of views = map (λ v. v.now) views
 
--- these are the items of the list
-abbrev pub AreItems : List ℕ → List (List ℕ) → Type 0
-AreItems list items = AreFirstItems list items []
+-- the array begins with a view of this item, and the rest comes after it
+abbrev pub IsFirstItem : Views → List ℕ → Views → Type 0
+IsFirstItem views item rest = items_of views ≡ item ∷ items_of rest
 
--- an item of the list isn't so
-pub record HasOther (Is : List ℕ → Type 0) (list : List ℕ) : Type 0 where
+-- the array begins with views of these items, after which the rest comes
+abbrev pub AreFirstItems : Views → List (List ℕ) → Views → Type 0
+AreFirstItems views items rest = items_of views ≡ items ++ items_of rest
+
+-- these are the items of the array
+abbrev pub AreItems : Views → List (List ℕ) → Type 0
+AreItems views items = AreFirstItems views items []
+
+-- an item of the array isn't so
+pub record HasOther (Is : List ℕ → Type 0) (views : Views) : Type 0 where
   pub before : List (List ℕ)
   pub item : List ℕ
-  pub from : List ℕ
-  pub after : List ℕ
-  pub are : AreFirstItems list before from
+  pub from : Views
+  pub after : Views
+  pub are : AreFirstItems views before from
   pub is : IsFirstItem from item after
   pub other : ¬ (Is item)

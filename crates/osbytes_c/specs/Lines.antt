@@ -7,7 +7,7 @@ use Rattle.os_command_line.specs.declared.shell.fault.FaultKind.{FaultKind}
 use Rattle.os_command_line.specs.declared.shell.fault.FaultKind.TheVariants.{UnclosedSingle, UnclosedDouble, UnclosedDollar, TrailingBackslash, Special, UnknownEscape}
 use Rattle.os_command_line.specs.declared.shell.fault.WordsFault.{WordsFault}
 use Rattle.os_command_line.specs.declared.shell.language.Language.{Language}
-use Rattle.osbytes_c.specs.declared.shell_words.LineFault.{LineFault}
+use Rattle.osbytes_c.specs.declared.lines.shell_words.LineFault.{LineFault}
 
 -- a 0 after each
 abbrev pub ended : List (List ℕ) → List ℕ

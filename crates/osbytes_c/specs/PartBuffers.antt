@@ -1,6 +1,6 @@
 -- Components in an array that may be too short for them.
 use Rattle.std.specs.Prelude.{◌≡◌, ℕ, List, length, take, drop, ◌++◌}
-use Rattle.osbytes_c.specs.declared.part_list.Part.{Part}
+use Rattle.osbytes_c.specs.declared.paths.part_list.Part.{Part}
 
 -- the array, whose content was `old`, begins with the components, truncated to the array's length, and after them it is unchanged; `count` is the number of components there are
 pub record PartsTruncated (parts old new : List Part) (count : ℕ) : Type 0 where

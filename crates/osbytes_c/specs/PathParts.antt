@@ -10,7 +10,7 @@ use Rattle.path_rules.specs.declared.head.Head.{Head}
 use Rattle.path_rules.specs.HeadParts.{IsHead}
 use Rattle.path_rules.specs.Separators.{separates}
 use Rattle.path_rules.specs.Component.{Item, Prefix, RootDir, CurDir, ParentDir, Normal, named}
-use Rattle.osbytes_c.specs.declared.part_list.Part.{Part}
+use Rattle.osbytes_c.specs.declared.paths.part_list.Part.{Part}
 
 -- 1 a prefix, 2 the root, 3 `.`, 4 `..`, 5 a name
 abbrev pub kind_number : Item → ℕ

@@ -5,10 +5,10 @@ use Rattle.path_rules.specs.declared.rules.Style.TheVariants.{Unix, Windows}
 use Rattle.path_rules.specs.Parent.{IsParent, HasNoParent}
 use Rattle.path_rules.specs.Prefix.{Kind, IsPrefixOf, IsPrefixed}
 use Rattle.path_rules.specs.Name.{IsStem, IsExtension, HasNoExtension}
-use Rattle.osbytes_c.specs.declared.part_list.Part.{Part}
+use Rattle.osbytes_c.specs.declared.paths.part_list.Part.{Part}
 use Rattle.osbytes_c.specs.declared.span.Span.{Span}
-use Rattle.osbytes_c.specs.declared.path_spans.Sought.{Sought}
-use Rattle.osbytes_c.specs.declared.path_spans.Sought.TheVariants.{Parent, Prefix, FileName, Stem, Extension}
+use Rattle.osbytes_c.specs.declared.paths.spans.Sought.{Sought}
+use Rattle.osbytes_c.specs.declared.paths.spans.Sought.TheVariants.{Parent, Prefix, FileName, Stem, Extension}
 use Rattle.osbytes_c.specs.PathParts.{AreParts, IsLastName, HasNoLastName}
 use Rattle.osbytes_c.specs.Steps.{part}
 use Rattle.osbytes_c.specs.PartBuffers.{PartsTruncated}

@@ -5,7 +5,7 @@ use Rattle.std.specs.Str.{IsUtf8}
 use Rattle.wtf8_core.specs.Occurrence.{OccursNowhere, IsFirstIndex, IsLastIndex}
 use Rattle.os_str_ext.specs.Pieces.{SplitsAt}
 use Rattle.wtf8_core.specs.Chunks.{Chunk, AreChunks}
-use Rattle.osbytes_c.specs.declared.split.Piece.{Piece}
+use Rattle.osbytes_c.specs.declared.walks.split.Piece.{Piece}
 use Rattle.wtf8_core.specs.UnitsOf.{units_of}
 use Rattle.wtf8_core.specs.Wtf8.{IsWtf8}
 use Rattle.wtf8_core.specs.Covered.{StartsWithNoCharacter}
@@ -13,8 +13,8 @@ use Rattle.os_str_ext.specs.Parts.{unit_number}
 use Rattle.os_str_ext.specs.Symbols.{AreSymbols}
 use Rattle.os_str_ext.specs.declared.symbols.Symbol.{Symbol}
 use Rattle.os_str_ext.specs.declared.symbols.Symbol.TheVariants as symbol
-use Rattle.osbytes_c.specs.declared.chunks.Ends.{Ends}
-use Rattle.osbytes_c.specs.declared.symbols.Step.{Step}
+use Rattle.osbytes_c.specs.declared.walks.chunks.Ends.{Ends}
+use Rattle.osbytes_c.specs.declared.walks.symbols.Step.{Step}
 use Rattle.osbytes_c.specs.Faults.{IsString}
 use Rattle.osbytes_c.specs.Platforms.{units_on}
 

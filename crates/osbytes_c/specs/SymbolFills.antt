@@ -2,8 +2,8 @@
 use Rattle.std.specs.Prelude.{◌≡◌, ◌≤◌, ◌<◌, ◌↔◌, ℕ, Bool, true, false, List, [], ◌∷◌, length, drop}
 use Rattle.os_str_ext.specs.Symbols.{AreSymbols}
 use Rattle.os_str_ext.specs.declared.symbols.Symbol.{Symbol}
-use Rattle.osbytes_c.specs.declared.symbols.Step.{Step}
-use Rattle.osbytes_c.specs.declared.symbols_fill.SymbolView.{SymbolView}
+use Rattle.osbytes_c.specs.declared.walks.symbols.Step.{Step}
+use Rattle.osbytes_c.specs.declared.walks.symbols_fill.SymbolView.{SymbolView}
 use Rattle.osbytes_c.specs.Faults.{IsString}
 use Rattle.osbytes_c.specs.Fills.{GiveInOrder, IsView}
 use Rattle.osbytes_c.specs.Platforms.{units_on}

@@ -2,9 +2,9 @@
 use Rattle.std.specs.Prelude.{◌≡◌, ℕ, true, false, List, [], ◌∷◌, length}
 use Rattle.wtf8_core.specs.Chunks.{Chunk}
 use Rattle.os_str_ext.specs.declared.symbols.Symbol.{Symbol}
-use Rattle.osbytes_c.specs.declared.split.Piece.{Piece}
-use Rattle.osbytes_c.specs.declared.chunks.Ends.{Ends}
-use Rattle.osbytes_c.specs.declared.symbols.Step.{Step}
+use Rattle.osbytes_c.specs.declared.walks.split.Piece.{Piece}
+use Rattle.osbytes_c.specs.declared.walks.chunks.Ends.{Ends}
+use Rattle.osbytes_c.specs.declared.walks.symbols.Step.{Step}
 use Rattle.osbytes_c.specs.Steps.{part, IsFirstPiece, IsLastPiece, IsChunkAt, IsSymbolAt, Reports}
 
 -- the pieces of s that steps give from index `at` on, until one is the last

@@ -3,8 +3,8 @@ use Rattle.std.specs.Prelude.{◌≡◌, List, ℕ}
 use Rattle.os_command_line.specs.Fish.{fish_word, IsFishText}
 use Rattle.os_command_line.specs.ReservedWords.{first_word}
 use Rattle.os_command_line.specs.ShellWriting.{quoted_word, IsLineWord}
-use Rattle.osbytes_c.specs.declared.shell.Shell.{Shell}
-use Rattle.osbytes_c.specs.declared.shell.Shell.TheVariants.{Posix, First, Line, Fish}
+use Rattle.osbytes_c.specs.declared.lines.shell.Shell.{Shell}
+use Rattle.osbytes_c.specs.declared.lines.shell.Shell.TheVariants.{Posix, First, Line, Fish}
 
 abbrev pub IsWordOf : Shell → List ℕ → List ℕ → Type 0
 IsWordOf Posix name word = word ≡ quoted_word name

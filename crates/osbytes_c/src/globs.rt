@@ -1,4 +1,6 @@
 //! Which paths of a list a pattern of another list matches.
+//!
+//! [`sets`] compiles sets of patterns, which C keeps in one of its [`places`].
 ghost use Rattle.std.specs.Prelude.{◌≡◌, ◌<◌, ◌↔◌, ◌∷◌, [], map, MatchOption, MatchResult};
 ghost use Rattle.std.specs.List.{AllByRecursion};
 ghost use Rattle.platform_str.specs.Strings.{bytes};
@@ -6,6 +8,9 @@ ghost use Rattle.osbytes_c.specs.Answers.{IsOneOf, IsWritten};
 ghost use Rattle.osbytes_c.specs.Globs.{AreCompiled, AreMatchesTold, AreNamesTold, AreNoOptions, HasUnstring, IsGlobFault, IsListRefusal, IsMatched, IsNoSet, IsRefusal, IsTold, fault_number, glob_options};
 ghost use Rattle.osbytes_c.specs.ItemLists.{AreItems};
 ghost use Rattle.osbytes_c.specs.Platforms.{formed_on, units_on};
+
+pub mod places;
+pub mod sets;
 
 use crate::built::write_list;
 use crate::item_list::first_item;
@@ -41,14 +46,14 @@ pub(crate) enum Refusal {
 }
 
 /// Writes for each path whether a pattern matches it. The patterns are compiled for the time of the
-/// call. Both lists have a 0 after each item, which the last may lack.
+/// call.
 #[unsafe(no_mangle)]
 pub extern "C" fn osb_core_glob_matches(
     alloc: Global,
     platform: u32,
     options: u32,
-    patterns: &[u8],
-    paths: &[u8],
+    patterns: &[&[u8]],
+    paths: &[&[u8]],
     matched: &mut [u8],
     count: &mut usize,
     fault: &mut GlobFault,
@@ -100,8 +105,8 @@ pub(crate) fn options_of(options: u32) -> Option<GlobOptions>
 fn matches_on<E: Platform>(
     alloc: Global,
     options: GlobOptions,
-    patterns: &[u8],
-    paths: &[u8],
+    patterns: &[&[u8]],
+    paths: &[&[u8]],
     matched: &mut [u8],
     count: &mut usize,
     fault: &mut GlobFault,
@@ -129,8 +134,8 @@ fn matches_on<E: Platform>(
 fn told_on<E: Platform>(
     alloc: Global,
     options: GlobOptions,
-    patterns: &[u8],
-    paths: &[u8],
+    patterns: &[&[u8]],
+    paths: &[&[u8]],
 ) -> Result<Vec<u8>, Refusal>
     ensures { MatchResult result
         (λ answers. AreMatchesTold E.well_formed E.units options patterns.now paths.now
@@ -145,7 +150,7 @@ fn told_on<E: Platform>(
 pub(crate) fn made_on<E: Platform>(
     alloc: Global,
     options: GlobOptions,
-    patterns: &[u8],
+    patterns: &[&[u8]],
 ) -> Result<GlobSet<E>, Refusal>
     ensures { MatchResult result
         (λ made. AreCompiled E.well_formed E.units options patterns.now made.set.options
@@ -165,7 +170,10 @@ pub(crate) fn made_on<E: Platform>(
 }
 
 /// The strings that the items of a list are.
-fn strings_of<'a, E: Platform>(alloc: Global, list: &'a [u8]) -> Result<Vec<OsStr<'a, E>>, Refusal>
+fn strings_of<'a, E: Platform>(
+    alloc: Global,
+    list: &[&'a [u8]],
+) -> Result<Vec<OsStr<'a, E>>, Refusal>
     ensures { MatchResult result (λ strings. AreItems list.now (map bytes strings.items)
         × AllByRecursion E.well_formed (map bytes strings.items))
         (λ refusal. IsListRefusal E.well_formed list.now refusal) }
@@ -188,7 +196,7 @@ fn strings_of<'a, E: Platform>(alloc: Global, list: &'a [u8]) -> Result<Vec<OsSt
 pub(crate) fn told_of<E: Platform>(
     alloc: Global,
     set: &GlobSet<E>,
-    paths: &[u8],
+    paths: &[&[u8]],
 ) -> Result<Vec<u8>, Refusal>
     ensures { MatchResult result
         (λ answers. AreNamesTold E.well_formed E.units set.now.set.options

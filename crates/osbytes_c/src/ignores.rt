@@ -1,8 +1,13 @@
 //! Which line of an ignore file decides each path of a list.
+//!
+//! [`sets`] reads ignore files of several directories, which C keeps in one of its [`places`].
 ghost use Rattle.std.specs.Prelude.{◌≡◌, ◌≢◌, ◌↔◌, ◌+◌, ◌<◌, ◌^◌, ◌∷◌, [], length, true, get_or};
 ghost use Rattle.os_ignore.specs.Ignores.{files_of};
 ghost use Rattle.osbytes_c.specs.Answers.{IsDone, IsOneOf};
 ghost use Rattle.osbytes_c.specs.Ignores.{AreToldIn, IsIgnoreTold, PushesTold, Tells};
+
+pub mod places;
+pub mod sets;
 
 use crate::item_list::first_item;
 use crate::status::{NO_MEMORY, fits};
@@ -20,13 +25,12 @@ pub struct Told {
 }
 
 /// Writes the verdict of a file at the top of a tree on each path of a list, as far as there is
-/// room, and counts the paths. After each path a 0 comes, which the last may lack. A path is a
-/// directory if its flag exists and isn't 0.
+/// room, and counts the paths. A path is a directory if its flag exists and isn't 0.
 #[unsafe(no_mangle)]
 pub extern "C" fn osb_core_ignore_matches(
     alloc: Global,
     file: &[u8],
-    paths: &[u8],
+    paths: &[&[u8]],
     flags: &[u8],
     out: &mut [Told],
     count: &mut usize,
@@ -44,7 +48,7 @@ pub extern "C" fn osb_core_ignore_matches(
 }
 
 /// Writes the verdict of the files on each path, as far as there is room, and counts the paths.
-fn tell(ignore: &Ignore, paths: &[u8], flags: &[u8], out: &mut [Told]) -> usize
+fn tell(ignore: &Ignore, paths: &[&[u8]], flags: &[u8], out: &mut [Told]) -> usize
     ensures { AreToldIn (files_of ignore.now) flags.now paths.now out.old out.new result }
 {
     let mut count = 0;

@@ -1,4 +1,7 @@
 //! Parts of paths, by their indices.
+//!
+//! [`predicates`] tests paths. [`parts`] finds their components, which [`part_list`] writes, and [`spans`]
+//! finds a part. [`joins`], [`forms`] and [`names`] build paths from others.
 ghost use Rattle.std.specs.Prelude.{◌≡◌, ◌<◌, ◌↔◌, ◌∷◌, [], length};
 ghost use Rattle.path_rules.specs.Parent.{HasNoParent};
 ghost use Rattle.path_rules.specs.Prefix.{IsPrefixed};
@@ -6,10 +9,18 @@ ghost use Rattle.osbytes_c.specs.Answers.{IsDone, IsOneOf};
 ghost use Rattle.osbytes_c.specs.PathParts.{HasNoLastName};
 ghost use Rattle.osbytes_c.specs.PathSpans.{HasNoExtensionSpan, HasNoPart, IsExtensionSpan, IsNameSpan, IsParentSpan, IsPartSpan, IsPrefixSpan, IsStemSpan, IsWithin, WritesParts, style_on};
 
-use crate::part_list::Part;
-use crate::path_parts::write_parts;
-use crate::path_spans::{Sought, span_of};
-use crate::path_tests::style_of;
+pub mod forms;
+pub mod joins;
+pub mod names;
+pub mod part_list;
+mod parts;
+pub mod predicates;
+mod spans;
+
+use crate::paths::part_list::Part;
+use crate::paths::parts::write_parts;
+use crate::paths::predicates::style_of;
+use crate::paths::spans::{Sought, span_of};
 use crate::span::Span;
 use crate::status::{DONE, NO_PLATFORM, NONE, fits};
 

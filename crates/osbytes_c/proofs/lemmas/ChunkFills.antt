@@ -2,7 +2,7 @@
 use Rattle.std.proofs.Common.{◌≡◌, ℕ, Bool, true, false, ◌↔◌, List, [], ◌∷◌, ◌++◌, length, map, drop, refl, sym, ap, ◌∙◌, subst}
 use Rattle.wtf8_core.specs.Chunks.{Chunk, AreChunks}
 use Rattle.wtf8_core.proofs.lemmas.chunks.OneList.{chunks_once}
-use Rattle.osbytes_c.specs.declared.chunks_fill.ChunkView.{ChunkView}
+use Rattle.osbytes_c.specs.declared.walks.chunks_fill.ChunkView.{ChunkView}
 use Rattle.osbytes_c.specs.ChunkFills.{ShowsChunk, viewed_chunk}
 use Rattle.osbytes_c.specs.Fills.{GiveInOrder, IsLeft, viewed}
 use Rattle.osbytes_c.specs.Steps.{part, IsChunkAt}

@@ -1,8 +1,8 @@
 -- Items in an array, one after the other.
 use Rattle.std.proofs.Common.{◌≡◌, ℕ, ◌+◌, ◌-◌, ◌<◌, Bool, true, false, List, [], ◌∷◌, ◌++◌, length, take, drop, set, map, refl, sym, ap, ◌∙◌, subst, arith}
 use Rattle.std.proofs.lemmas.List.{take_more_set, drop-set-lt, drop-drop, length-set, length-append}
-use Rattle.osbytes_c.specs.declared.view.View.{View}
-use Rattle.osbytes_c.specs.declared.split.Piece.{Piece}
+use Rattle.osbytes_c.specs.declared.walks.view.View.{View}
+use Rattle.osbytes_c.specs.declared.walks.split.Piece.{Piece}
 use Rattle.osbytes_c.specs.Fills.{IsFilled, IsLeft, IsView, viewed, GiveInOrder, PieceViews, LastPieceViews}
 use Rattle.osbytes_c.specs.Steps.{IsFirstPiece, IsLastPiece}
 use Rattle.osbytes_c.proofs.lemmas.Walks.{split_step, rsplit_step}

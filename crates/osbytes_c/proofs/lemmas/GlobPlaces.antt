@@ -18,11 +18,11 @@ use denote.Struct.Struct.{Struct, Struct-Makes}
 use denote.Struct.Owning.{shape}
 use Rattle.std.proofs.alloc.Calls.{Al}
 use Rattle.osbytes_c.specs.GlobPlaces.{kept}
-use Rattle.osbytes_c.specs.declared.glob_sets.Globs.{Globs}
-use Rattle.osbytes_c.specs.declared.glob_places.HeldGlobs.{HeldGlobs}
-use Rattle.osbytes_c.specs.contracts.glob_sets.Globs.{the_row as W}
-use Rattle.osbytes_c.specs.contracts.glob_places.HeldGlobs.{the_type}
-use Rattle.osbytes_c.proofs.glob_sets.Globs.TheLaws.{the_row_laws as LW}
+use Rattle.osbytes_c.specs.declared.globs.sets.Globs.{Globs}
+use Rattle.osbytes_c.specs.declared.globs.places.HeldGlobs.{HeldGlobs}
+use Rattle.osbytes_c.specs.contracts.globs.sets.Globs.{the_row as W}
+use Rattle.osbytes_c.specs.contracts.globs.places.HeldGlobs.{the_type}
+use Rattle.osbytes_c.proofs.globs.sets.Globs.TheLaws.{the_row_laws as LW}
 
 -- the machine value of a place
 abbrev pub place : Bool → Ptr → Val

@@ -6,6 +6,7 @@ use Rattle.wildcards.specs.declared.set.Pattern.{Pattern}
 use Rattle.glob_patterns.specs.declared.options.GlobOptions.{GlobOptions}
 use Rattle.osbytes_c.specs.declared.globs.Refusal.{Refusal}
 use Rattle.osbytes_c.specs.declared.globs.Refusal.TheVariants.{Memory, Faulty, Fault}
+use Rattle.osbytes_c.specs.ItemLists.{Views}
 use Rattle.osbytes_c.specs.Globs.{AreCompiled, AreMatchesTold, AreNamesTold, IsListRefusal, IsRefusal, IsTold, AreTold}
 
 pub one_more_told : (Is : List ℕ → Type 0) (items : List (List ℕ)) (answers : List ℕ) (item : List ℕ) (answer : ℕ) → AreTold Is items answers → IsTold (Is item) answer
@@ -15,7 +16,7 @@ one_more_told Is [] (other ∷ answers) item answer are is = absurd are
 one_more_told Is (first ∷ items) [] item answer are is = absurd are
 one_more_told Is (first ∷ items) (other ∷ answers) item answer are is = (are.0, one_more_told Is items answers item answer are.1 is)
 
-module _ (formed : List ℕ → Type 0) (units : List ℕ → List ℕ) (o : GlobOptions) (patterns paths : List ℕ) where
+module _ (formed : List ℕ → Type 0) (units : List ℕ → List ℕ) (o : GlobOptions) (patterns paths : Views) where
   -- why a set that there is tells nothing
   pub without_paths : (matching : Options) (compiled : List (Pattern Global)) → AreCompiled formed units o patterns matching compiled → (r : Refusal) → IsListRefusal formed paths r
       → IsRefusal formed units o patterns paths r

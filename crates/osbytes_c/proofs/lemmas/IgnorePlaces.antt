@@ -18,11 +18,11 @@ use denote.Struct.Struct.{Struct, Struct-Makes}
 use denote.Struct.Owning.{shape}
 use Rattle.std.proofs.alloc.Calls.{Al}
 use Rattle.osbytes_c.specs.IgnorePlaces.{kept}
-use Rattle.osbytes_c.specs.declared.ignore_sets.Ignores.{Ignores}
-use Rattle.osbytes_c.specs.declared.ignore_places.HeldIgnores.{HeldIgnores}
-use Rattle.osbytes_c.specs.contracts.ignore_sets.Ignores.{the_row as W}
-use Rattle.osbytes_c.specs.contracts.ignore_places.HeldIgnores.{the_type}
-use Rattle.osbytes_c.proofs.ignore_sets.Ignores.TheLaws.{the_row_laws as LW}
+use Rattle.osbytes_c.specs.declared.ignores.sets.Ignores.{Ignores}
+use Rattle.osbytes_c.specs.declared.ignores.places.HeldIgnores.{HeldIgnores}
+use Rattle.osbytes_c.specs.contracts.ignores.sets.Ignores.{the_row as W}
+use Rattle.osbytes_c.specs.contracts.ignores.places.HeldIgnores.{the_type}
+use Rattle.osbytes_c.proofs.ignores.sets.Ignores.TheLaws.{the_row_laws as LW}
 
 -- the machine value of a place
 abbrev pub place : Bool → Ptr → Val

@@ -5,7 +5,7 @@ use Rattle.os_ignore.specs.declared.file.File.{File}
 use Rattle.std.specs.declared.alloc.Global.{Global}
 use Rattle.osbytes_c.specs.declared.ignores.Told.{Told}
 use Rattle.osbytes_c.specs.Ignores.{IsPathTold, ArePathsTold, IsIgnoreTold, AreToldOf}
-use Rattle.osbytes_c.specs.ItemLists.{AreItems}
+use Rattle.osbytes_c.specs.ItemLists.{Views, AreItems}
 
 pub one_more_path : (files : List (File Global)) (flags : List ℕ) (number at : ℕ) (paths : List (List ℕ)) (rest : List Told) (path : List ℕ) (told : Told)
     → ArePathsTold files flags number paths rest → at ≡ number + length paths → IsPathTold files flags at path told → ArePathsTold files flags number (paths ++ path ∷ []) (rest ++ told ∷ [])
@@ -16,7 +16,7 @@ one_more_path files flags number at (first ∷ paths) (other ∷ rest) path told
     (are.0, one_more_path files flags (suc number) at paths rest path told are.1 (omega (arith, e)) is)
 
 -- where there was room, all is there
-pub told_there : (file flags paths : List ℕ) (old new : List Told) (count : ℕ) → IsIgnoreTold file flags paths old new count → count ≤ length old → AreToldOf file flags paths (take count new)
+pub told_there : (file flags : List ℕ) (paths : Views) (old new : List Told) (count : ℕ) → IsIgnoreTold file flags paths old new count → count ≤ length old → AreToldOf file flags paths (take count new)
 told_there file flags paths old new count t within =
     let w = t.told.written in
     let all = take_all (length old) t.told.told (omega (arith, w.count_is, within)) in
@@ -36,7 +36,7 @@ as_many_told files flags number (name ∷ names) [] are = absurd are
 as_many_told files flags number (name ∷ names) (one ∷ told) are = ap suc (as_many_told files flags (suc number) names told are.1)
 
 -- where there was too little room, the paths are more
-pub more_paths : (file flags paths : List ℕ) (old new : List Told) (count : ℕ) → IsIgnoreTold file flags paths old new count → length old < count
+pub more_paths : (file flags : List ℕ) (paths : Views) (old new : List Told) (count : ℕ) → IsIgnoreTold file flags paths old new count → length old < count
     → (names : List (List ℕ)) × (AreItems paths names × (length old < length names))
 more_paths file flags paths old new count t short =
     let as_many = as_many_told t.files flags 0 t.told.names t.told.told t.told.are in

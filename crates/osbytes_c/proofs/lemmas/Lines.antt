@@ -21,7 +21,7 @@ use Rattle.os_command_line.proofs.lemmas.WindowsEachLine.{shorter}
 use Rattle.os_command_line.proofs.lemmas.WindowsStrings.{units_fit}
 use Rattle.osbytes_c.specs.Answers.{Writes}
 use Rattle.osbytes_c.specs.Lines.{ended, kind_number, AreEndedWords, AreEndedArguments, IsFaultOf}
-use Rattle.osbytes_c.specs.declared.shell_words.LineFault.{LineFault}
+use Rattle.osbytes_c.specs.declared.lines.shell_words.LineFault.{LineFault}
 use Rattle.osbytes_c.proofs.lemmas.ArgumentWriting.{slashes}
 use Rattle.osbytes_c.specs.Room.{words_room, arguments_room}
 

@@ -5,7 +5,7 @@ use Rattle.std.proofs.lemmas.List.{take_all}
 use Rattle.std.proofs.lemmas.List.Splits.{slice_split_at, slice_split_none}
 use Rattle.path_rules.specs.declared.rules.Rules.{Rules}
 use Rattle.path_rules.specs.Separators.{separates, EdgeBy, IsField}
-use Rattle.osbytes_c.specs.declared.part_list.Part.{Part}
+use Rattle.osbytes_c.specs.declared.paths.part_list.Part.{Part}
 use Rattle.std.specs.Option.{option_map}
 use Rattle.path_rules.specs.Component.{Item, named}
 use Rattle.osbytes_c.specs.PathParts.{kind_number, IsNoName, part_of, prefix_parts, start_parts, part_named, parts_of, parts_in}

@@ -4,7 +4,7 @@ use Rattle.std.proofs.lemmas.List.{drop-take, drop-drop, length-drop, length-tak
 use Rattle.std.proofs.Math.Seq.{take-append_seam, drop-append_seam}
 use Rattle.path_rules.specs.declared.rules.Style.{Style}
 use Rattle.path_rules.specs.Name.{IsStem, IsExtension}
-use Rattle.osbytes_c.specs.declared.part_list.Part.{Part}
+use Rattle.osbytes_c.specs.declared.paths.part_list.Part.{Part}
 use Rattle.osbytes_c.specs.declared.span.Span.{Span}
 use Rattle.osbytes_c.specs.PathParts.{AreParts, IsLastName}
 use Rattle.osbytes_c.specs.PathSpans.{IsNameSpan, WritesParts}

@@ -2,7 +2,7 @@
 use Rattle.std.proofs.Common.{ℕ, List, ◌++◌}
 use Rattle.wtf8_core.specs.Wtf8.{IsWtf8}
 use Rattle.wtf8_core.proofs.lemmas.{reader.Complete.never_both, table.Pieces.extends}
-use Rattle.osbytes_c.specs.declared.fault.Fault.{Fault}
+use Rattle.osbytes_c.specs.declared.strings.fault.Fault.{Fault}
 use Rattle.osbytes_c.specs.Faults.{ReportsFirst, ReportsFaulty}
 
 -- bytes with a fault aren't WTF-8

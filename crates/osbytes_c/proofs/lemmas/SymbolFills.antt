@@ -3,7 +3,7 @@ use Rattle.std.proofs.Common.{◌≡◌, ℕ, zero, suc, Bool, true, false, ◌�
 use Rattle.os_str_ext.specs.Symbols.{AreSymbols}
 use Rattle.os_str_ext.specs.declared.symbols.Symbol.{Symbol}
 use Rattle.os_str_ext.proofs.lemmas.SymbolBytes.{symbols_once}
-use Rattle.osbytes_c.specs.declared.symbols_fill.SymbolView.{SymbolView}
+use Rattle.osbytes_c.specs.declared.walks.symbols_fill.SymbolView.{SymbolView}
 use Rattle.osbytes_c.specs.Faults.{IsString, IsUnstring}
 use Rattle.osbytes_c.specs.Fills.{GiveInOrder, IsLeft}
 use Rattle.osbytes_c.specs.Platforms.{units_on}

@@ -33,7 +33,7 @@ use Rattle.osbytes_c.specs.Faults.{IsString, IsUnstring}
 use Rattle.osbytes_c.specs.Platforms.{units_on}
 use Rattle.osbytes_c.specs.SymbolFills.{IsSymbolStep}
 use Rattle.osbytes_c.specs.Steps.{Reports, IsSymbolAt, IsFirstOf, IsSurrogatePrefix, StartsWithNoSymbol, StartsWithSymbol, step_after}
-use Rattle.osbytes_c.specs.declared.symbols.Step.{Step}
+use Rattle.osbytes_c.specs.declared.walks.symbols.Step.{Step}
 
 -- what follows a text within a text is one
 text_after : (x y : List ℕ) → IsUtf8 x → IsUtf8 (x ++ y) → IsUtf8 y

@@ -1,5 +1,0 @@
-use Rattle.platform_str.specs.platforms.Windows.{windows_laws}
-use Rattle.osbytes_c.proofs.check.report_wtf8.Goals as goal
-
-pub unreachable-requires : goal.unreachable-requires
-unreachable-requires c = windows_laws.faulty _ _ c.requires c.in-None.ensures

@@ -1,4 +1,0 @@
-use Rattle.osbytes_c.proofs.path_forms.osb_core_path_normalize.Goals as goal
-
-pub returns-in-Err-NoName-clause-none : goal.returns-in-Err-NoName-clause-none
-returns-in-Err-NoName-clause-none c is = rw (c.in-Err-NoName.field-0-is, c.in-Some.ensures.1) at c.in-Err-NoName.ensures.err

@@ -1,6 +1,0 @@
-use Rattle.osbytes_c.proofs.path_joins.osb_core_path_join_checked.Goals as goal
-
-pub returns-in-Err-clause-reason : goal.returns-in-Err-clause-reason
-returns-in-Err-clause-reason c is =
-    let path = c.refused.ensures.path is in
-    record { error = c.in-Err.error; fault = rw (c.in-Some.ensures.1) at c.in-Err.ensures.err; other = path.0; is = path.1 }

@@ -1,5 +1,0 @@
-use Rattle.osbytes_c.proofs.lemmas.PathSpans.{is_name_span}
-use Rattle.osbytes_c.proofs.path_spans.name_span.Goals as goal
-
-pub returns-clause-part : goal.returns-clause-part
-returns-clause-part c = is_name_span c.args.style c.args.path.now c.in-Some.name c.in-Some.ensures.name

@@ -1,7 +1,0 @@
-use Rattle.os_command_line.specs.ShellViews.{word_bytes}
-use Rattle.os_quote.proofs.lemmas.Pushing.{PushesRest}
-use Rattle.osbytes_c.proofs.shell_words.push_word.Given as goal
-
--- the bytes so far
-abbrev pub invariant-loop-byte : goal.invariant-loop-byte
-invariant-loop-byte l = PushesRest l.fn.out l.count l.out l.len l.byte-iterator (word_bytes l.word)

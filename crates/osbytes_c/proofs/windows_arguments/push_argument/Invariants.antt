@@ -1,7 +1,0 @@
-use Rattle.os_command_line.specs.WindowsViews.{argument_units}
-use Rattle.os_quote.proofs.lemmas.Pushing.{PushesRest}
-use Rattle.osbytes_c.proofs.windows_arguments.push_argument.Given as goal
-
--- the units so far
-abbrev pub invariant-loop-unit : goal.invariant-loop-unit
-invariant-loop-unit l = PushesRest l.fn.out l.count l.out l.len l.unit-iterator (argument_units l.argument)

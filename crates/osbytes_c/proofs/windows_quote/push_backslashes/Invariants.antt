@@ -1,7 +1,0 @@
-use Rattle.os_command_line.specs.Windows.{backslashes}
-use Rattle.os_quote.specs.Buffers.{Pushes}
-use Rattle.osbytes_c.proofs.windows_quote.push_backslashes.Given as goal
-
--- so many backslashes so far
-abbrev pub invariant-loop : goal.invariant-loop
-invariant-loop l = Pushes (backslashes l.counter) l.fn.out l.count l.out l.len

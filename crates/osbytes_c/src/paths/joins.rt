@@ -1,0 +1,113 @@
+//! A path after another, and how a path is reached from another.
+ghost use Rattle.std.specs.Prelude.{◌≡◌, ◌≢◌, ◌<◌, ◌↔◌, ◌∷◌, [], Some, None};
+ghost use Rattle.path_building.specs.declared.checked.JoinError.TheVariants as why;
+ghost use Rattle.path_building.specs.Checked.{IsCheckedJoin};
+ghost use Rattle.path_building.specs.Join.{IsJoin};
+ghost use Rattle.path_building.specs.Relative.{IsRelativeFrom};
+ghost use Rattle.osbytes_c.specs.Answers.{IsOneOf, IsWritten};
+ghost use Rattle.osbytes_c.specs.PathBuilding.{IsJoinReason, reason_number};
+ghost use Rattle.osbytes_c.specs.PathSpans.{style_on};
+
+use crate::built::write_list;
+use crate::paths::predicates::style_of;
+use crate::status::{BAD_PATH, NO_MEMORY, NO_PLATFORM, NONE};
+use path_building::{JoinError, join, join_checked, relative_from};
+use std::alloc::Global;
+
+/// Writes a path after a base into `out`, as far as there is room, and counts its bytes.
+#[unsafe(no_mangle)]
+pub extern "C" fn osb_core_path_join(
+    alloc: Global,
+    platform: u32,
+    base: &[u8],
+    path: &[u8],
+    out: &mut [u8],
+    count: &mut usize,
+) -> u32
+    ensures written { IsWritten result (IsJoin (style_on platform) base.now path.now) out.old
+        out.new count.new }
+    ensures platform { (result ≡ 16) ↔ (2 < platform) }
+    ensures answers { IsOneOf (0 ∷ 2 ∷ 11 ∷ 16 ∷ []) result }
+{
+    let Some(style) = style_of(platform) else {
+        return NO_PLATFORM;
+    };
+    match join(alloc, style, base, path) {
+        Ok(joined) => write_list(&joined, out, count),
+        Err(_) => NO_MEMORY,
+    }
+}
+
+/// Writes a path below a base, or a number for why there is none. 1: the path has a prefix. 2: it
+/// has a root. 3: one of its `..` leaves the base. 4: a name of a Windows path has a colon. 5: one
+/// is reserved. 6: the base isn't a place of its own. 7: the path has a NUL. 8: the base has one.
+#[unsafe(no_mangle)]
+pub extern "C" fn osb_core_path_join_checked(
+    alloc: Global,
+    platform: u32,
+    base: &[u8],
+    path: &[u8],
+    out: &mut [u8],
+    count: &mut usize,
+    reason: &mut u32,
+) -> u32
+    ensures written { IsWritten result (IsCheckedJoin (style_on platform) base.now path.now)
+        out.old out.new count.new }
+    ensures reason { result ≡ 12 → IsJoinReason (style_on platform) base.now path.now reason.new }
+    ensures platform { (result ≡ 16) ↔ (2 < platform) }
+    ensures answers { IsOneOf (0 ∷ 2 ∷ 11 ∷ 12 ∷ 16 ∷ []) result }
+{
+    let Some(style) = style_of(platform) else {
+        return NO_PLATFORM;
+    };
+    match join_checked(alloc, style, base, path) {
+        Ok(joined) => write_list(&joined, out, count),
+        Err(error) => refused(error, reason),
+    }
+}
+
+/// The status of a path that isn't joined, and the number of the reason.
+fn refused(error: JoinError, reason: &mut u32) -> u32
+    ensures path { result ≡ 12 → (error ≢ why.Memory) × (reason.new ≡ reason_number error) }
+    ensures answers { IsOneOf (11 ∷ 12 ∷ []) result }
+{
+    *reason = match error {
+        JoinError::Prefix => 1,
+        JoinError::Root => 2,
+        JoinError::Leaves => 3,
+        JoinError::Stream => 4,
+        JoinError::Reserved => 5,
+        JoinError::Base => 6,
+        JoinError::Nul(_) => 7,
+        JoinError::BaseNul(_) => 8,
+        JoinError::Memory => return NO_MEMORY,
+    };
+    BAD_PATH
+}
+
+/// Writes how a path is reached from a base, if it is.
+#[unsafe(no_mangle)]
+pub extern "C" fn osb_core_path_relative(
+    alloc: Global,
+    platform: u32,
+    path: &[u8],
+    base: &[u8],
+    out: &mut [u8],
+    count: &mut usize,
+) -> u32
+    ensures written { IsWritten result
+        (λ way. IsRelativeFrom (style_on platform) path.now base.now (Some way)) out.old out.new
+        count.new }
+    ensures none { result ≡ 3 → IsRelativeFrom (style_on platform) path.now base.now None }
+    ensures platform { (result ≡ 16) ↔ (2 < platform) }
+    ensures answers { IsOneOf (0 ∷ 2 ∷ 3 ∷ 11 ∷ 16 ∷ []) result }
+{
+    let Some(style) = style_of(platform) else {
+        return NO_PLATFORM;
+    };
+    match relative_from(alloc, style, path, base) {
+        Ok(Some(way)) => write_list(&way, out, count),
+        Ok(None) => NONE,
+        Err(_) => NO_MEMORY,
+    }
+}
