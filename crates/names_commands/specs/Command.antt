@@ -1,5 +1,5 @@
 -- What the options and operands of the command line request.
-use Rattle.std.specs.Prelude.{◌≡◌, ◌≢◌, ◌⊎◌, ℕ, ◌<◌, ◌^◌, List, [], ◌∷◌, ◌++◌, Option, None, Some, codes}
+use Rattle.std.specs.Prelude.{◌≡◌, ◌≢◌, ◌⊎◌, ◌↔◌, ℕ, ◌<◌, ◌^◌, IsTrue, List, [], ◌∷◌, ◌++◌, Option, None, Some, codes}
 use Rattle.std.specs.Str.Parse.{IsNumeral, digits_value, without_leading_plus}
 use Rattle.glob_patterns.specs.declared.options.GlobOptions.{GlobOptions}
 use Rattle.glob_patterns.specs.Options.{usual_options}
@@ -62,10 +62,18 @@ TakesOption name.List option.Glob = Unit {0}
 TakesOption name.Join option.Glob = ⊥
 TakesOption name.Filter option.Glob = Unit {0}
 TakesOption name.Check option.Glob = ⊥
+TakesOption name.List option.Name = Unit {0}
+TakesOption name.Join option.Name = ⊥
+TakesOption name.Filter option.Name = Unit {0}
+TakesOption name.Check option.Name = ⊥
 TakesOption name.List option.Ignore = Unit {0}
 TakesOption name.Join option.Ignore = ⊥
 TakesOption name.Filter option.Ignore = Unit {0}
 TakesOption name.Check option.Ignore = ⊥
+TakesOption name.List option.Invert = Unit {0}
+TakesOption name.Join option.Invert = ⊥
+TakesOption name.Filter option.Invert = Unit {0}
+TakesOption name.Check option.Invert = ⊥
 
 -- the command takes the option, if this is one
 abbrev pub FitsOne : Name → Given NamesOption → Type 0
@@ -82,19 +90,28 @@ Fits command (one ∷ given) = FitsOne command one × Fits command given
 abbrev pub HasOperands : Line → Name → Os → List (List ℕ) → Type 0
 HasOperands given command os more = operands_of given ≡ name_word command ∷ os_word os ∷ more
 
--- some names are picked: by a pattern that is an operand, by patterns of options, or by ignore files
-abbrev pub SomePicked : Line → List (List ℕ) → Type 0
-SomePicked given more = (more ≢ []) ⊎ (HasOption option.Glob given ⊎ HasOption option.Ignore given)
+-- options pick some names: by patterns, or by ignore files
+abbrev pub OptionsPick : Line → Type 0
+OptionsPick given = HasOption option.Glob given ⊎ (HasOption option.Ignore given ⊎ HasOption option.Name given)
 
--- this picks names: the pattern that is an operand, beside the options
+-- some names are picked: by a pattern that is an operand, or by options
+abbrev pub SomePicked : Line → List (List ℕ) → Type 0
+SomePicked given more = (more ≢ []) ⊎ OptionsPick given
+
+-- something has to pick names: filter is about those that are picked, and so is `--invert`
+abbrev pub NeedsPick : Line → Name → Type 0
+NeedsPick given command = (command ≡ name.Filter) ⊎ HasOption option.Invert given
+
+-- this picks names: the pattern that is an operand, beside the options, or the names that these don't pick
 pub record IsPick (given : Line) (os : Os) (more : List (List ℕ)) (pick : Pick) : Type 0 where
   pub glob : more ≡ glob_words pick.glob
   pub some : SomePicked given more
   pub ignores : HasOption option.Ignore given → TakesIgnore os
+  pub inverted : IsTrue pick.inverted ↔ HasOption option.Invert given
 
 -- it does, or all names are picked
 abbrev pub IsMaybePick : Line → Os → List (List ℕ) → Option Pick → Type 0
-IsMaybePick given os more None = ¬ (SomePicked given more)
+IsMaybePick given os more None = (¬ (SomePicked given more)) × (¬ (HasOption option.Invert given))
 IsMaybePick given os more (Some pick) = IsPick given os more pick
 
 -- how words of a shell are written: each on one line where that is requested
@@ -143,12 +160,12 @@ AsksFor given r =
     ⊎ ((¬ (HasOption option.Version given)) × (IsMax given r.max × MakesUp given r.command))
     ))
 
--- what is missing: a command, a platform after it, or what filter picks
+-- what is missing: a command, a platform after it, or what picks names
 abbrev pub IsMissing : Line → List ℕ → Type 0
 IsMissing given what =
     ((what ≡ codes "command (list, filter, join or check)") × (operands_of given ≡ []))
     ⊎ (((what ≡ codes "platform (unix, windows or wasm)") × ((word : List ℕ) × (operands_of given ≡ word ∷ [])))
-    ⊎ ((what ≡ codes "GLOB, --glob or --ignore") × ((os : Os) × (HasOperands given name.Filter os [] × (¬ (SomePicked given []))))))
+    ⊎ ((what ≡ codes "GLOB, --glob, --name or --ignore") × ((command : Name) × (os : Os) × (HasOperands given command os [] × (NeedsPick given command × (¬ (SomePicked given [])))))))
 
 -- which word is no command, no platform or no number of bytes
 abbrev pub IsInvalid : Line → List ℕ → List ℕ → Type 0
@@ -166,7 +183,9 @@ IsForPlatform os option.Sh = os ≡ Unix
 IsForPlatform os option.ShLine = os ≡ Unix
 IsForPlatform os option.Unterminated = Unit {0}
 IsForPlatform os option.Glob = Unit {0}
+IsForPlatform os option.Name = Unit {0}
 IsForPlatform os option.Ignore = TakesIgnore os
+IsForPlatform os option.Invert = Unit {0}
 
 -- which option isn't for the command that is given, or for its platform
 pub record IsMisplaced (given : Line) (word where_to : List ℕ) : Type 0 where

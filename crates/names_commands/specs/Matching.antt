@@ -1,5 +1,5 @@
 -- What is written for the names that are picked.
-use Rattle.std.specs.Prelude.{◌≡◌, ◌⊎◌, ℕ, List, [], ◌∷◌, ◌++◌, length, Option, None, Some}
+use Rattle.std.specs.Prelude.{◌≡◌, ◌⊎◌, ℕ, Bool, true, false, List, [], ◌∷◌, ◌++◌, length, Option, None, Some}
 use Rattle.std.specs.List.{AllByRecursion}
 use denote.Ref.{Bor}
 use Rattle.os_str_bytes.specs.Platform.{Ghosts}
@@ -24,9 +24,10 @@ use Rattle.names_commands.specs.Ignoring.{IsIgnored}
 use Rattle.names_commands.specs.Task.{IsLine}
 use Rattle.names_commands.specs.Words.{IsWordLine}
 
--- the name is one of these, and no line of the ignore files ignores it
-abbrev pub IsPicked : {A : Type 0} → (List ℕ → Type 0) → List (File A) → List ℕ → Type 0
-IsPicked Chosen files name = Chosen name × (¬ (IsIgnored files name))
+-- the name is one of these, and no line of the ignore files ignores it; or, inverted, it isn't so
+abbrev pub IsPicked : {A : Type 0} → Bool → (List ℕ → Type 0) → List (File A) → List ℕ → Type 0
+IsPicked false Chosen files name = Chosen name × (¬ (IsIgnored files name))
+IsPicked true Chosen files name = ¬ (Chosen name × (¬ (IsIgnored files name)))
 
 -- on a platform that states this of its strings:
 module _ {E : Type 0} (p : Ghosts E) where
@@ -106,12 +107,12 @@ module _ {E : Type 0} (p : Ghosts E) where
   IsChosenBy (Some set) name = IsMatchedBy set.now name
 
   -- the name is picked by a set, if there is one, and by ignore files
-  abbrev pub IsPickedBy : {A : Type 0} → Option (Bor (GlobSet E A)) → List (File A) → List ℕ → Type 0
-  IsPickedBy globs files = IsPicked (IsChosenBy globs) files
+  abbrev pub IsPickedBy : {A : Type 0} → Bool → Option (Bor (GlobSet E A)) → List (File A) → List ℕ → Type 0
+  IsPickedBy inverted globs files = IsPicked inverted (IsChosenBy globs) files
 
   -- what is written then, and what is done with each name
-  abbrev pub IsTextOfMatched : {A : Type 0} → Form → Option (Bor (GlobSet E A)) → List (File A) → List ℕ → List ℕ → Type 0
-  IsTextOfMatched form globs files = IsTextOfPicked form (IsPickedBy globs files)
+  abbrev pub IsTextOfMatched : {A : Type 0} → Form → Bool → Option (Bor (GlobSet E A)) → List (File A) → List ℕ → List ℕ → Type 0
+  IsTextOfMatched form inverted globs files = IsTextOfPicked form (IsPickedBy inverted globs files)
 
-  abbrev pub matching : {A : Type 0} → Form → ℕ → Option (Bor (GlobSet E A)) → List (File A) → ListRules Refusal
-  matching form max globs files = picking form max (IsPickedBy globs files)
+  abbrev pub matching : {A : Type 0} → Form → ℕ → Bool → Option (Bor (GlobSet E A)) → List (File A) → ListRules Refusal
+  matching form max inverted globs files = picking form max (IsPickedBy inverted globs files)

@@ -2,7 +2,7 @@
 use Rattle.std.specs.Prelude.{◌≡◌, ℕ, Bool, true, false, List, codes}
 use Rattle.os_args.specs.Word.{Kind, Long, LongBytes, Short, ShortBytes, Value}
 use Rattle.names_commands.specs.declared.option.NamesOption.{NamesOption}
-use Rattle.names_commands.specs.declared.option.NamesOption.TheVariants.{Help, Version, Max, Sh, ShLine, Unterminated, Glob, Ignore}
+use Rattle.names_commands.specs.declared.option.NamesOption.TheVariants.{Help, Version, Max, Sh, ShLine, Unterminated, Glob, Name, Ignore, Invert}
 
 -- the name of the option after `--`
 abbrev pub name_of : NamesOption → List ℕ
@@ -13,7 +13,9 @@ name_of Sh = codes "sh"
 name_of ShLine = codes "sh-line"
 name_of Unterminated = codes "unterminated"
 name_of Glob = codes "glob"
+name_of Name = codes "name"
 name_of Ignore = codes "ignore"
+name_of Invert = codes "invert"
 
 -- the option as it is written
 abbrev pub word_of : NamesOption → List ℕ
@@ -24,9 +26,11 @@ word_of Sh = codes "--sh"
 word_of ShLine = codes "--sh-line"
 word_of Unterminated = codes "--unterminated"
 word_of Glob = codes "--glob"
+word_of Name = codes "--name"
 word_of Ignore = codes "--ignore"
+word_of Invert = codes "--invert"
 
--- this character after `-` is the option, too: h and V
+-- this character after `-` is the option, too: h, V and v
 abbrev pub IsFlagOf : NamesOption → ℕ → Type 0
 IsFlagOf Help c = c ≡ 0x68
 IsFlagOf Version c = c ≡ 0x56
@@ -35,7 +39,9 @@ IsFlagOf Sh c = ⊥
 IsFlagOf ShLine c = ⊥
 IsFlagOf Unterminated c = ⊥
 IsFlagOf Glob c = ⊥
+IsFlagOf Name c = ⊥
 IsFlagOf Ignore c = ⊥
+IsFlagOf Invert c = c ≡ 0x76
 
 -- the argument is the option
 abbrev pub spelled : NamesOption → Kind → Type 0
@@ -54,4 +60,6 @@ has_value Sh = false
 has_value ShLine = false
 has_value Unterminated = false
 has_value Glob = true
+has_value Name = true
 has_value Ignore = true
+has_value Invert = false

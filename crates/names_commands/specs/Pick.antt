@@ -1,12 +1,12 @@
 -- What picks names, by the options and operands that state it.
-use Rattle.std.specs.Prelude.{◌≡◌, ℕ, List, [], ◌∷◌, ◌++◌, Option, None, Some}
+use Rattle.std.specs.Prelude.{◌≡◌, ℕ, List, [], ◌∷◌, ◌++◌, map, Option, None, Some, codes}
 use denote.Ref.{Bor}
 use Rattle.program_frame.specs.Arguments.{AreValues}
 use Rattle.program_frame.specs.declared.arguments.Given.{Given}
 use Rattle.program_frame.specs.declared.os.Os.{Os}
 use Rattle.names_commands.specs.declared.option.NamesOption.{NamesOption}
 use Rattle.program_frame.specs.declared.os.Os.TheVariants.{Unix, Windows, Wasm}
-use Rattle.names_commands.specs.declared.option.NamesOption.TheVariants.{Glob, Ignore}
+use Rattle.names_commands.specs.declared.option.NamesOption.TheVariants.{Glob, Name, Ignore}
 use Rattle.names_commands.specs.declared.pick.Pick.{Pick}
 
 -- ignore files are about names that `/` alone separates
@@ -20,10 +20,14 @@ abbrev pub glob_words : Option (Bor (List ℕ)) → List (List ℕ)
 glob_words None = []
 glob_words (Some glob) = glob.now ∷ []
 
+-- the pattern for names whose last component this pattern matches: any folders are before it
+abbrev pub in_any_folder : List ℕ → List ℕ
+in_any_folder glob = codes "**/" ++ glob
+
 module _ (given : List (Given NamesOption)) where
-  -- the patterns: the operand, and then those of the options that are given, in order
+  -- the patterns: the operand, then those of `--glob`, and then those of `--name`, in any folder, each in order
   abbrev pub ArePatterns : Pick → List (List ℕ) → Type 0
-  ArePatterns pick globs = (more : List (List ℕ)) × (AreValues Glob given more × (globs ≡ glob_words pick.glob ++ more))
+  ArePatterns pick globs = (more : List (List ℕ)) × (of_names : List (List ℕ)) × (AreValues Glob given more × (AreValues Name given of_names × (globs ≡ (glob_words pick.glob ++ more) ++ map in_any_folder of_names)))
 
   -- these patterns and these ignore files pick names
   abbrev pub AreChosen : Pick → List (List ℕ) → List (List ℕ) → Type 0

@@ -1,5 +1,5 @@
 -- The whole program, from the words after its name to its exit status.
-use Rattle.std.specs.Prelude.{◌≡◌, ◌⊎◌, ◌+◌, ℕ, List, Option, None, Some, Result, Err, ⊤}
+use Rattle.std.specs.Prelude.{◌≡◌, ◌⊎◌, ◌+◌, ℕ, Bool, List, Option, None, Some, Result, Err, ⊤}
 use Rattle.os_str_bytes.specs.Platform.{Ghosts}
 use Rattle.os_ignore.specs.declared.file.File.{File}
 use Rattle.glob_text.specs.declared.fault.PatternFault.{PatternFault}
@@ -90,19 +90,19 @@ module _ (known : KnownFiles) (A : Type 0) where
   abbrev pub IsFaultOf : List (List ℕ) → Fault → Type 0
   IsFaultOf names fault = (fault ≡ OfList (Run Memory)) ⊎ ((why : CommandFault) × IsFileFault names why × (fault ≡ Words why))
 
-  -- the run ends with the first ignore file that can't be read. Or it writes these names, but for those that the files ignore, on a platform that states this of its strings, where a name may have `max` bytes
-  abbrev pub RunsBut : {E : Type 0} → Ghosts E → Form → ℕ → (List ℕ → Type 0) → List (List ℕ) → Doing
-  RunsBut p shape max Chosen names input left old new answer =
+  -- the run ends with the first ignore file that can't be read. Or it writes these names, but for those that the files ignore, or, inverted, the others, on a platform that states this of its strings, where a name may have `max` bytes
+  abbrev pub RunsBut : {E : Type 0} → Ghosts E → Form → ℕ → Bool → (List ℕ → Type 0) → List (List ℕ) → Doing
+  RunsBut p shape max inverted Chosen names input left old new answer =
       ((why : CommandFault) × IsFileFault names why × EndsAtOnce (Words why) input left old new answer)
-      ⊎ ((files : List (File A)) × AreRead known names files × Runs (picking p shape max (IsPicked Chosen files)) OfList input left old new answer)
+      ⊎ ((files : List (File A)) × AreRead known names files × Runs (picking p shape max (IsPicked inverted Chosen files)) OfList input left old new answer)
 
   -- on such a platform, where a plan states what is done:
   module _ {E : Type 0} (p : Ghosts E) (plan : Plan) where
-    -- the run ends with the first of the patterns that has a fault. Or it writes the names that one of them matches, or all where there are none, but for those that the files ignore
+    -- the run ends with the first of the patterns that has a fault. Or it writes the names that one of them matches, or all where there are none, but for those that the files ignore; or, inverted, the others
     abbrev pub RunsPatterns : List (List ℕ) → List (List ℕ) → Doing
     RunsPatterns globs names input left old new answer =
         ((index : ℕ) × (fault : PatternFault) × IsFirstFault p (options_of plan.os) globs index fault × EndsAtOnce (Words (Pattern (index + 1) fault)) input left old new answer)
-        ⊎ ((written : List (List (List Mark))) × AreWrittenOut p (options_of plan.os) globs written × RunsBut p plan.form plan.max (IsChosen p (options_of plan.os) written) names input left old new answer)
+        ⊎ ((written : List (List (List Mark))) × AreWrittenOut p (options_of plan.os) globs written × RunsBut p plan.form plan.max plan.pick.inverted (IsChosen p (options_of plan.os) written) names input left old new answer)
 
   -- where these options and operands are given:
   module _ (given : Line) where

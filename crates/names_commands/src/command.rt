@@ -5,7 +5,7 @@ ghost use Rattle.os_args.specs.Views.{fault_of};
 ghost use Rattle.os_args.specs.Word.{Value};
 ghost use Rattle.program_frame.specs.Arguments.{HasOption, IsOf, operands_of};
 ghost use Rattle.program_frame.specs.Os.{os_word};
-ghost use Rattle.names_commands.specs.Command.{AsksFor, IsWordOption, Fits, FitsOne, HasOperands, IsForm, IsLast, IsLimit, IsMax, IsMaybePick, IsMisplaced, IsMisuse, IsRejected, MakesUp, NoWords, SomePicked, TakesOption, name_word, options_of};
+ghost use Rattle.names_commands.specs.Command.{AsksFor, IsWordOption, Fits, FitsOne, HasOperands, IsForm, IsLast, IsLimit, IsMax, IsMaybePick, IsMisplaced, IsMisuse, IsRejected, MakesUp, NoWords, OptionsPick, TakesOption, name_word, options_of};
 ghost use Rattle.names_commands.specs.Options.{word_of};
 ghost use Rattle.names_commands.specs.Pick.{TakesIgnore};
 ghost use Rattle.names_commands.specs.declared.command.Name.{Name as DeclaredName};
@@ -154,10 +154,11 @@ impl Name {
                 Name::Join => true,
                 Name::List | Name::Filter | Name::Check => false,
             },
-            NamesOption::Glob | NamesOption::Ignore => match self {
-                Name::List | Name::Filter => true,
-                Name::Join | Name::Check => false,
-            },
+            NamesOption::Glob | NamesOption::Name | NamesOption::Ignore | NamesOption::Invert =>
+                match self {
+                    Name::List | Name::Filter => true,
+                    Name::Join | Name::Check => false,
+                },
         }
     }
 }
@@ -264,7 +265,7 @@ impl<'a> Command<'a> {
     {
         match maybe_pick(given, Name::Filter, os, more) {
             Ok(Some(pick)) => Ok(Command::Filter(os, pick)),
-            Ok(None) => Err(Misuse::Missing("GLOB, --glob or --ignore")),
+            Ok(None) => Err(Misuse::Missing("GLOB, --glob, --name or --ignore")),
             Err(misuse) => Err(misuse),
         }
     }
@@ -354,15 +355,51 @@ fn maybe_pick<'a>(
         Err(misuse) => return Err(misuse),
     }
     let Some((glob, rest)) = next_operand(more) else {
-        if has(given, NamesOption::Glob) || has(given, NamesOption::Ignore) {
-            return Ok(Some(Pick { glob: None }));
-        }
-        return Ok(None);
+        return options_pick(given, command, os, more);
     };
     match next_operand(rest) {
         Some((word, _)) => Err(Misuse::Argument(surplus(word))),
-        None => Ok(Some(Pick { glob: Some(glob) })),
+        None => {
+            Ok(Some(Pick {
+                glob: Some(glob),
+                inverted: has(given, NamesOption::Invert),
+            }))
+        }
     }
+}
+
+/// What picks names where no pattern is an operand.
+fn options_pick<'a>(
+    given: Line<'_, 'a>,
+    command: Name,
+    os: Os,
+    more: Line<'_, 'a>,
+) -> Result<Option<Pick<'a>>, Misuse<'a>>
+    requires operands { HasOperands given.now command os (operands_of more.now) }
+    requires none { operands_of more.now ≡ [] }
+    requires ignores { HasOption Ignore given.now → TakesIgnore os }
+    ensures pick { IfOk result
+        (λ pick. IsMaybePick given.entry.now os (operands_of more.entry.now) pick) }
+    ensures misuse { IfErr result (λ misuse. IsMisuse given.entry.now misuse) }
+{
+    let inverted = has(given, NamesOption::Invert);
+    if picks(given) {
+        let glob = None;
+        return Ok(Some(Pick { glob, inverted }));
+    }
+    if inverted {
+        return Err(Misuse::Missing("GLOB, --glob, --name or --ignore"));
+    }
+    Ok(None)
+}
+
+/// Whether an option picks names.
+fn picks(given: Line<'_, '_>) -> bool
+    ensures { IsTrue result ↔ OptionsPick given.entry.now }
+{
+    has(given, NamesOption::Glob)
+        || has(given, NamesOption::Ignore)
+        || has(given, NamesOption::Name)
 }
 
 /// Checks that ignore files are given only where the platform takes them: they are about names that

@@ -9,7 +9,7 @@ names: lists of file names, one on each line, and back
 
   find . -print0 | names list unix >list     an escaped name on each line
   names join unix <list | xargs -0 ls        the names again, byte for byte
-  find . -print0 | names filter unix '**/*.c' --ignore .gitignore | xargs -0 wc -l
+  find . -print0 | names filter unix --name '*.c' --ignore .gitignore | xargs -0 wc -l
 
 names list   PLATFORM [GLOB] [OPTION..]   reads names ended by NUL; writes the escape of each on a line
 names filter PLATFORM [GLOB] [OPTION..]   reads names ended by NUL; writes those that are picked, ended by NUL
@@ -19,7 +19,9 @@ names check  PLATFORM [OPTION..]          reads names ended by NUL; writes nothi
 PLATFORM is unix, windows or wasm. Options may stand anywhere; -- ends them.
 
   --glob GLOB      list, filter: pick the names that GLOB matches, beside those of other GLOBs
+  --name GLOB      list, filter: pick by the last component, in any folder: --glob '**/GLOB'
   --ignore FILE    list, filter: leave out what the .gitignore file FILE ignores (unix, wasm)
+  -v, --invert     list, filter: pick the others
   --sh             list, join: words that every POSIX shell reads as the names (unix)
   --sh-line        list, join: words on one line, for bash, zsh, ksh93, mksh and busybox (unix)
   --unterminated   join: the last line may lack its newline
@@ -35,8 +37,8 @@ some shell would expand. The shell that reads the words must be in a C or UTF-8 
 GLOB matches a whole name, ./ and folders too, component by component: * is any run of symbols, ? one symbol,
 [a-z] one of these and [!a-z] one of the others, none of them a separator; ** as a whole component is any number
 of components; {a,b} is a or b; \\ quotes the character after it. The separator is /. On windows \\ is one as
-well, in GLOB too, where it quotes nothing. So **/*.rs matches ./src/a.rs, and *.rs doesn't. A GLOB that begins
-with a dash is written --glob=-x.
+well, in GLOB too, where it quotes nothing. So **/*.rs matches ./src/a.rs, and *.rs doesn't; --name '*.rs' does.
+A GLOB that begins with a dash is written --glob=-x.
 
 FILE is read as git reads a .gitignore at the top of the tree; a later one decides over those before it. Names are
 paths from there, with or without ./ at the start. A name that ends with / is a directory, another isn't: out/

@@ -1,5 +1,5 @@
 //! Names that are picked.
-ghost use Rattle.std.specs.Prelude.{◌≡◌, ◌↔◌, ◌++◌, ℕ, List, IfErr, IsTrue, OnErr, OnOk};
+ghost use Rattle.std.specs.Prelude.{◌≡◌, ◌↔◌, ◌++◌, ℕ, List, cond, false, not, IfErr, IsTrue, OnErr, OnOk};
 ghost use Rattle.program_frame.specs.Rules.{IsItemFault};
 ghost use Rattle.os_ignore.specs.Ignores.{files_of};
 ghost use Rattle.os_str_bytes.specs.Strings.{bytes};
@@ -36,6 +36,8 @@ pub struct Picker<'g, E: Platform, A: Allocator = Global> {
     /// but for those that the lines of these files ignore. One `./` before a name is left out, and a `/`
     /// at its end marks a directory.
     pub ignore: &'g Ignore<A>,
+    /// Whether the other names are picked.
+    pub inverted: bool,
 }
 
 impl<'g, E: Platform, A: Allocator + Copy> Picker<'g, E, A> {
@@ -47,16 +49,31 @@ impl<'g, E: Platform, A: Allocator + Copy> Picker<'g, E, A> {
     /// use os_str_bytes::{OsStr, Unix};
     ///
     /// let ignore = Ignore::new(alloc, b"*.o\nout/\n")?;
-    /// let picker = Picker { globs: None, ignore: &ignore };
+    /// let picker = Picker { globs: None, ignore: &ignore, inverted: false };
     /// assert!(rt; picker.picks(OsStr::<Unix>::new("./a.c")) && !picker.picks(OsStr::new("./a.o")));
     /// assert!(rt; picker.picks(OsStr::new("out")) && !picker.picks(OsStr::new("out/")));
     /// ```
     pub fn picks(&self, name: OsStr<'_, E>) -> bool
-        ensures { IsTrue result ↔ IsPickedBy ⟦<E as Platform>⟧ self.now.globs
+        ensures { IsTrue result ↔ IsPickedBy ⟦<E as Platform>⟧ self.now.inverted self.now.globs
+            (files_of self.now.ignore.now) (bytes name.entry) }
+    {
+        turned(self.inverted, self.matches(name))
+    }
+
+    /// Whether the name is picked where the others aren't.
+    fn matches(&self, name: OsStr<'_, E>) -> bool
+        ensures { IsTrue result ↔ IsPickedBy ⟦<E as Platform>⟧ false self.now.globs
             (files_of self.now.ignore.now) (bytes name.entry) }
     {
         is_chosen(self.globs, name) && !is_ignored(self.ignore, name.as_encoded_bytes())
     }
+}
+
+/// Whether a name is picked that matches, or doesn't.
+fn turned(inverted: bool, matches: bool) -> bool
+    ensures { result ≡ cond inverted (not matches) matches }
+{
+    if inverted { !matches } else { matches }
 }
 
 /// Whether a pattern of a set matches the name, if there is a set.
@@ -90,7 +107,7 @@ impl<'g, E: Platform, A: Allocator> Matching<'g, E, A> {
     /// let patterns = [OsStr::<Unix>::new("*.c"), OsStr::new("*.h")];
     /// let globs = GlobSet::new(alloc, GlobOptions::new(Separators::Slash), &patterns)?;
     /// let ignore = Ignore::new(alloc, b"b.*\n")?;
-    /// let picker = Picker { globs: Some(&globs), ignore: &ignore };
+    /// let picker = Picker { globs: Some(&globs), ignore: &ignore, inverted: false };
     /// let names = Matching::new(picker, Form::Line, 255);
     /// let mut output = Vec::new(alloc);
     /// for name in ["a.c", "a.o", "a.h", "b.h"] {
@@ -110,8 +127,8 @@ impl<'g, E: Platform, A: Allocator> Matching<'g, E, A> {
 impl<'g, E: Platform, B: Allocator + Copy> ListTask for Matching<'g, E, B> {
     type Refusal = Refusal;
 
-    ghost rules = { λ m. matching ⟦<E as Platform>⟧ m.form m.max m.picker.globs
-        (files_of m.picker.ignore.now) };
+    ghost rules = { λ m. matching ⟦<E as Platform>⟧ m.form m.max m.picker.inverted
+        m.picker.globs (files_of m.picker.ignore.now) };
 
     fn end(&self) -> u8 {
         0
@@ -148,11 +165,11 @@ fn write_matching<E: Platform, A: Allocator, B: Allocator + Copy>(
     output: &mut Vec<u8, A>,
 ) -> Result<(), ItemFault<Refusal>>
     ensures ok { OnOk result ((text : List ℕ)
-        × (IsTextOfMatched ⟦<E as Platform>⟧ form picker.now.globs
+        × (IsTextOfMatched ⟦<E as Platform>⟧ form picker.now.inverted picker.now.globs
         (files_of picker.now.ignore.now)
         item.now text × (output.new.items ≡ output.old.items ++ text))) }
     ensures fault { (max : ℕ) → IfErr result (λ fault. IsItemFault
-        (matching ⟦<E as Platform>⟧ form max picker.now.globs
+        (matching ⟦<E as Platform>⟧ form max picker.now.inverted picker.now.globs
         (files_of picker.now.ignore.now)) item.now
         fault) }
     ensures unchanged { OnErr result (output.new.items ≡ output.old.items) }

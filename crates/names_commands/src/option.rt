@@ -25,8 +25,12 @@ pub enum NamesOption {
     Unterminated,
     /// `--glob GLOB`: picks the names that a pattern matches.
     Glob,
+    /// `--name GLOB`: picks the names whose last component a pattern matches, as `--glob '**/GLOB'`.
+    Name,
     /// `--ignore FILE`: leaves out the names that an ignore file ignores.
     Ignore,
+    /// `-v`, `--invert`: picks the names that would be left out, and leaves out the others.
+    Invert,
 }
 
 impl NamesOption {
@@ -48,7 +52,9 @@ impl NamesOption {
             NamesOption::ShLine => "--sh-line",
             NamesOption::Unterminated => "--unterminated",
             NamesOption::Glob => "--glob",
+            NamesOption::Name => "--name",
             NamesOption::Ignore => "--ignore",
+            NamesOption::Invert => "--invert",
         }
     }
 }
@@ -70,12 +76,13 @@ impl ProgramOption for NamesOption {
 
     fn takes_value(self) -> bool {
         match self {
-            NamesOption::Max | NamesOption::Glob | NamesOption::Ignore => true,
+            NamesOption::Max | NamesOption::Glob | NamesOption::Name | NamesOption::Ignore => true,
             NamesOption::Help
             | NamesOption::Version
             | NamesOption::Sh
             | NamesOption::ShLine
-            | NamesOption::Unterminated => false,
+            | NamesOption::Unterminated
+            | NamesOption::Invert => false,
         }
     }
 
@@ -97,7 +104,9 @@ fn long_option(name: &str) -> Option<NamesOption>
         "sh-line" => Some(NamesOption::ShLine),
         "unterminated" => Some(NamesOption::Unterminated),
         "glob" => Some(NamesOption::Glob),
+        "name" => Some(NamesOption::Name),
         "ignore" => Some(NamesOption::Ignore),
+        "invert" => Some(NamesOption::Invert),
         _ => None,
     }
 }
@@ -110,6 +119,7 @@ fn short_option(flag: char) -> Option<NamesOption>
     match flag {
         'h' => Some(NamesOption::Help),
         'V' => Some(NamesOption::Version),
+        'v' => Some(NamesOption::Invert),
         _ => None,
     }
 }

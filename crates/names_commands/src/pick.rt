@@ -1,55 +1,110 @@
 //! What picks names: patterns and ignore files.
-ghost use Rattle.std.specs.Prelude.{◌≡◌, ◌++◌, map, IfOk, OnOk};
+ghost use Rattle.std.specs.Prelude.{◌≡◌, ◌++◌, ◌∷◌, [], map, string_bytes, IfOk, OnOk};
 ghost use Rattle.os_str_bytes.specs.Strings.{bytes};
 ghost use Rattle.program_frame.specs.Arguments.{text_of};
-ghost use Rattle.names_commands.specs.Pick.{ArePatterns};
+ghost use Rattle.names_commands.specs.Pick.{ArePatterns, in_any_folder};
 
 use crate::option::NamesOption;
 use os_str_bytes::{OsStr, Platform};
 use program_frame::arguments::{Given, values};
 use std::alloc::{AllocError, Allocator};
 
-/// What picks names, beside options: each `--glob` has a pattern, and each `--ignore` the name of
-/// an ignore file. A name is picked where one of the patterns matches it, or there are none, and no
-/// line of the ignore files ignores it.
+/// What picks names, beside options: each `--glob` and `--name` has a pattern, and each `--ignore`
+/// the name of an ignore file. A name matches where one of the patterns matches it, or there are
+/// none, and no line of the ignore files ignores it.
 #[derive(Clone, Copy, PartialEq, Eq)]
 pub struct Pick<'a> {
     /// A pattern that is an operand.
     pub glob: Option<&'a str>,
+    /// Whether the names are picked that don't match.
+    pub inverted: bool,
 }
 
 impl<'a> Pick<'a> {
-    /// The patterns: the operand, and then those of the options that are given, in order.
-    pub(crate) fn patterns<E: Platform, A: Allocator + Copy>(
+    /// The patterns: the operand, then those of `--glob` and then those of `--name`, each in order.
+    pub(crate) fn patterns<A: Allocator + Copy>(
         self,
         alloc: A,
         given: &[Given<'a, NamesOption>],
-    ) -> Result<Vec<OsStr<'a, E>, A>, AllocError>
+    ) -> Result<Vec<String<A>, A>, AllocError>
         ensures { IfOk result
-            (λ globs. ArePatterns given.now self.entry (map bytes globs.items)) }
+            (λ globs. ArePatterns given.now self.entry (map string_bytes globs.items)) }
     {
-        let of_options = values(alloc, given, NamesOption::Glob)?;
+        let of_globs = values(alloc, given, NamesOption::Glob)?;
+        let of_names = values(alloc, given, NamesOption::Name)?;
         let mut patterns = Vec::new(alloc);
         if let Some(glob) = self.glob {
-            patterns.push(OsStr::new(glob))?;
+            push_pattern(alloc, "", glob, &mut patterns)?;
         }
-        push_strings(&of_options, &mut patterns)?;
+        push_globs(alloc, &of_globs, &mut patterns)?;
+        push_names(alloc, &of_names, &mut patterns)?;
         Ok(patterns)
     }
 }
 
-/// Appends texts as strings.
-fn push_strings<'a, E: Platform, A: Allocator>(
-    texts: &[&'a str],
-    strings: &mut Vec<OsStr<'a, E>, A>,
+/// Appends patterns.
+fn push_globs<A: Allocator + Copy>(
+    alloc: A,
+    globs: &[&str],
+    patterns: &mut Vec<String<A>, A>,
 ) -> Result<(), AllocError>
-    ensures { OnOk result (map bytes strings.new.items
-        ≡ map bytes strings.old.items ++ map text_of texts.now) }
+    ensures { OnOk result (map string_bytes patterns.new.items
+        ≡ map string_bytes patterns.old.items ++ map text_of globs.now) }
 {
-    let mut left = texts;
+    let mut left = globs;
     while let [first, rest @ ..] = left {
-        strings.push(OsStr::new(*first))?;
+        push_pattern(alloc, "", *first, patterns)?;
         left = rest;
     }
     Ok(())
+}
+
+/// Appends patterns for the last component, in any folder.
+fn push_names<A: Allocator + Copy>(
+    alloc: A,
+    globs: &[&str],
+    patterns: &mut Vec<String<A>, A>,
+) -> Result<(), AllocError>
+    ensures { OnOk result (map string_bytes patterns.new.items
+        ≡ map string_bytes patterns.old.items ++ map in_any_folder (map text_of globs.now)) }
+{
+    let mut left = globs;
+    while let [first, rest @ ..] = left {
+        push_pattern(alloc, "**/", *first, patterns)?;
+        left = rest;
+    }
+    Ok(())
+}
+
+/// Appends a pattern, after a text.
+fn push_pattern<A: Allocator + Copy>(
+    alloc: A,
+    before: &str,
+    glob: &str,
+    patterns: &mut Vec<String<A>, A>,
+) -> Result<(), AllocError>
+    ensures { OnOk result (map string_bytes patterns.new.items
+        ≡ map string_bytes patterns.old.items ++ (before.now ++ glob.now) ∷ []) }
+{
+    let mut pattern = String::from_str(alloc, before)?;
+    pattern.push_str(glob)?;
+    patterns.push(pattern)?;
+    Ok(())
+}
+
+/// Patterns as strings of a platform.
+pub(crate) fn strings_of<'s, E: Platform, A: Allocator>(
+    alloc: A,
+    patterns: &'s [String<A>],
+) -> Result<Vec<OsStr<'s, E>, A>, AllocError>
+    ensures { IfOk result
+        (λ strings. map bytes strings.items ≡ map string_bytes patterns.entry.now) }
+{
+    let mut strings = Vec::new(alloc);
+    let mut left = patterns;
+    while let Some((pattern, rest)) = left.split_first() {
+        strings.push(OsStr::new(pattern.as_str()))?;
+        left = rest;
+    }
+    Ok(strings)
 }

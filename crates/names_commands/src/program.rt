@@ -1,5 +1,5 @@
 //! The whole program, over ends of any kind.
-ghost use Rattle.std.specs.Prelude.{◌≡◌, ◌≢◌, ◌<◌, ◌+◌, ◌^◌, [], map, false, MatchOption};
+ghost use Rattle.std.specs.Prelude.{◌≡◌, ◌≢◌, ◌<◌, ◌+◌, ◌^◌, [], map, string_bytes, false, MatchOption};
 ghost use Rattle.os_str_bytes.specs.Strings.{bytes};
 ghost use Rattle.program_frame.specs.Marked.{has_failed};
 ghost use Rattle.program_frame.specs.ProgramFault.{BlamesEnds};
@@ -13,6 +13,7 @@ use crate::help::{HELP, VERSION};
 use crate::ignoring::read_ignore;
 use crate::matching::{Form, Matching, Picker};
 use crate::option::NamesOption;
+use crate::pick::strings_of;
 use crate::plan::Plan;
 use crate::task::{OnPlatform, Settings, Task};
 use glob_patterns::{GlobSet, GlobSetError};
@@ -242,12 +243,38 @@ fn run_plan_on<'a, E: Platform + 'a, F: Files, A: Allocator + Copy, R: Read, W: 
         reader.old reader.new writer.old writer.new result }
     ensures ends { BlamesEnds result (has_failed reader.new) (has_failed writer.new) }
 {
-    let Ok(patterns) = plan.pick.patterns::<E, A>(alloc, given) else {
+    let Ok(patterns) = plan.pick.patterns(alloc, given) else {
         return Err(Fault::List(ListFault::Run(Failure::Memory)));
     };
     match values(alloc, given, NamesOption::Ignore) {
         Ok(names) => {
-            run_patterns::<E, F, A, R, W>(alloc, files, plan, &patterns, &names, reader, writer)
+            run_texts::<E, F, A, R, W>(alloc, files, plan, &patterns, &names, reader, writer)
+        }
+        Err(_) => Err(Fault::List(ListFault::Run(Failure::Memory))),
+    }
+}
+
+/// Returns the result for the texts of patterns, and for the names of ignore files.
+fn run_texts<E: Platform, F: Files, A: Allocator + Copy, R: Read, W: Write>(
+    alloc: A,
+    files: &F,
+    plan: Plan<'_>,
+    patterns: &[String<A>],
+    names: &[&str],
+    reader: &mut Marked<R>,
+    writer: &mut Marked<W>,
+) -> Result<(), Fault>
+    requires reader_unmarked { has_failed reader.old ≡ false }
+    requires writer_unmarked { has_failed writer.old ≡ false }
+    ensures run { Did R.remaining W.contents (UnlessOutOfMemory
+        (RunsPatterns (F.known files.now) A ⟦<E as Platform>⟧ plan.entry
+        (map string_bytes patterns.now) (map text_of names.now)))
+        reader.old reader.new writer.old writer.new result }
+    ensures ends { BlamesEnds result (has_failed reader.new) (has_failed writer.new) }
+{
+    match strings_of::<E, A>(alloc, patterns) {
+        Ok(globs) => {
+            run_patterns::<E, F, A, R, W>(alloc, files, plan, &globs, names, reader, writer)
         }
         Err(_) => Err(Fault::List(ListFault::Run(Failure::Memory))),
     }
@@ -308,7 +335,8 @@ fn run_set<E: Platform, F: Files, A: Allocator + Copy, R: Read, W: Write>(
     requires writer_unmarked { has_failed writer.old ≡ false }
     ensures run { Did R.remaining W.contents (UnlessOutOfMemory
         (RunsBut (F.known files.now) A ⟦<E as Platform>⟧ plan.entry.form plan.entry.max
-        (IsChosenBy ⟦<E as Platform>⟧ globs.entry) (map text_of names.now)))
+        plan.entry.pick.inverted (IsChosenBy ⟦<E as Platform>⟧ globs.entry)
+        (map text_of names.now)))
         reader.old reader.new writer.old writer.new result }
     ensures ends { BlamesEnds result (has_failed reader.new) (has_failed writer.new) }
 {
@@ -317,6 +345,7 @@ fn run_set<E: Platform, F: Files, A: Allocator + Copy, R: Read, W: Write>(
             let picker = Picker {
                 globs,
                 ignore: &ignore,
+                inverted: plan.pick.inverted,
             };
             let names = Matching::new(picker, plan.form, plan.max);
             run_list(alloc, &names, reader, writer)

@@ -1,6 +1,6 @@
 -- What the program does for the words that filter names by one ignore file.
-use Rattle.std.proofs.Common.{◌≡◌, ◌≢◌, ◌⊎◌, inl, inr, ℕ, List, [], ◌∷◌, ◌++◌, ◌+◌, length, map, get_or, refl, sym, ap, ◌∙◌, subst, arith, Option, Some, Result, Ok, Err}
-use Rattle.std.specs.Prelude.{codes, OnOk, ⊤}
+use Rattle.std.proofs.Common.{◌≡◌, ◌≢◌, ◌⊎◌, inl, inr, ℕ, List, [], ◌∷◌, ◌++◌, ◌+◌, Bool, true, false, ◌↔◌, length, map, get_or, refl, sym, ap, ◌∙◌, subst, arith, Option, Some, Result, Ok, Err}
+use Rattle.std.specs.Prelude.{codes, IsTrue, OnOk, ⊤}
 use Rattle.std.specs.List.{AllByRecursion}
 use Rattle.std.specs.Io.KnownBytes.{Appends}
 use denote.Ref.{Bor}
@@ -25,7 +25,7 @@ use Rattle.names_commands.specs.Fault.{words_status}
 use Rattle.names_commands.specs.Ignoring.{AreAdded, AreRead, FileRead, IsFirstUnread, IsIgnored, name_of}
 use Rattle.names_commands.specs.Matching.{IsChosen, IsPicked, picking}
 use Rattle.names_commands.specs.Options.{has_value, spelled}
-use Rattle.names_commands.specs.Pick.{glob_words}
+use Rattle.names_commands.specs.Pick.{glob_words, in_any_folder}
 use Rattle.names_commands.specs.Program.{Does, EndsAtOnce, Fault, IsFileFault, RejectsLine, RunsBut, RunsLine, RunsPatterns, RunsPlan, RunsTo, UnlessOutOfMemory}
 use Rattle.names_commands.specs.declared.command.Command.{Command}
 use Rattle.names_commands.specs.declared.command.Command.TheVariants.{ListNames, ListWords, Filter, Join, JoinWords, Check, Help, Version}
@@ -38,6 +38,7 @@ use Rattle.names_commands.specs.declared.fault.Refusal.{Refusal}
 use Rattle.names_commands.specs.declared.matching.Form.TheVariants.{Name}
 use Rattle.names_commands.specs.declared.pick.Pick.{Pick}
 use Rattle.names_commands.specs.declared.plan.Plan.{Plan}
+use Rattle.names_commands.specs.declared.option.NamesOption.{NamesOption}
 use Rattle.names_commands.specs.declared.option.NamesOption.TheVariants as option
 use Rattle.os_args.specs.Views.{fault_of}
 use Rattle.program_frame.specs.Arguments.{AreGiven, AreValues, HasOption, LastValue}
@@ -108,15 +109,15 @@ module _ (command platform value : Bor (List ℕ)) where
       by (inl k) = absurd k.2.0
       by (inr k) = last k.1
 
-  no_globs : (globs : List (List ℕ)) → AreValues option.Glob given_of globs → globs ≡ []
-  no_globs globs (inl k) = absurd k.2.0
-  no_globs globs (inr k) = by k.1
+  no_values : (it : NamesOption) → (option.Ignore ≡ it → ⊥) → (values : List (List ℕ)) → AreValues it given_of values → values ≡ []
+  no_values it other values (inl k) = absurd k.2.0
+  no_values it other values (inr k) = by k.1
     where
-      last : AreValues option.Glob (Valued option.Ignore value ∷ []) globs → globs ≡ []
-      last (inl k) = let never : option.Ignore ≡ option.Glob = k.2.0.0 in absurd (cc)
+      last : AreValues it (Valued option.Ignore value ∷ []) values → values ≡ []
+      last (inl k) = absurd (other k.2.0.0)
       last (inr k) = k.1
 
-      by : AreValues option.Glob (Operand platform ∷ Valued option.Ignore value ∷ []) globs → globs ≡ []
+      by : AreValues it (Operand platform ∷ Valued option.Ignore value ∷ []) values → values ≡ []
       by (inl k) = absurd k.2.0
       by (inr k) = last k.1
 
@@ -151,39 +152,51 @@ module _ (command platform value : Bor (List ℕ)) where
   no_version (inr (inr (inl h))) = let never : option.Ignore ≡ option.Version = h in cc
   no_version (inr (inr (inr h))) = h
 
+  no_invert : ¬ (HasOption option.Invert given_of)
+  no_invert (inl h) = h
+  no_invert (inr (inl h)) = h
+  no_invert (inr (inr (inl h))) = let never : option.Ignore ≡ option.Invert = h in cc
+  no_invert (inr (inr (inr h))) = h
+
+  not_inverted : (inverted : Bool) → (IsTrue inverted ↔ HasOption option.Invert given_of) → inverted ≡ false
+  not_inverted true is = absurd (no_invert (is.0 refl))
+  not_inverted false is = refl
+
 module _ (known : KnownFiles) (A : Type 0) (file : List ℕ) (input left old new : Option (List ℕ)) (answer : Result ⊤ Fault) where
   -- all names are written, but for those that the file ignores
   abbrev pub Filters : Type 0
-  Filters = UnlessOutOfMemory (RunsBut known A (strings Unix) Name 1048576 (IsChosen (strings Unix) (options_of Unix) []) (file ∷ [])) input left old new answer
+  Filters = UnlessOutOfMemory (RunsBut known A (strings Unix) Name 1048576 false (IsChosen (strings Unix) (options_of Unix) []) (file ∷ [])) input left old new answer
 
   no_fault : (before after : List (List ℕ)) (text : List ℕ) → [] ≡ before ++ text ∷ after → ⊥
   no_fault [] after text e = cc
   no_fault (x ∷ before) after text e = let never : [] ≡ x ∷ (before ++ text ∷ after) = e in cc
 
   -- no pattern has a fault where there is none
-  ran : (plan : Plan) → plan.os ≡ Unix → plan.form ≡ Name → plan.max ≡ 1048576 → RunsPatterns known A (strings Unix) plan [] (file ∷ []) input left old new answer → Filters
-  ran plan os form max (inl fault) = absurd (no_fault fault.2.before fault.2.after fault.2.text fault.2.joined)
-  ran plan os form max (inr compiled) =
-      let runs = subst (λ w. RunsBut known A (strings Unix) plan.form plan.max (IsChosen (strings Unix) (options_of plan.os) w) (file ∷ []) input left old new answer) compiled.1 compiled.2 in
-      inr (subst (λ o. RunsBut known A (strings Unix) Name 1048576 (IsChosen (strings Unix) (options_of o) []) (file ∷ []) input left old new answer) os
-      (subst (λ f. RunsBut known A (strings Unix) f 1048576 (IsChosen (strings Unix) (options_of plan.os) []) (file ∷ []) input left old new answer) form
-      (subst (λ m. RunsBut known A (strings Unix) plan.form m (IsChosen (strings Unix) (options_of plan.os) []) (file ∷ []) input left old new answer) max runs)))
+  ran : (plan : Plan) → plan.os ≡ Unix → plan.form ≡ Name → plan.max ≡ 1048576 → plan.pick.inverted ≡ false → RunsPatterns known A (strings Unix) plan [] (file ∷ []) input left old new answer → Filters
+  ran plan os form max kept (inl fault) = absurd (no_fault fault.2.before fault.2.after fault.2.text fault.2.joined)
+  ran plan os form max kept (inr compiled) =
+      let runs = subst (λ w. RunsBut known A (strings Unix) plan.form plan.max plan.pick.inverted (IsChosen (strings Unix) (options_of plan.os) w) (file ∷ []) input left old new answer) compiled.1 compiled.2 in
+      inr (subst (λ o. RunsBut known A (strings Unix) Name 1048576 false (IsChosen (strings Unix) (options_of o) []) (file ∷ []) input left old new answer) os
+      (subst (λ f. RunsBut known A (strings Unix) f 1048576 false (IsChosen (strings Unix) (options_of plan.os) []) (file ∷ []) input left old new answer) form
+      (subst (λ m. RunsBut known A (strings Unix) plan.form m false (IsChosen (strings Unix) (options_of plan.os) []) (file ∷ []) input left old new answer) max
+      (subst (λ v. RunsBut known A (strings Unix) plan.form plan.max v (IsChosen (strings Unix) (options_of plan.os) []) (file ∷ []) input left old new answer) kept runs))))
 
   module _ (command platform value : Bor (List ℕ)) (is_command : command.now ≡ codes "filter") (is_platform : platform.now ≡ codes "unix") (is_file : value.now ≡ file) where
     abbrev given : Line
     given = given_of command platform value
 
-    picked : (pick : Pick) (max : ℕ) → max ≡ 1048576 → glob_words pick.glob ≡ [] → RunsPlan known A given (record { os = Unix; form = Name; pick = pick; max = max }) input left old new answer → Filters
-    picked pick max usual none (inl memory) = inl memory
-    picked pick max usual none (inr chose) =
+    picked : (pick : Pick) (max : ℕ) → max ≡ 1048576 → glob_words pick.glob ≡ [] → pick.inverted ≡ false → RunsPlan known A given (record { os = Unix; form = Name; pick = pick; max = max }) input left old new answer → Filters
+    picked pick max usual none kept (inl memory) = inl memory
+    picked pick max usual none kept (inr chose) =
         let globs = chose.0 in
         let names = chose.1 in
         let patterns = chose.2.0 in
-        let more : patterns.0 ≡ [] = no_globs command platform value patterns.0 patterns.1.0 in
-        let globs_are : globs ≡ [] = patterns.1.1 ∙ ap (λ x. x ++ patterns.0) none ∙ more in
+        let more : patterns.0 ≡ [] = no_values command platform value option.Glob (λ e. cc) patterns.0 patterns.2.0 in
+        let of_names : patterns.1 ≡ [] = no_values command platform value option.Name (λ e. cc) patterns.1 patterns.2.1.0 in
+        let globs_are : globs ≡ [] = patterns.2.1.1 ∙ ap (λ x. (x ++ patterns.0) ++ map in_any_folder patterns.1) none ∙ ap (λ x. x ++ map in_any_folder patterns.1) more ∙ ap (map in_any_folder) of_names in
         let names_are : names ≡ file ∷ [] = one_file command platform value names chose.2.1 ∙ ap (λ x. x ∷ []) is_file in
         let plan : Plan = record { os = Unix; form = Name; pick = pick; max = max } in
-        ran plan refl refl usual
+        ran plan refl refl usual kept
         (subst (λ x. RunsPatterns known A (strings Unix) plan [] x input left old new answer) names_are
         (subst (λ x. RunsPatterns known A (strings Unix) plan x names input left old new answer) globs_are chose.3))
 
@@ -195,7 +208,7 @@ module _ (known : KnownFiles) (A : Type 0) (file : List ℕ) (input left old new
     is_word c os more has = sym is_command ∙ first has
 
     by_platform : (os : Os) (more : List (List ℕ)) (pick : Pick) (max : ℕ) → codes "unix" ≡ os_word os → [] ≡ more → max ≡ 1048576 → IsPick given os more pick → RunsPlan known A given (record { os = os; form = Name; pick = pick; max = max }) input left old new answer → Filters
-    by_platform Unix more pick max e none usual is runs = picked pick max usual (sym is.glob ∙ sym none) runs
+    by_platform Unix more pick max e none usual is runs = picked pick max usual (sym is.glob ∙ sym none) (not_inverted command platform value pick.inverted is.inverted) runs
     by_platform Windows more pick max e none usual is runs = absurd (not_windows e)
     by_platform Wasm more pick max e none usual is runs = absurd (not_wasm e)
 
@@ -219,7 +232,7 @@ module _ (known : KnownFiles) (A : Type 0) (file : List ℕ) (input left old new
 
     -- some command has them
     asked : (request : Request) × AsksFor given request
-    asked = (record { command = Filter Unix (record { glob = None }); max = 1048576 }, inr (no_help command platform value, inr (no_version command platform value, (inl (no_limit command platform value, refl), ([], (operands, ((tt, (tt, (tt, tt))), record { glob = refl; some = inr (inr (inr (inr (inl refl)))); ignores = λ h. tt })))))))
+    asked = (record { command = Filter Unix (record { glob = None; inverted = false }); max = 1048576 }, inr (no_help command platform value, inr (no_version command platform value, (inl (no_limit command platform value, refl), ([], (operands, ((tt, (tt, (tt, tt))), record { glob = refl; some = inr (inr (inl (inr (inr (inl refl))))); ignores = λ h. tt; inverted = (λ e. let never : false ≡ true = e in absurd (cc), λ h. absurd (no_invert command platform value h)) })))))))
 
     not_rejected : RejectsLine given input left old new answer → ⊥
     not_rejected r = r.2.0.0.no_request asked.0 asked.1
@@ -278,11 +291,11 @@ module _ (A : Type 0) (file bytes name : List ℕ) (whole : Lacks 0 name) (some 
   err_written : (answer : Result ⊤ Fault) (fault : Fault) → answer ≡ Err fault → Written answer
   err_written answer fault e = subst Written (sym e) tt
 
-  run_written : (files : List (File A)) → AreRead (only file bytes) (file ∷ []) files → (run : Result ⊤ (ListFault Refusal)) → IsRun (picking (strings Unix) Name 1048576 (IsPicked (IsChosen (strings Unix) (options_of Unix) []) files)) (Some name) left old new run → Written (answer_of OfList run)
+  run_written : (files : List (File A)) → AreRead (only file bytes) (file ∷ []) files → (run : Result ⊤ (ListFault Refusal)) → IsRun (picking (strings Unix) Name 1048576 (IsPicked false (IsChosen (strings Unix) (options_of Unix) []) files)) (Some name) left old new run → Written (answer_of OfList run)
   run_written files read (Err fault) is = tt
   run_written files read (Ok done) is =
       let w = is.written in
-      let said = known_filtered (strings Unix) (IsPicked (IsChosen (strings Unix) (options_of Unix) []) files) 1048576 name w.0 whole some w.1.0 in
+      let said = known_filtered (strings Unix) (IsPicked false (IsChosen (strings Unix) (options_of Unix) []) files) 1048576 name w.0 whole some w.1.0 in
       (w.0, (record { files = files; only = only_read file bytes files read; ignored = λ i. left_out i said; kept = λ n. kept n said }, w.1.1))
     where
       left_out : {text : List ℕ} → IsIgnored files name → ((Unit {0} × (¬ (IsIgnored files name))) × (text ≡ name ++ 0 ∷ [])) ⊎ ((¬ (Unit {0} × (¬ (IsIgnored files name)))) × (text ≡ [])) → text ≡ []

@@ -215,9 +215,11 @@ pub fn filtered<E: Platform, A: Allocator, B: Allocator + Copy, W: Write>(
     requires some { name.now ≢ [] }
     requires unmarked { has_failed writer.old ≡ false }
     ensures { OnOk result ((text : List ℕ)
-        × (((IsPickedBy ⟦<E as Platform>⟧ picker.entry.globs (files_of picker.entry.ignore.now) name.now
+        × (((IsPickedBy ⟦<E as Platform>⟧ picker.entry.inverted picker.entry.globs
+        (files_of picker.entry.ignore.now) name.now
         × (text ≡ name.now ++ 0 ∷ []))
-        ⊎ ((¬ (IsPickedBy ⟦<E as Platform>⟧ picker.entry.globs (files_of picker.entry.ignore.now)
+        ⊎ ((¬ (IsPickedBy ⟦<E as Platform>⟧ picker.entry.inverted picker.entry.globs
+        (files_of picker.entry.ignore.now)
         name.now)) × (text ≡ [])))
         × Appends (W.contents (marked_inner writer.old)) (W.contents (marked_inner writer.new))
         text)) }

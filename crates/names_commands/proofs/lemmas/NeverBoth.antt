@@ -9,7 +9,7 @@ use Rattle.program_frame.specs.declared.misuse.Misuse as misuse
 use Rattle.program_frame.specs.declared.misuse.Misuse.TheVariants.{Argument, Missing, Invalid, Misplaced}
 use Rattle.program_frame.specs.declared.os.Os.{Os}
 use Rattle.program_frame.specs.declared.os.Os.TheVariants.{Unix, Windows, Wasm}
-use Rattle.names_commands.specs.Command.{AsksFor, Fits, FitsOne, HasOperands, IsForPlatform, IsInvalid, IsLimit, IsMax, IsMaybePick, IsMisplaced, IsMissing, IsMisuse, IsTooMany, Line, MakesUp, NoWords, SomePicked, TakesOption, name_word}
+use Rattle.names_commands.specs.Command.{AsksFor, Fits, FitsOne, HasOperands, IsForPlatform, IsInvalid, IsLimit, IsMax, IsMaybePick, IsMisplaced, IsMissing, IsMisuse, IsTooMany, Line, MakesUp, NeedsPick, NoWords, SomePicked, TakesOption, name_word}
 use Rattle.names_commands.specs.Pick.{TakesIgnore, glob_words}
 use Rattle.names_commands.specs.declared.command.Command.{Command}
 use Rattle.names_commands.specs.declared.command.Command.TheVariants.{ListNames, ListWords, Filter, Join, JoinWords, Check, Help, Version}
@@ -132,7 +132,7 @@ record IsMade (given : Line) : Type 0 where
   pub operands : HasOperands given command os more
   pub fits : Fits command given
   pub few : (TakesOption command option.Glob × AtMostOne more) ⊎ ((¬ (TakesOption command option.Glob)) × (more ≡ []))
-  pub filters : command ≡ name.Filter → SomePicked given more
+  pub needs : NeedsPick given command → SomePicked given more
   pub for_platform : (it : NamesOption) → HasOption it given → IsForPlatform os it
 
 few_words : (glob : Option (Bor (List ℕ))) → AtMostOne (glob_words glob)
@@ -140,12 +140,21 @@ few_words None = tt
 few_words (Some glob) = tt
 
 few_picked : (given : Line) (os : Os) (more : List (List ℕ)) (pick : Option Pick) → IsMaybePick given os more pick → AtMostOne more
-few_picked given os more None n = subst AtMostOne (sym (none_picked given more n)) tt
+few_picked given os more None n = subst AtMostOne (sym (none_picked given more n.0)) tt
 few_picked given os more (Some pick) p = subst AtMostOne (sym p.glob) (few_words pick.glob)
 
 ignores_of : (given : Line) (os : Os) (more : List (List ℕ)) (pick : Option Pick) → IsMaybePick given os more pick → HasOption option.Ignore given → TakesIgnore os
-ignores_of given os more None n h = absurd (n (inr (inr h)))
+ignores_of given os more None n h = absurd (n.0 (inr (inr (inl h))))
 ignores_of given os more (Some pick) p h = p.ignores h
+
+needs_of : (given : Line) (os : Os) (more : List (List ℕ)) (pick : Option Pick) → IsMaybePick given os more pick → NeedsPick given name.List → SomePicked given more
+needs_of given os more None n (inl e) = cc
+needs_of given os more None n (inr h) = absurd (n.1 h)
+needs_of given os more (Some pick) p k = p.some
+
+not_needed : (command : Name) (given : Line) → Fits command given → (command ≡ name.Filter → ⊥) → (TakesOption command option.Invert → ⊥) → NeedsPick given command → SomePicked given []
+not_needed command given f a b (inl e) = absurd (a e)
+not_needed command given f a b (inr h) = absurd (b (all_fit command given f option.Invert h))
 
 no_words : (command : Name) (given : Line) → Fits command given → (TakesOption command option.Sh → ⊥) → (TakesOption command option.ShLine → ⊥) → NoWords given
 no_words command given f a b = (λ h. a (all_fit command given f option.Sh h), λ h. b (all_fit command given f option.ShLine h))
@@ -158,7 +167,9 @@ plain os given none ignores option.Sh h = absurd (none.0 h)
 plain os given none ignores option.ShLine h = absurd (none.1 h)
 plain os given none ignores option.Unterminated h = tt
 plain os given none ignores option.Glob h = tt
+plain os given none ignores option.Name h = tt
 plain os given none ignores option.Ignore h = ignores h
+plain os given none ignores option.Invert h = tt
 
 on_unix : (it : NamesOption) → IsForPlatform Unix it
 on_unix option.Help = tt
@@ -168,7 +179,9 @@ on_unix option.Sh = refl
 on_unix option.ShLine = refl
 on_unix option.Unterminated = tt
 on_unix option.Glob = tt
+on_unix option.Name = tt
 on_unix option.Ignore = tt
+on_unix option.Invert = tt
 
 made : (given : Line) (command : Command) → MakesUp given command → IsMade given
 made given (ListNames os pick) m = record {
@@ -178,7 +191,7 @@ made given (ListNames os pick) m = record {
   operands = m.1.0;
   fits = m.1.1.0;
   few = inl (tt, few_picked given os m.0 pick m.1.1.1.1);
-  filters = λ e. cc;
+  needs = needs_of given os m.0 pick m.1.1.1.1;
   for_platform = plain os given m.1.1.1.0 (ignores_of given os m.0 pick m.1.1.1.1);
 }
 made given (ListWords form pick) m = record {
@@ -188,7 +201,7 @@ made given (ListWords form pick) m = record {
   operands = m.1.0;
   fits = m.1.1.0;
   few = inl (tt, few_picked given Unix m.0 pick m.1.1.1.1);
-  filters = λ e. cc;
+  needs = needs_of given Unix m.0 pick m.1.1.1.1;
   for_platform = λ it h. on_unix it;
 }
 made given (Filter os pick) m = record {
@@ -198,7 +211,7 @@ made given (Filter os pick) m = record {
   operands = m.1.0;
   fits = m.1.1.0;
   few = inl (tt, few_picked given os m.0 (Some pick) m.1.1.1);
-  filters = λ e. m.1.1.1.some;
+  needs = λ k. m.1.1.1.some;
   for_platform = plain os given (no_words name.Filter given m.1.1.0 (λ t. t) (λ t. t)) m.1.1.1.ignores;
 }
 made given (Join os last) m = record {
@@ -208,7 +221,7 @@ made given (Join os last) m = record {
   operands = m.0;
   fits = m.1.0;
   few = inr (λ t. t, refl);
-  filters = λ e. cc;
+  needs = not_needed name.Join given m.1.0 (λ e. cc) (λ t. t);
   for_platform = plain os given m.1.1.0 (λ h. absurd (all_fit name.Join given m.1.0 option.Ignore h));
 }
 made given (JoinWords last) m = record {
@@ -218,7 +231,7 @@ made given (JoinWords last) m = record {
   operands = m.0;
   fits = m.1.0;
   few = inr (λ t. t, refl);
-  filters = λ e. cc;
+  needs = not_needed name.Join given m.1.0 (λ e. cc) (λ t. t);
   for_platform = λ it h. on_unix it;
 }
 made given (Check os) m = record {
@@ -228,7 +241,7 @@ made given (Check os) m = record {
   operands = m.0;
   fits = m.1;
   few = inr (λ t. t, refl);
-  filters = λ e. cc;
+  needs = not_needed name.Check given m.1 (λ e. cc) (λ t. t);
   for_platform = plain os given (no_words name.Check given m.1 (λ t. t) (λ t. t)) (λ h. absurd (all_fit name.Check given m.1 option.Ignore h));
 }
 made given Help m = absurd m
@@ -239,8 +252,8 @@ module _ (given : Line) (m : IsMade given) where
   not_missing what (inl k) = not_nil (sym k.1 ∙ m.operands)
   not_missing what (inr (inl k)) = not_nil (tail_is (sym k.1.1 ∙ m.operands))
   not_missing what (inr (inr k)) =
-      let same = one_command given m.command name.Filter m.os k.1.0 m.more [] m.operands k.1.1.0 in
-      k.1.1.1 (subst (SomePicked given) same.1.1 (m.filters same.0))
+      let same = one_command given m.command k.1.0 m.os k.1.1 m.more [] m.operands k.1.2.0 in
+      k.1.2.1.1 (subst (SomePicked given) same.1.1 (m.needs (subst (NeedsPick given) (sym same.0) k.1.2.1.0)))
 
   not_invalid : (max : ℕ) → IsMax given max → (what word : List ℕ) → IsInvalid given what word → ⊥
   not_invalid max limit what word (inl k) = k.1.0 m.command (head_is (sym k.1.1.1 ∙ m.operands))

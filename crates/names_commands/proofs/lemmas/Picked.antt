@@ -1,5 +1,5 @@
 -- A run over the names that are picked, where two conditions pick the same names.
-use Rattle.std.proofs.Common.{◌≡◌, ◌≢◌, ◌↔◌, ⊎_elim, inl, inr, ℕ, zero, suc, List, [], ◌∷◌, map, Option, Some, None, refl, sym, subst, arith}
+use Rattle.std.proofs.Common.{◌≡◌, ◌≢◌, ◌↔◌, ⊎_elim, inl, inr, ℕ, zero, suc, Bool, true, false, cond, not, List, [], ◌∷◌, map, Option, Some, None, refl, sym, ◌∙◌, subst, arith}
 use denote.Ref.{Bor}
 use Rattle.std.specs.Prelude.{Result, Ok, Err, ⊤, MatchOption}
 use Rattle.std.specs.List.{AllByRecursion}
@@ -95,23 +95,31 @@ where_texts f Is [] (Some y) h = absurd (h.0 refl)
 where_texts f Is (x ∷ xs) (Some y) h = (λ e. not_nil e, h.1)
 
 -- some of the names are picked of those that two conditions choose alike
-picked_alike : {A : Type 0} (Chosen Other : List ℕ → Type 0) (files : List (File A)) → ((name : List ℕ) → Chosen name ↔ Other name) → (name : List ℕ) → IsPicked Chosen files name ↔ IsPicked Other files name
-picked_alike Chosen Other files same name = (λ k. ((same name).0 k.0, k.1), λ k. ((same name).1 k.0, k.1))
+picked_alike : {A : Type 0} (inverted : Bool) (Chosen Other : List ℕ → Type 0) (files : List (File A)) → ((name : List ℕ) → Chosen name ↔ Other name) → (name : List ℕ) → IsPicked inverted Chosen files name ↔ IsPicked inverted Other files name
+picked_alike false Chosen Other files same name = (λ k. ((same name).0 k.0, k.1), λ k. ((same name).1 k.0, k.1))
+picked_alike true Chosen Other files same name = (λ k other. k ((same name).1 other.0, other.1), λ k other. k ((same name).0 other.0, other.1))
 
-pub same_but : {E : Type 0} (known : KnownFiles) (A : Type 0) (p : Ghosts E) (form : Form) (max : ℕ) (Chosen Other : List ℕ → Type 0) → ((name : List ℕ) → Chosen name ↔ Other name)
-    → (names : List (List ℕ)) (input left old new : Option (List ℕ)) (answer : Result ⊤ Fault) → RunsBut known A p form max Chosen names input left old new answer → RunsBut known A p form max Other names input left old new answer
-same_but known A p form max Chosen Other same names input left old new answer (inl fault) = inl fault
-same_but known A p form max Chosen Other same names input left old new answer (inr k) = inr (k.0, k.1, same_runs p form max (IsPicked Chosen k.0) (IsPicked Other k.0) (picked_alike Chosen Other k.0 same) OfList input left old new answer k.2)
+pub same_but : {E : Type 0} (known : KnownFiles) (A : Type 0) (p : Ghosts E) (form : Form) (max : ℕ) (inverted : Bool) (Chosen Other : List ℕ → Type 0) → ((name : List ℕ) → Chosen name ↔ Other name)
+    → (names : List (List ℕ)) (input left old new : Option (List ℕ)) (answer : Result ⊤ Fault) → RunsBut known A p form max inverted Chosen names input left old new answer → RunsBut known A p form max inverted Other names input left old new answer
+same_but known A p form max inverted Chosen Other same names input left old new answer (inl fault) = inl fault
+same_but known A p form max inverted Chosen Other same names input left old new answer (inr k) = inr (k.0, k.1, same_runs p form max (IsPicked inverted Chosen k.0) (IsPicked inverted Other k.0) (picked_alike inverted Chosen Other k.0 same) OfList input left old new answer k.2)
 
 -- a run is over the names that are picked by what is equal
-pub matching_runs : {E A : Type 0} (p : Ghosts E) (form its_form : Form) (max its_max : ℕ) (globs its_globs : Option (Bor (GlobSet E A))) (files its_files : List (File A)) (input left old new : Option (List ℕ)) (answer : Result ⊤ Fault)
-    → its_form ≡ form → its_max ≡ max → its_globs ≡ globs → its_files ≡ files
-    → Runs (matching p its_form its_max its_globs its_files) OfList input left old new answer → Runs (matching p form max globs files) OfList input left old new answer
-matching_runs p form its_form max its_max globs its_globs files its_files input left old new answer f n g i run =
-    subst (λ z. Runs (matching p z max globs files) OfList input left old new answer) f
-    (subst (λ z. Runs (matching p its_form z globs files) OfList input left old new answer) n
-    (subst (λ z. Runs (matching p its_form its_max z files) OfList input left old new answer) g
-    (subst (λ z. Runs (matching p its_form its_max its_globs z) OfList input left old new answer) i run)))
+pub matching_runs : {E A : Type 0} (p : Ghosts E) (form its_form : Form) (max its_max : ℕ) (inverted its_inverted : Bool) (globs its_globs : Option (Bor (GlobSet E A))) (files its_files : List (File A)) (input left old new : Option (List ℕ)) (answer : Result ⊤ Fault)
+    → its_form ≡ form → its_max ≡ max → its_inverted ≡ inverted → its_globs ≡ globs → its_files ≡ files
+    → Runs (matching p its_form its_max its_inverted its_globs its_files) OfList input left old new answer → Runs (matching p form max inverted globs files) OfList input left old new answer
+matching_runs p form its_form max its_max inverted its_inverted globs its_globs files its_files input left old new answer f n v g i run =
+    subst (λ z. Runs (matching p z max inverted globs files) OfList input left old new answer) f
+    (subst (λ z. Runs (matching p its_form z inverted globs files) OfList input left old new answer) n
+    (subst (λ z. Runs (matching p its_form its_max z globs files) OfList input left old new answer) v
+    (subst (λ z. Runs (matching p its_form its_max its_inverted z files) OfList input left old new answer) g
+    (subst (λ z. Runs (matching p its_form its_max its_inverted its_globs z) OfList input left old new answer) i run))))
+
+-- a name is picked, inverted, where it doesn't match
+pub picked_turned : {A : Type 0} (inverted : Bool) (Chosen : List ℕ → Type 0) (files : List (File A)) (name : List ℕ) (matches picks : Bool) → picks ≡ cond inverted (not matches) matches → ((matches ≡ true) ↔ IsPicked false Chosen files name) → ((picks ≡ true) ↔ IsPicked inverted Chosen files name)
+picked_turned false Chosen files name matches picks e said = (λ yes. said.0 (sym e ∙ yes), λ k. e ∙ said.1 k)
+picked_turned true Chosen files name true picks e said = (λ yes. let never : true ≡ false = sym yes ∙ e in absurd (cc), λ k. absurd (k (said.0 refl)))
+picked_turned true Chosen files name false picks e said = (λ yes k. let never : false ≡ true = said.1 k in cc, λ k. e)
 
 module _ {E A : Type 0} (p : Ghosts E) (o : GlobOptions) where
   abbrev AreCompiled : List (List ℕ) → List (Pattern A) → Type 0

@@ -37,3 +37,9 @@ returns-in-Join-clause-run g c =
     subst (λ command. Does (g.F.Files.known c.args.files.now) g.row.A.Denot c.args.given.now command c.args.max (g.R.Read.remaining (marked_inner c.args.reader.now)) (g.R.Read.remaining (marked_inner c.run_on-in-Join.new.reader)) (g.W.Write.contents (marked_inner c.args.writer.now)) (g.W.Write.contents (marked_inner c.run_on-in-Join.new.writer)) c.run_on-in-Join.result)
     (sym (c.in-Join.is))
     c.run_on-in-Join.ensures.run
+
+pub returns-in-Filter-clause-run : goal.returns-in-Filter-clause-run
+returns-in-Filter-clause-run g c =
+    subst (λ command. Does (g.F.Files.known c.args.files.now) g.row.A.Denot c.args.given.now command c.args.max (g.R.Read.remaining (marked_inner c.args.reader.now)) (g.R.Read.remaining (marked_inner c.run_plan-in-Filter.new.reader)) (g.W.Write.contents (marked_inner c.args.writer.now)) (g.W.Write.contents (marked_inner c.run_plan-in-Filter.new.writer)) c.run_plan-in-Filter.result)
+    (sym (c.in-Filter.is))
+    c.run_plan-in-Filter.ensures.run

@@ -22,7 +22,7 @@ returns-in-Ok-clause-run g c =
     let written = written_of P o texts set.set.patterns.items compiled in
     let choose = chosen P o texts set same compiled globs (where_texts bytes (λ held. held.now ≡ set) c.args.globs.now globs c.set_of-globs.ensures) in
     ⊎_elim inl
-    (λ ran. inr (inr (written, are_written P o texts set.set.patterns.items compiled, same_but (g.F.Files.known c.args.files.now) g.row.A.Denot P c.args.plan.form c.args.plan.max (IsChosenBy P globs) (IsChosen P o written) choose (map text_of c.args.names.now) (g.R.Read.remaining (marked_inner c.args.reader.now)) (g.R.Read.remaining (marked_inner c.run_set.new.reader)) (g.W.Write.contents (marked_inner c.args.writer.now)) (g.W.Write.contents (marked_inner c.run_set.new.writer)) c.run_set.result ran)))
+    (λ ran. inr (inr (written, are_written P o texts set.set.patterns.items compiled, same_but (g.F.Files.known c.args.files.now) g.row.A.Denot P c.args.plan.form c.args.plan.max c.args.plan.pick.inverted (IsChosenBy P globs) (IsChosen P o written) choose (map text_of c.args.names.now) (g.R.Read.remaining (marked_inner c.args.reader.now)) (g.R.Read.remaining (marked_inner c.run_set.new.reader)) (g.W.Write.contents (marked_inner c.args.writer.now)) (g.W.Write.contents (marked_inner c.run_set.new.writer)) c.run_set.result ran)))
     c.run_set.ensures.run
 
 pub returns-in-Err-Pattern-clause-run : goal.returns-in-Err-Pattern-clause-run

@@ -1,4 +1,4 @@
-use Rattle.std.proofs.Common.{◌∷◌, [], inr, refl, ap, ◌∙◌, subst}
+use Rattle.std.proofs.Common.{◌∷◌, [], inl, inr, refl, ap, ◌∙◌, subst}
 use Rattle.program_frame.specs.Arguments.{operands_of}
 use Rattle.program_frame.specs.Os.{os_word}
 use Rattle.names_commands.specs.Command.{IsMaybePick, SomePicked, name_word}
@@ -11,5 +11,5 @@ returns-in-Ok-None-clause-misuse c =
     let given = c.args.given.now in
     let more = operands_of c.args.more.now in
     let none = subst (IsMaybePick given c.args.os more) c.in-Ok-None.field-0-is c.in-Ok-None.ensures.pick in
-    let no_more = none_picked given more none in
-    inr (inr (refl, (c.args.os, (c.requires.operands ∙ ap (λ m. name_word Filter ∷ os_word c.args.os ∷ m) no_more, subst (λ m. ¬ (SomePicked given m)) no_more none))))
+    let no_more = none_picked given more none.0 in
+    inr (inr (refl, (Filter, c.args.os, (c.requires.operands ∙ ap (λ m. name_word Filter ∷ os_word c.args.os ∷ m) no_more, (inl refl, subst (λ m. ¬ (SomePicked given m)) no_more none.0)))))

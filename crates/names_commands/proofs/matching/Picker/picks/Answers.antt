@@ -1,0 +1,8 @@
+use Rattle.os_ignore.specs.Ignores.{files_of}
+use Rattle.os_str_bytes.specs.Strings.{bytes}
+use Rattle.names_commands.specs.Matching.{IsChosenBy}
+use Rattle.names_commands.proofs.lemmas.Picked.{picked_turned}
+use Rattle.names_commands.proofs.matching.Picker.picks.Goals as goal
+
+pub returns : goal.returns
+returns g c = picked_turned c.args.self.now.inverted (IsChosenBy g.E.Platform c.args.self.now.globs) (files_of c.args.self.now.ignore.now) (bytes c.args.name) c.matches.result c.turned.result c.turned.ensures c.matches.ensures
