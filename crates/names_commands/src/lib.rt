@@ -9,10 +9,10 @@
 //! The arguments make up a request ([`Request::parse`](command::Request::parse)). A run reads a block
 //! at a time, and writes what the items that end in it become ([`program_frame::lists::run::run`]).
 //! So it keeps one item and what a block becomes. Where it ends early, the text of a
-//! [`Fault`](fault::Fault) states why, and for which item ([`program::execute`]).
+//! [`Fault`](fault::Fault) states why, and for which item ([`program_frame::lists::program::execute`]).
 //!
-//! One of its calls has a `requires`: [`program::execute`] takes a reader and a writer whose marks are
-//! unset, as `Marked::new` makes them.
+//! One of its calls has a `requires`: [`program_frame::lists::program::execute`] takes a reader and a
+//! writer whose marks are unset, as `Marked::new` makes them.
 #![tactic(auto)]
 
 pub mod command;
