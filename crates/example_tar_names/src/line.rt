@@ -11,7 +11,7 @@ use platform_str::{OsStr, Path, Unix};
 use std::alloc::{AllocError, Allocator};
 use tar_names::Name;
 
-/// Appends the line of a name, and returns whether the name is refused.
+/// Appends the line of a name, and returns whether the name is rejected.
 pub(crate) fn write_line<A: Allocator + Copy>(
     alloc: A,
     name: Name<'_>,
@@ -42,7 +42,7 @@ fn write_escape<A: Allocator + Copy>(
     Ok(())
 }
 
-/// Appends what follows a name on its line, and returns whether the name is refused: it is joined
+/// Appends what follows a name on its line, and returns whether the name is rejected: it is joined
 /// to the folder, and must stay below it.
 fn write_verdict<A: Allocator + Copy>(
     alloc: A,
@@ -66,7 +66,7 @@ fn write_verdict<A: Allocator + Copy>(
     }
 }
 
-/// Why a name is refused.
+/// Why a name is rejected.
 fn reason_of(error: JoinError) -> &'static str
     ensures { result.now ≡ reason_of error }
 {

@@ -8,7 +8,7 @@
 //! example_tar_names: a name is refused
 //! ```
 //!
-//! The status is 0, 1 if a name is refused, 2 if the archive has a fault, 3 if memory is refused
+//! The status is 0, 1 if a name is rejected, 2 if the archive has a fault, 3 if an allocation fails
 //! and 4 for a failed read or write. What comes before a fault is printed.
 #![tactic(auto)]
 

@@ -6,7 +6,7 @@ use crate::line::write_line;
 use std::alloc::{AllocError, Allocator};
 use tar_names::{Entries, TarFault};
 
-/// What is printed of an archive, whether a name is refused, and the first fault of the archive.
+/// What is printed of an archive, whether a name is rejected, and the first fault of the archive.
 pub(crate) fn report<A: Allocator + Copy>(
     alloc: A,
     archive: &[u8],

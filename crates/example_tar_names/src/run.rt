@@ -17,8 +17,8 @@ use std::io::{Read, Write};
 ///
 /// # Errors
 ///
-/// [`Fault::Refused`] if a name is refused and the archive has no fault, [`Fault::Archive`] with the
-/// archive's first fault, and [`Fault::Stopped`] where memory is refused, or a read or a write fails.
+/// [`Fault::Refused`] if a name is rejected and the archive has no fault, [`Fault::Archive`] with the
+/// archive's first fault, and [`Fault::Stopped`] if an allocation, a read or a write fails.
 pub fn run<A: Allocator + Copy, R: Read, W: Write>(
     alloc: A,
     reader: &mut Marked<R>,

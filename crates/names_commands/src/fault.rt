@@ -16,7 +16,7 @@ use program_frame::misuse::Misuse;
 use std::fmt;
 use std::fmt::{Display as _, InlineText};
 
-/// Why an item is refused.
+/// Why an item is rejected.
 #[derive(Clone, Copy, PartialEq, Eq)]
 pub enum Refusal {
     /// The name isn't a string of the platform, or the line isn't UTF-8: the first fault of its

@@ -21,7 +21,7 @@ fn without_dot(name: &[u8]) -> &[u8]
     }
 }
 
-/// The path that a name is, and whether it is that of a directory, which a `/` at the end says.
+/// The path that a name is, and whether it is that of a directory, which a `/` at the end shows.
 fn path_of(name: &[u8]) -> (&[u8], bool)
     ensures { IsPath name.now result.0.now result.1 }
 {

@@ -13,7 +13,7 @@ use std::marker::PhantomData;
 /// Whether the last line of the input may lack its newline.
 #[derive(Clone, Copy, PartialEq, Eq)]
 pub enum LastLine {
-    /// A last line without its newline is refused: a list that was cut off ends with such a line.
+    /// A last line without its newline is rejected: a list that was cut off ends with such a line.
     MustEnd,
     /// It is read as any other line.
     MayLackEnd,
@@ -54,7 +54,7 @@ pub enum Task {
     /// Each line, the escape of a name, is written as that name and NUL.
     Join(LastLine),
     /// Each word of each line, as a shell reads it, is written with NUL. Words in `$'..'` are read, too,
-    /// and what some shell would expand is refused.
+    /// and what some shell would expand is rejected.
     JoinWords(LastLine),
 }
 

@@ -1,8 +1,8 @@
-//! For trying: what a user of the programs' libraries and of the allocator that refuses concludes
+//! For trying: what a user of the programs' libraries and of the allocator that fails conclude
 //! from their public contracts alone.
 //!
 //! Each function is a caller whose contract is such a conclusion. Nothing here cites a lemma
-//! or a private word of the crates below, so that a contract that says too little breaks a caller.
+//! or a private word of the crates below, so that a contract that states too little breaks a caller.
 #![tactic(auto)]
 
 mod arguments;

@@ -1,4 +1,4 @@
-//! Lists of names: the words of requests, what runs write and refuse, and the way back.
+//! Lists of names: the arguments of requests, what runs write and reject, and the way back.
 ghost use Rattle.std.specs.Prelude.{◌≡◌, ◌≢◌, ◌≤◌, ◌∷◌, ◌++◌, ◌⊎◌, [], ℕ, List, false, IsOk, IfErr, IfSome, OnOk, length};
 ghost use Rattle.std.specs.Io.KnownBytes.{Appends};
 ghost use Rattle.os_command_line.specs.ShellWriting.{quoted_word};
@@ -184,7 +184,7 @@ pub fn first_names_again<E: Platform, A: Allocator, W: Write>(
     run_over::<E, A, W>(alloc, settings, prefix, writer)
 }
 
-/// Joins a line without its newline, which is refused.
+/// Joins a line without its newline, which is rejected.
 pub fn unended_line<E: Platform, A: Allocator, W: Write>(
     alloc: A,
     max: usize,
@@ -276,7 +276,7 @@ pub fn line_before<E: Platform, A: Allocator, W: Write>(
     run_over::<E, A, W>(alloc, settings, names, writer)
 }
 
-/// Checks one name: where it is refused, it is the first, with the first fault of its bytes.
+/// Checks one name: where it is rejected, it is the first, with the first fault of its bytes.
 pub fn check_one<E: Platform, A: Allocator, W: Write>(
     alloc: A,
     max: usize,

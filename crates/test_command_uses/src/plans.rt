@@ -1,4 +1,4 @@
-//! Plans of refusals, and runs under one after another.
+//! Plans of failures, and runs under one after another.
 ghost use Rattle.std.specs.Prelude.{◌≡◌, ◌↔◌, ◌^◌, ◌-◌, IfOk, IfErr, IsTrue, Result, true};
 ghost use Rattle.test_allocator.specs.Turns.{RanUnder, each_request};
 ghost use Rattle.test_allocator.specs.declared.plan.Plan.{Plan};
@@ -6,7 +6,7 @@ ghost use Rattle.test_allocator.specs.declared.plan.Plan.{Plan};
 use std::alloc::{AllocError, Allocator};
 use test_allocator::{Plan, Refusing, for_each_refusal};
 
-/// Whether a request is refused where the first is to be.
+/// Whether a request fails if the plan begins with a failure.
 #[tactic(auto, unfolding(test_allocator::specs::Plan::IsRefused))]
 pub fn refuses_first(number: u64) -> bool
     ensures { IsTrue result ↔ 1 ≡ number }
@@ -14,7 +14,7 @@ pub fn refuses_first(number: u64) -> bool
     Plan::Nth(1).refuses(number)
 }
 
-/// Whether a vector in memory that may be refused holds the bytes that it is made of.
+/// Whether a vector in memory that may be denied holds the bytes that it is made of.
 pub fn kept<A: Allocator>(heap: &Refusing<A>, bytes: &[u8]) -> Result<bool, AllocError>
     ensures { IfOk result (λ same. same ≡ true) }
 {

@@ -67,7 +67,7 @@ pub fn with_words<R: Read, W: Output, E: Messages>(
     execute(alloc, Ok(words.into_iter()), reader, writer, errors).outcome()
 }
 
-/// The program with arguments, which are no command's where it says so.
+/// The program with arguments, which are no command's where that is given.
 pub fn with_arguments<A: Allocator, R: Read, W: Output, E: Messages>(
     alloc: A,
     arguments: Args,
@@ -206,7 +206,7 @@ pub fn paths_refused<P: Eprint, A: Allocator + Copy, R: Read, W: Output, E: Mess
 }
 
 /// The program for paths with arguments that request a command: it runs such a command, unless
-/// memory is refused.
+/// an allocation fails.
 #[tactic(auto, using(crate::proofs::Requested::requested))]
 pub fn paths_requested<P: Eprint, A: Allocator + Copy, R: Read, W: Output, E: Messages>(
     rt: &P,

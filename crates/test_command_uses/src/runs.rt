@@ -45,7 +45,7 @@ pub fn run_once<A: Allocator, R: Read, W: Write>(
     run(alloc, command, reader, writer)
 }
 
-/// Splits at the empty pattern, which is refused before anything is read.
+/// Splits at the empty pattern, which is rejected before anything is read.
 pub fn split_at_nothing<A: Allocator, R: Read, W: Write>(
     alloc: A,
     os: Os,
