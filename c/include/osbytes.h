@@ -54,6 +54,7 @@
  *     osb_view paths[256];
  *     bool matched[256];
  *     osb_split split;
+ *     size_t count;
  *     osb_status status = len == 0 ? OSB_ENDED : osb_split_start(&split, text, len - 1, "\0", 1);
  *     while (status == OSB_OK && (status = osb_split_fill(&split, paths, 256, &count)) == OSB_OK)
  *         status = osb_globs_matches(globs, paths, count, matched);

@@ -1,11 +1,24 @@
-/* The edge with what its tests reach only from inside: sums of lengths that no program has memory for.
- * OSB_EDGE is the edge's file. */
+/* The edge with what its tests reach only from inside: sums of lengths that no program has memory for, and the views
+ * that the exports get. OSB_EDGE is the edge's file. */
 #ifndef OSB_EDGE
 #define OSB_EDGE "../src/osbytes.c"
 #endif
 #include OSB_EDGE
 
-/* Whether words are added to a line up to the greatest length that isn't SIZE_MAX. */
+/* Whether the views of a list are the caller's, or a copy where one is null. */
+static bool are_whole(void) {
+    const osb_view views[] = {{"a", 1}, {NULL, 0}};
+    osb_view *own = NULL;
+    if (without_null(views, 1, &own) != views || own != NULL) return false;
+    if (without_null(NULL, 0, &own) == NULL || own != NULL) return false;
+    const osb_view *whole = without_null(views, 2, &own);
+    bool right = whole != NULL && whole == own && whole[0].at == views[0].at && whole[0].len == 1 &&
+                 whole[1].at != NULL && whole[1].len == 0;
+    free(own);
+    return right;
+}
+
+/* Whether words are added to a line up to the greatest length that isn't SIZE_MAX, and lists have no null view. */
 bool osb_inside(void);
 
 bool osb_inside(void) {
@@ -16,5 +29,5 @@ bool osb_inside(void) {
     count = SIZE_MAX - 5;
     if (add_word(OSB_NO_ROOM, 5, &count) != OSB_TOO_LONG || count != SIZE_MAX - 5) return false;
     if (add_word(OSB_HAS_NUL, 5, &count) != OSB_HAS_NUL || count != SIZE_MAX - 5) return false;
-    return room_after(3, 3) == 0 && room_after(3, 4) == 0 && room_after(3, 1) == 2;
+    return are_whole() && room_after(3, 3) == 0 && room_after(3, 4) == 0 && room_after(3, 1) == 2;
 }

@@ -2,7 +2,6 @@
 
 from __future__ import annotations
 
-from array import array
 from ctypes import addressof, c_bool, c_void_p
 from enum import IntEnum, IntFlag
 from threading import Lock
@@ -10,7 +9,7 @@ from typing import Any, Iterable
 
 from . import _quick as quick
 from ._errors import GlobError, NulError
-from ._library import BAD_OPTION, BAD_PATTERN, HAS_NUL, NO_MEMORY, GlobFault, address_of, is_so, library, views_of
+from ._library import BAD_OPTION, BAD_PATTERN, HAS_NUL, NO_MEMORY, GlobFault, Views, address_of, is_so, library
 from ._strings import UNIX, WINDOWS, AnyOsName, Platform, as_platform, done, index_in, read_all, read_valid, said
 
 
@@ -49,12 +48,14 @@ def without_nul(raw: bytes, errors: str | None, which: int | None = None) -> byt
     return raw
 
 
-def _list_of(strings: Iterable[AnyOsName], platform: Platform) -> tuple[list[bytes], array[int], str | None]:
+def _list_of(strings: Iterable[AnyOsName], platform: Platform) -> tuple[list[bytes], Views, str | None]:
     """Returns strings that have no NUL, their views, and how they become a `str`."""
     items, errors = read_all(strings, platform)
-    for which, item in enumerate(items):
-        without_nul(item, errors, which)
-    return items, views_of(items), errors
+    views = Views(items)
+    if b"\0" in views.text:
+        for which, item in enumerate(items):
+            without_nul(item, errors, which)
+    return items, views, errors
 
 
 class GlobSet:
@@ -84,9 +85,8 @@ class GlobSet:
         self._platform, self._lock = platform, Lock()
         self._flags = GlobFlag(usual if flags is None else flags)
         self._patterns, views, errors = _list_of(patterns, platform)
-        at, count = views.buffer_info()[0], len(self._patterns)
         made, fault = c_void_p(), GlobFault()
-        status = library.osb_globs_new(platform, self._flags, at, count, addressof(made), addressof(fault))
+        status = library.osb_globs_new(platform, self._flags, views.at, views.count, addressof(made), addressof(fault))
         if status == NO_MEMORY:
             raise MemoryError
         if status == BAD_PATTERN:
@@ -112,8 +112,8 @@ class GlobSet:
 
     def matches(self, paths: Iterable[AnyOsName]) -> list[bool]:
         """Returns for each path whether it matches, in a fraction of the time of as many calls of `is_match`."""
-        items, views, _ = _list_of(paths, self._platform)
-        at, other, told = views.buffer_info()[0], c_void_p(), (c_bool * len(items))()
+        _, views, _ = _list_of(paths, self._platform)
+        other, told = c_void_p(), (c_bool * views.count)()
         # a call on one handle excludes others, so a long one has a handle of its own
         with self._lock:
             status = library.osb_globs_share(self._handle, addressof(other))
@@ -121,7 +121,7 @@ class GlobSet:
             raise MemoryError
         done(status)
         try:
-            status = library.osb_globs_matches(other.value, at, len(items), addressof(told))
+            status = library.osb_globs_matches(other.value, views.at, views.count, addressof(told))
         finally:
             library.osb_globs_free(other.value)
         done(status)

@@ -5,7 +5,8 @@ from __future__ import annotations
 import ctypes
 import os
 from array import array
-from ctypes import CDLL, POINTER, Structure, c_bool, c_char, c_char_p, c_int, c_size_t, c_uint32, c_void_p
+from ctypes import CDLL, POINTER, Structure, c_bool, c_char, c_char_p, c_int, c_size_t, c_uint32, c_void_p, cast
+from itertools import accumulate, islice
 from pathlib import Path
 from typing import Any, Callable, Sequence
 
@@ -106,12 +107,18 @@ class OptionRead(Structure):
     _fields_ = [("kind", c_uint32), ("value", c_uint32), ("text", View)]
 
 
-def views_of(strings: Sequence[bytes]) -> array[int]:
-    """Returns the views of strings, as the numbers that they consist of. The caller keeps the strings as long as these."""
-    views = array("Q", bytes(16 * len(strings)))
-    views[::2] = array("Q", bytes((c_char_p * len(strings))(*strings)))
-    views[1::2] = array("Q", map(len, strings))
-    return views
+class Views:
+    """The views of strings, as the numbers that they consist of, and the text that they are of."""
+
+    __slots__ = ("at", "count", "text", "_numbers")
+
+    def __init__(self, strings: Sequence[bytes]) -> None:
+        self.text, self.count, lens = b"".join(strings), len(strings), array("Q", map(len, strings))
+        starts = accumulate(lens, initial=cast(c_char_p(self.text), c_void_p).value or 0)
+        self._numbers = array("Q", bytes(16 * self.count))
+        self._numbers[::2] = array("Q", islice(starts, self.count))
+        self._numbers[1::2] = lens
+        self.at = self._numbers.buffer_info()[0]
 
 
 OK, FAULTY, NO_ROOM, NONE, ENDED, BAD_ESCAPE, NO_STRING, HAS_NUL, BAD_LINE, HAS_QUOTE, UNEXPECTED = range(11)

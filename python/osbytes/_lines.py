@@ -10,7 +10,7 @@ from typing import Any, AnyStr, Iterable
 from . import _quick as quick
 from ._calls import from_wide
 from ._errors import FaultError, LineError, NulError, QuoteError
-from ._library import BAD_LINE, FAULTY, HAS_NUL, HAS_QUOTE, Call, LineFault, Room, address_of, library, views_of, written
+from ._library import BAD_LINE, FAULTY, HAS_NUL, HAS_QUOTE, Call, LineFault, Room, Views, address_of, library, written
 from ._strings import UNIX, WINDOWS, AnyOsName, OsName, done, index_in, only_list, read, read_all, read_valid, returned, said
 
 
@@ -135,11 +135,10 @@ def shell_join(names: Iterable[OsName[AnyStr]]) -> AnyStr:
     if quoted is not NotImplemented:
         return quoted
     words, errors = read_all(names, UNIX)
-    views = views_of(words)
+    views = Views(words)
     call: Call = library.osb_shell_join
-    at = views.buffer_info()[0] if words else None
     status, room = written(
-        lambda room: call(at, len(words), room.out_at, room.size, room.count_at, room.which_at, room.index_at),
+        lambda room: call(views.at, views.count, room.out_at, room.size, room.count_at, room.which_at, room.index_at),
         sum(4 * len(word) + 4 for word in words),
     )
     if status == HAS_NUL:
@@ -232,12 +231,12 @@ def windows_command_line(program: OsName[AnyStr], arguments: Iterable[OsName[Any
     if made is not NotImplemented:
         return made
     words, errors = read_all(names, WINDOWS)
-    views = views_of(words)
+    views = Views(words)
     call: Call = library.osb_windows_command_line
     status, room = written(
         lambda room: call(
-            views.buffer_info()[0],
-            len(words),
+            views.at,
+            views.count,
             room.out_at,
             room.size // 2,
             room.count_at,

@@ -7,7 +7,7 @@ from enum import IntEnum
 from typing import Any, AnyStr, Generic, Iterable, Iterator
 
 from ._errors import MissingValueError, UnexpectedValueError
-from ._library import ENDED, NONE, UNEXPECTED, Call, OptionRead, OptionsState, View, library, views_of
+from ._library import ENDED, NONE, UNEXPECTED, Call, OptionRead, OptionsState, View, Views, library
 from ._strings import UNIX, OsName, OsString, Platform, as_platform, done, read_all, returned, said
 
 
@@ -80,10 +80,9 @@ class Options(Iterator[Option[AnyStr]]):
 
     def __init__(self, words: Iterable[OsName[AnyStr]], platform: Platform = UNIX, *, numbers: bool = False) -> None:
         self._words, self._errors = read_all(words, as_platform(platform))
-        self._views = views_of(self._words)
+        self._views = Views(self._words)
         self._state = OptionsState()
-        at = self._views.buffer_info()[0] if self._words else None
-        done(library.osb_options_start(addressof(self._state), at, len(self._words), bool(numbers)))
+        done(library.osb_options_start(addressof(self._state), self._views.at, self._views.count, bool(numbers)))
 
     def __copy__(self) -> Options[AnyStr]:
         other: Options[AnyStr] = object.__new__(type(self))

@@ -156,6 +156,7 @@ DOCUMENTS = {
     "c/GUIDE.md": "share/doc/osbytes/GUIDE.md",
     "c/examples/names.c": "share/doc/osbytes/names.c",
     "c/examples/below.c": "share/doc/osbytes/below.c",
+    "c/examples/matching.c": "share/doc/osbytes/matching.c",
     "c/examples/outside.c": "share/doc/osbytes/outside.c",
     "c/examples/outside.cc": "share/doc/osbytes/outside.cc",
     "c/examples/outside.go": "share/doc/osbytes/outside.go",

@@ -13,7 +13,6 @@ pub mod places;
 pub mod sets;
 
 use crate::built::write_list;
-use crate::item_list::first_item;
 use crate::on_platform::on_platform;
 use crate::status::{FAULTY, NO_MEMORY, NO_OPTION, NO_PATTERN};
 use glob_patterns::{FaultKind, GlobOptions, GlobSet, GlobSetError, Separators};
@@ -172,22 +171,20 @@ pub(crate) fn made_on<E: Platform>(
 /// The strings that the items of a list are.
 fn strings_of<'a, E: Platform>(
     alloc: Global,
-    list: &[&'a [u8]],
+    list: &'a [&'a [u8]],
 ) -> Result<Vec<OsStr<'a, E>>, Refusal>
     ensures { MatchResult result (λ strings. AreItems list.now (map bytes strings.items)
         × AllByRecursion E.well_formed (map bytes strings.items))
         (λ refusal. IsListRefusal E.well_formed list.now refusal) }
 {
     let mut strings = Vec::new(alloc);
-    let mut left = list;
-    while let Some((item, rest)) = first_item(left) {
+    for item in list {
         let Ok(string) = OsStr::<E>::checked(item) else {
             return Err(Refusal::Faulty);
         };
         let Ok(()) = strings.push(string) else {
             return Err(Refusal::Memory);
         };
-        left = rest;
     }
     Ok(strings)
 }
@@ -204,15 +201,13 @@ pub(crate) fn told_of<E: Platform>(
         (λ refusal. IsListRefusal E.well_formed paths.now refusal) }
 {
     let mut answers = Vec::new(alloc);
-    let mut left = paths;
-    while let Some((item, rest)) = first_item(left) {
+    for item in paths {
         let Ok(path) = OsStr::<E>::checked(item) else {
             return Err(Refusal::Faulty);
         };
         let Ok(()) = answers.push(answer_of(set, path)) else {
             return Err(Refusal::Memory);
         };
-        left = rest;
     }
     Ok(answers)
 }

@@ -9,7 +9,6 @@ ghost use Rattle.osbytes_c.specs.Ignores.{AreToldIn, IsIgnoreTold, PushesTold, T
 pub mod places;
 pub mod sets;
 
-use crate::item_list::first_item;
 use crate::status::{NO_MEMORY, fits};
 use os_ignore::{Ignore, Verdict};
 use std::alloc::Global;
@@ -52,11 +51,9 @@ fn tell(ignore: &Ignore, paths: &[&[u8]], flags: &[u8], out: &mut [Told]) -> usi
     ensures { AreToldIn (files_of ignore.now) flags.now paths.now out.old out.new result }
 {
     let mut count = 0;
-    let mut left = paths;
-    while let Some((path, rest)) = first_item(left) {
+    for path in paths {
         let told = told_of(ignore.matched(path, flag_at(flags, count)));
         count = push(out, count, told);
-        left = rest;
     }
     count
 }

@@ -22,7 +22,6 @@
 mod built;
 pub mod globs;
 pub mod ignores;
-mod item_list;
 pub mod laws;
 pub mod lines;
 mod on_platform;

@@ -1,33 +1,36 @@
 -- Items of a list, one after the other.
-use Rattle.std.proofs.Common.{◌≡◌, ℕ, List, [], ◌∷◌, ◌++◌, refl, sym, ap, ◌∙◌, subst}
+use Rattle.std.proofs.Common.{◌≡◌, ◌<◌, ◌+◌, ℕ, zero, suc, List, Bor, [], ◌∷◌, ◌++◌, length, map, take, get_or, sym, ap, ◌∙◌, subst, arith}
+use Rattle.std.proofs.lemmas.List.{take_more, map-append}
+use Rattle.std.specs.Prelude.{slice_get, IsSomeAnd}
 use Rattle.std.specs.List.{AllByRecursion}
-use Rattle.osbytes_c.specs.ItemLists.{Views, items_of, IsFirstItem, AreFirstItems, AreItems, HasOther}
-
-behind : (items : List (List ℕ)) (item : List ℕ) (rest : List (List ℕ)) → items ++ item ∷ rest ≡ (items ++ item ∷ []) ++ rest
-behind [] item rest = refl
-behind (first ∷ items) item rest = ap (λ l. first ∷ l) (behind items item rest)
+use Rattle.osbytes_c.specs.ItemLists.{Views, items_of, AreItems, HasOther}
 
 -- one more item
-pub one_more_item : (list : Views) (items : List (List ℕ)) (from : Views) (item : List ℕ) (rest : Views) → AreFirstItems list items from → IsFirstItem from item rest
-    → AreFirstItems list (items ++ item ∷ []) rest
-one_more_item list items from item rest are is = are ∙ (ap (λ l. items ++ l) is ∙ behind items item (items_of rest))
+pub one_more_item : (views : Views) (i : ℕ) (d : Bor (List ℕ)) (items : List (List ℕ)) → items ≡ items_of (take i views) → i < length views
+    → items ++ (get_or views i d).now ∷ [] ≡ items_of (take (i + 1) views)
+one_more_item views i d items are within =
+    ap (λ l. l ++ (get_or views i d).now ∷ []) are
+    ∙ (sym (map-append (λ (v : Bor (List ℕ)). v.now) (take i views) (get_or views i d ∷ [])) ∙ ap items_of (sym (take_more views i d within)))
 
 -- one more that is so
 pub each_more : (Is : List ℕ → Type 0) (items : List (List ℕ)) (item : List ℕ) → AllByRecursion Is items → Is item → AllByRecursion Is (items ++ item ∷ [])
 each_more Is [] item all is = (is, tt)
 each_more Is (first ∷ items) item all is = (all.0, each_more Is items item all.1 is)
 
--- where each item is so, the one behind the first ones is
-one_of_all : (Is : List ℕ → Type 0) (before : List (List ℕ)) (item : List ℕ) (after : List (List ℕ)) → AllByRecursion Is (before ++ item ∷ after) → Is item
-one_of_all Is [] item after all = all.0
-one_of_all Is (first ∷ before) item after all = one_of_all Is before item after all.1
+-- where each item is so, that with an index is
+not_other : (Is : List ℕ → Type 0) (views : Views) (i : ℕ) → AllByRecursion Is (items_of views) → IsSomeAnd (slice_get views i) (λ v. ¬ (Is v.now)) → ⊥
+not_other Is [] i all other = other
+not_other Is (view ∷ views) zero all other = other all.0
+not_other Is (view ∷ views) (suc i) all other = not_other Is views i all.1 other
 
-all_items : (items : List (List ℕ)) → items ++ [] ≡ items
-all_items [] = refl
-all_items (first ∷ items) = ap (λ l. first ∷ l) (all_items items)
+pub has_no_other : (Is : List ℕ → Type 0) (views : Views) (items : List (List ℕ)) → AreItems views items → AllByRecursion Is items → ¬ (HasOther Is views)
+has_no_other Is views items are all h = not_other Is views h.which (subst (AllByRecursion Is) are all) h.other
 
--- where each item is so, none is another
-pub has_no_other : (Is : List ℕ → Type 0) (list : Views) (items : List (List ℕ)) → AreItems list items → AllByRecursion Is items → ¬ (HasOther Is list)
-has_no_other Is list items are all h =
-    let same = sym (are ∙ all_items items) ∙ (h.are ∙ ap (λ l. h.before ++ l) h.is) in
-    h.other (one_of_all Is h.before h.item (items_of h.after) (subst (AllByRecursion Is) same all))
+-- where that with an index isn't so, one is another
+found : (Is : List ℕ → Type 0) (views : Views) (i : ℕ) (d : Bor (List ℕ)) → i < length views → ¬ (Is (get_or views i d).now) → IsSomeAnd (slice_get views i) (λ v. ¬ (Is v.now))
+found Is [] i d within other = omega (arith, within)
+found Is (view ∷ views) zero d within other = other
+found Is (view ∷ views) (suc i) d within other = found Is views i d (omega (arith, within)) other
+
+pub other_at : (Is : List ℕ → Type 0) (views : Views) (i : ℕ) (d : Bor (List ℕ)) → i < length views → ¬ (Is (get_or views i d).now) → HasOther Is views
+other_at Is views i d within other = record { which = i; other = found Is views i d within other }

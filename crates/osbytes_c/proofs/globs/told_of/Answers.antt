@@ -1,23 +1,30 @@
-use Rattle.std.proofs.Common.{[], ◌∷◌, ◌++◌, sym, subst}
+use Rattle.std.proofs.Common.{[], ◌∷◌, ◌++◌, get_or, sym, subst}
 use Rattle.osbytes_c.specs.Globs.{AreTold, IsMatched, IsTold}
 use Rattle.osbytes_c.proofs.lemmas.Globs.{one_more_told}
-use Rattle.osbytes_c.proofs.lemmas.ItemLists.{each_more, one_more_item}
+use Rattle.osbytes_c.proofs.lemmas.ItemLists.{each_more, one_more_item, other_at}
 use Rattle.osbytes_c.proofs.globs.told_of.Goals as goal
 
 pub loop-item-preserved : goal.loop-item-preserved
 loop-item-preserved g c =
     let inv = c.loop-item.invariant in
-    let item = c.in-Some.item.now in
+    let paths = c.args.paths.now in
+    let i = c.loop-item.item-index in
+    let item = (get_or paths i (record { ref_ptr = (0, 0); now = [] })).now in
     let set = c.args.set.now.set in
     let is = IsMatched g.E.Platform.units set.options set.patterns.items in
     let answer = c.answer_of.result in
     let told = subst (λ b. IsTold (is b) answer) c.in-Ok.ensures.bytes c.answer_of.ensures in (
       inv.0 ++ item ∷ [],
       (
-        one_more_item c.args.paths.now inv.0 c.loop-item.left.now item c.in-Some.rest.now inv.1.0 c.in-Some.ensures.first,
+        one_more_item paths i (record { ref_ptr = (0, 0); now = [] }) inv.0 inv.1.0 c.loop-item-test.true,
         (
           each_more g.E.Platform.well_formed inv.0 item inv.1.1.0 c.in-Ok.ensures.cases,
           subst (AreTold is (inv.0 ++ item ∷ [])) (sym c.in-Ok-push.ensures.items) (one_more_told is inv.0 c.loop-item.answers.items item answer inv.1.1.1 told),
         ),
       ),
     )
+
+pub returns-in_default : goal.returns-in_default
+returns-in_default g c =
+    other_at g.E.Platform.well_formed c.args.paths.now c.loop-item.item-index (record { ref_ptr = (0, 0); now = [] }) c.loop-item-test.true
+    (g.met.E.Platform.laws.faulty _ _ c.in_default.ensures.cases)

@@ -1,4 +1,4 @@
-use Rattle.std.proofs.Common.{[], ◌∷◌, ◌++◌, arith, length-append}
+use Rattle.std.proofs.Common.{[], ◌∷◌, ◌++◌, get_or, arith, length-append}
 use Rattle.os_ignore.specs.Ignores.{files_of}
 use Rattle.osbytes_c.specs.Ignores.{IsPathTold}
 use Rattle.osbytes_c.proofs.lemmas.Ignores.{one_more_path}
@@ -10,7 +10,9 @@ loop-path-preserved c =
     let inv = c.loop-path.invariant in
     let names = inv.0 in
     let told = inv.1.0 in
-    let path = c.in-Some.path.now in
+    let paths = c.args.paths.now in
+    let i = c.loop-path.path-index in
+    let path = (get_or paths i (record { ref_ptr = (0, 0); now = [] })).now in
     let one = c.told_of-told.result in
     let flags = c.args.flags.now in
     let count = c.loop-path.count in
@@ -26,15 +28,12 @@ loop-path-preserved c =
       (
         told ++ one ∷ [],
         (
-          one_more_item c.args.paths.now names c.loop-path.left.now path c.in-Some.rest.now inv.1.1.0 c.in-Some.ensures.first,
+          one_more_item paths i (record { ref_ptr = (0, 0); now = [] }) names inv.1.1.0 c.loop-path-test.true,
           (
             one_more_path (files_of c.args.ignore.now) flags 0 count names told path one inv.1.1.1.0 (omega (arith, inv.1.1.1.1.1.0)) is,
             (
               c.push-count.ensures.pushes told c.args.out.now inv.1.1.1.1.0,
-              (
-                omega (arith, c.push-count.ensures.count, inv.1.1.1.1.1.0, more),
-                omega (arith, c.push-count.ensures.count, inv.1.1.1.1.1.1, c.in-Some.ensures.shorter),
-              ),
+              (omega (arith, c.push-count.ensures.count, inv.1.1.1.1.1.0, more), omega (arith, c.push-count.ensures.count, inv.1.1.1.1.1.1)),
             ),
           ),
         ),
