@@ -9,7 +9,6 @@ pub mod CharsetSymbols
 pub mod Fish
 pub mod FishOneReading
 pub mod Lists
-pub mod Writing
 pub mod PowerShell
 pub mod ShellBare
 pub mod ShellDollar
@@ -28,6 +27,7 @@ pub mod ShellParts
 pub mod ShellRoundTrip
 pub mod ShellScan
 pub mod ShellWritten
+pub mod Taking
 pub mod WindowsBatch
 pub mod WindowsOneReading
 pub mod WindowsOwnText

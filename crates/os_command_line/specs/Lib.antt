@@ -1,7 +1,9 @@
+pub mod BufferSink
 pub mod Charset
 pub mod ErrorText
 pub mod Fish
 pub mod PowerShell
+pub mod PrinterSink
 pub mod ReservedWords
 pub mod Shell
 pub mod ShellCharacters
@@ -10,6 +12,7 @@ pub mod ShellReader
 pub mod ShellSteps
 pub mod ShellViews
 pub mod ShellWriting
+pub mod Sinks
 pub mod Windows
 pub mod WindowsBatch
 pub mod WindowsParts

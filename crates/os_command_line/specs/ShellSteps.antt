@@ -1,11 +1,14 @@
 -- Parts of words, read or written. Only private contracts name these.
-use Rattle.std.specs.Prelude.{◌≡◌, ℕ, ◌≤◌, Bool, true, false, Result, List, [], ◌∷◌, ◌++◌, length}
+use Rattle.std.specs.Prelude.{◌≡◌, ℕ, ◌≤◌, nat_lt, Bool, true, false, Result, List, [], ◌∷◌, ◌++◌, length}
 use Rattle.os_str_ext.specs.Symbols.{symbols_of}
 use Rattle.platform_str.specs.PlatformWords.{itself}
 use Rattle.os_command_line.specs.declared.shell.form.Form.{Form}
 use Rattle.os_command_line.specs.declared.shell.form.Form.TheVariants.{Bare, Single, Dollar}
 use Rattle.os_command_line.specs.declared.shell.language.Language.{Language}
 use Rattle.os_command_line.specs.declared.shell.fault.WordsFault.{WordsFault}
+use Rattle.std.specs.List.{AllByRecursion}
+use Rattle.std.specs.Str.{is_utf8}
+use Rattle.os_command_line.specs.Fish.{is_escaped}
 use Rattle.os_command_line.specs.Shell.{single_quote, HasNoQuote, Ends}
 use Rattle.os_command_line.specs.ShellReader.{is_itself, items_of}
 use Rattle.os_command_line.specs.ShellWriting.{is_plain_name, single_quoted, dollar_quoted, IsLineText}
@@ -34,16 +37,37 @@ is_bare_form Bare = true
 is_bare_form Single = false
 is_bare_form Dollar = false
 
--- a name that is written as it is needs no quotes
-abbrev pub IsPlainIfBare : List ℕ → Form → Type 0
-IsPlainIfBare name Bare = is_plain_name name ≡ true
-IsPlainIfBare name Single = Unit {0}
-IsPlainIfBare name Dollar = Unit {0}
+-- a sink accepts what of a name it is given unchanged: all of it, but in dollar-single-quotes
+abbrev pub AcceptsForm : (List ℕ → Type 0) → Form → List ℕ → Type 0
+AcceptsForm accepts Bare name = accepts name
+AcceptsForm accepts Single name = accepts name
+AcceptsForm accepts Dollar name = Unit {0}
+
+-- whether the word of a name in a form is text
+abbrev pub prints_text : Form → List ℕ → Bool
+prints_text Bare name = is_utf8 name
+prints_text Single name = is_utf8 name
+prints_text Dollar name = true
 
 -- the bytes are cut around their first single quote
 pub record IsCutAtQuote (bytes prefix after : List ℕ) : Type 0 where
   pub none_before : HasNoQuote prefix
   pub joined : bytes ≡ prefix ++ single_quote ∷ after
+
+-- bytes that no backslash escapes in fish's single quotes
+abbrev pub AreShown : List ℕ → Type 0
+AreShown bytes = AllByRecursion (λ b. is_escaped b ≡ false) bytes
+
+-- the bytes are cut around their first single quote or backslash
+pub record IsCutAtEscaped (bytes prefix : List ℕ) (b : ℕ) (after : List ℕ) : Type 0 where
+  pub shown_before : AreShown prefix
+  pub escaped : is_escaped b ≡ true
+  pub joined : bytes ≡ prefix ++ b ∷ after
+
+-- whether the last byte is one from 80 (hexadecimal) on, if there is one
+abbrev pub ends_high : Bool → List ℕ → Bool
+ends_high high [] = high
+ends_high high (b ∷ bs) = ends_high (nat_lt 0x7F b) bs
 
 -- the rest of a line of `len` bytes has no items
 abbrev pub HasNoItem : Language → ℕ → List ℕ → Type 0

@@ -1,17 +1,13 @@
 -- What contracts say of words and of names that are printed as words.
 use Rattle.std.specs.Prelude.{ℕ, Bool, true, false, Result, Ok, Err, List}
-use Rattle.os_str_ext.specs.Symbols.{symbols_of}
-use Rattle.platform_str.specs.PlatformWords.{itself}
 use Rattle.platform_str.specs.Strings.{bytes}
 use Rattle.os_command_line.specs.declared.shell.fault.WordsFault.{WordsFault}
 use Rattle.os_command_line.specs.declared.shell.language.Specials.{Specials}
 use Rattle.os_command_line.specs.declared.shell.language.Specials.TheVariants.{Refused, Kept}
 use Rattle.os_command_line.specs.declared.shell.display.Quoted.{Quoted}
-use Rattle.os_command_line.specs.declared.shell.display.Shown.{Shown}
-use Rattle.os_command_line.specs.declared.shell.display.Shown.TheVariants.{Bare, Single, Dollar}
 use Rattle.os_command_line.specs.declared.shell.word.Word.{Word}
 use Rattle.os_command_line.specs.ShellReader.{raw_bytes}
-use Rattle.os_command_line.specs.ShellWriting.{single_quoted, dollar_quoted}
+use Rattle.os_command_line.specs.ShellSteps.{form_text}
 
 -- whether special characters are refused
 abbrev pub is_refused : Specials → Bool
@@ -28,10 +24,5 @@ item_bytes (Ok word) = Ok (word_bytes word)
 item_bytes (Err fault) = Err fault
 
 -- the text that is printed
-abbrev pub shown_text : Shown → List ℕ
-shown_text (Bare text) = text.now
-shown_text (Single text) = single_quoted text.now
-shown_text (Dollar name) = dollar_quoted (symbols_of itself (bytes name))
-
 abbrev pub quoted_text : Quoted → List ℕ
-quoted_text q = shown_text q.shown
+quoted_text q = form_text q.form (bytes q.name)

@@ -17,12 +17,13 @@ mod powershell;
 mod quoting;
 mod reserved;
 mod scan;
+mod sink;
 mod step;
 mod word;
 mod word_bytes;
 mod words;
 mod write_buffer;
-mod write_formatted;
+mod write_word;
 
 pub use display::Quoted;
 pub use error::{NulError, ShellError};

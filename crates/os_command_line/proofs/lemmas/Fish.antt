@@ -1,15 +1,13 @@
 -- Names as words of fish are read as these names, in each charset that keeps the bytes on which quotes depend.
-use Rattle.std.proofs.Common.{◌≡◌, ◌≢◌, ℕ, ◌+◌, ◌*◌, ◌<◌, ◌≤◌, Bool, true, false, ◌||◌, if◌then◌else◌, eqb, ltb, List, [], ◌∷◌, ◌++◌, length, refl, sym, ap, ◌∙◌, subst, arith, append_assoc, append-nil, inl, inr}
-use Rattle.std.specs.Char.{encode_utf8}
+use Rattle.std.proofs.Common.{◌≡◌, ◌≢◌, ◌⊎◌, ℕ, ◌+◌, ◌*◌, ◌<◌, ◌≤◌, Bool, true, false, ◌||◌, if◌then◌else◌, eqb, ltb, List, [], ◌∷◌, ◌++◌, length, refl, sym, ap, ◌∙◌, subst, arith, append_assoc, append-nil, length-append, inl, inr}
 use Rattle.std.specs.List.{AllByRecursion}
 use Rattle.std.proofs.lemmas.Bool.{and_parts, cases_Bool, eqb-true, ne_eqb, true≢false}
 use Rattle.std.proofs.lemmas.Bool.Decides.{nat_tests}
-use Rattle.std.proofs.lemmas.Str.{encode_ascii}
 use Rattle.os_command_line.specs.Charset.{joined, AreCharacters, is_one, is_byte}
 use Rattle.os_command_line.specs.Fish.{is_escaped, is_gap, EndsWord, EndsBefore, ReadsWord, IsFishText, fish_byte, fish_bytes, fish_quoted, fish_word}
 use Rattle.os_command_line.specs.Fish.ReadsWord.{ends, bare, bare_escaped, opens, closes, escaped, itself}
+use Rattle.os_command_line.specs.ShellSteps.{IsCutAtEscaped, ends_high, AreShown as ShownBytes}
 use Rattle.os_command_line.specs.ShellWriting.{is_plain, are_plain, is_plain_name}
-use Rattle.os_command_line.proofs.lemmas.CharacterForms.{AreWide, text_form, each_of}
 use Rattle.os_command_line.proofs.lemmas.CharsetCuts.{Parts, split, last, last_joined}
 use Rattle.os_command_line.proofs.lemmas.CharsetQuotes.{HasNo, no_character, none_joined, first_is, at_quote}
 use Rattle.os_command_line.proofs.lemmas.Lists.{all_joined, no_cons}
@@ -62,7 +60,7 @@ again high b e h = rw (e, h) refl
 as_it_is : (high : Bool) (b : ℕ) → is_escaped b ≡ false → fish_byte high b ≡ b ∷ []
 as_it_is high b e = rw e refl
 
-escaped_low : (b : ℕ) → is_escaped b ≡ true → b < 0x80
+pub escaped_low : (b : ℕ) → is_escaped b ≡ true → b < 0x80
 escaped_low b e = grind (arith, nat_tests)
 
 not_high : (b : ℕ) → ltb 0x7F b ≡ false → b < 0x80
@@ -145,73 +143,56 @@ is_fish_text name = by_name (is_plain_name name) name refl
 
 -- ---- how it is written
 
--- what comes after the first single quote, after a byte from 80 on or not
-abbrev pub inner_text : Bool → List ℕ → List ℕ
-inner_text high name = fish_bytes high name ++ 0x27 ∷ []
-
 word_by : (b : Bool) (name : List ℕ) → is_plain_name name ≡ b → fish_word name ≡ (if b then name else fish_quoted name)
 word_by b name e = ap (λ x. if x then name else fish_quoted name) e
 
 pub bare_word : (name : List ℕ) → is_plain_name name ≡ true → fish_word name ≡ name
 bare_word name e = word_by true name e
 
-pub no_byte : (high : Bool) (text : List ℕ) → text ≡ [] → inner_text high text ≡ 0x27 ∷ []
-no_byte high text e = ap (inner_text high) e
+pub quoted_name : (name : List ℕ) → is_plain_name name ≡ false → fish_word name ≡ fish_quoted name
+quoted_name name e = word_by false name e
 
--- whether the last of these bytes is one from 80 on
-abbrev ends_high : Bool → List ℕ → Bool
-ends_high high [] = high
-ends_high high (b ∷ bs) = ends_high (ltb 0x7F b) bs
+-- what comes after the first single quote
+abbrev pub inner_text : List ℕ → List ℕ
+inner_text name = fish_bytes false name ++ 0x27 ∷ []
 
-bytes_append : (high : Bool) (a b : List ℕ) → fish_bytes high (a ++ b) ≡ fish_bytes high a ++ fish_bytes (ends_high high a) b
-bytes_append high [] b = refl
-bytes_append high (x ∷ a) b = ap (λ z. fish_byte high x ++ z) (bytes_append (ltb 0x7F x) a b) ∙ sym (append_assoc (fish_byte high x) (fish_bytes (ltb 0x7F x) a) (fish_bytes (ends_high (ltb 0x7F x) a) b))
+shown_bytes : (high : Bool) (a b : List ℕ) → ShownBytes a → fish_bytes high (a ++ b) ≡ a ++ fish_bytes (ends_high high a) b
+shown_bytes high [] b h = refl
+shown_bytes high (x ∷ a) b h = ap (λ z. z ++ fish_bytes (ltb 0x7F x) (a ++ b)) (as_it_is high x h.0) ∙ ap (λ z. x ∷ z) (shown_bytes (ltb 0x7F x) a b h.1)
 
-past : (b : ℕ) → 0x80 ≤ b → ltb 0x7F b ≡ true
-past b h = grind (arith, nat_tests)
+pub shown_text : (name : List ℕ) → ShownBytes name → inner_text name ≡ name ++ 0x27 ∷ []
+shown_text name h = ap (λ z. z ++ 0x27 ∷ []) (ap (fish_bytes false) (sym (append-nil name)) ∙ shown_bytes false name [] h ∙ append-nil name)
 
-wide_high : (high : Bool) (xs : List ℕ) → AllByRecursion (λ y. 0x80 ≤ y) xs → high ≡ true → ends_high high xs ≡ true
-wide_high high [] h e = e
-wide_high high (x ∷ xs) h e = wide_high (ltb 0x7F x) xs h.1 (past x h.0)
+pub cut_text : (name prefix after : List ℕ) (b : ℕ) → IsCutAtEscaped name prefix b after → inner_text name ≡ prefix ++ (fish_byte (ends_high false prefix) b ++ inner_text after)
+cut_text name prefix after b k =
+    let high = ends_high false prefix in
+    let next = ap (λ z. fish_byte high b ++ fish_bytes z after) (low b (escaped_low b k.escaped)) in
+    ap (λ z. z ++ 0x27 ∷ []) (ap (fish_bytes false) k.joined ∙ shown_bytes false prefix (b ∷ after) k.shown_before ∙ ap (λ z. prefix ++ z) next)
+    ∙ append_assoc prefix (fish_byte high b ++ fish_bytes false after) (0x27 ∷ [])
+    ∙ ap (λ z. prefix ++ z) (append_assoc (fish_byte high b) (fish_bytes false after) (0x27 ∷ []))
 
-some_wide : (high : Bool) (xs : List ℕ) → AreWide xs → ends_high high xs ≡ true
-some_wide high [] h = absurd h
-some_wide high (x ∷ xs) h = wide_high (ltb 0x7F x) xs h.1 (past x h.0)
+pub cut_shorter : (name prefix after : List ℕ) (b : ℕ) → IsCutAtEscaped name prefix b after → length after < length name
+cut_shorter name prefix after b k = omega (arith, ap length k.joined, length-append prefix (b ∷ after))
 
-character_high : (high : Bool) (c : ℕ) → ends_high high (encode_utf8 c) ≡ ltb 0x7F c
-character_high high c = elim (cases_Bool (ltb 0x7F c)) [
-  | inl e ↦ some_wide high (encode_utf8 c) (text_form.wide c (is_past e)) ∙ sym e
-  | inr e ↦ ap (ends_high high) (encode_ascii c (not_high c e))
-]
+last_decides : (high : Bool) (xs : List ℕ) (x : ℕ) → ends_high high (xs ++ x ∷ []) ≡ ltb 0x7F x
+last_decides high [] x = refl
+last_decides high (y ∷ xs) x = last_decides (ltb 0x7F y) xs x
+
+pub last_high : (bytes before : List ℕ) (last : ℕ) → bytes ≡ before ++ last ∷ [] → ends_high false bytes ≡ ltb 0x7F last
+last_high bytes before last e = ap (ends_high false) e ∙ last_decides false before last
+
+pub escaped_quote : (high : Bool) (b : ℕ) → b ≡ 0x27 → fish_byte high b ≡ (if high then 0x27 ∷ 0x5C ∷ 0x27 ∷ 0x27 ∷ [] else 0x5C ∷ 0x27 ∷ [])
+escaped_quote high b e = ap (fish_byte high) e
+
+pub escaped_backslash : (high : Bool) (b : ℕ) → is_escaped b ≡ true → b ≢ 0x27 → fish_byte high b ≡ (if high then 0x27 ∷ 0x5C ∷ 0x5C ∷ 0x27 ∷ [] else 0x5C ∷ 0x5C ∷ [])
+escaped_backslash high b e n = ap (fish_byte high) (is_backslash (or_true (eqb b 0x27) (eqb b 0x5C) e))
   where
-    is_past : ltb 0x7F c ≡ true → 0x80 ≤ c
-    is_past e = grind (arith, nat_tests)
-
-pub one_character : (high : Bool) (text following : List ℕ) (c : ℕ) → text ≡ encode_utf8 c ++ following → inner_text high text ≡ fish_bytes high (encode_utf8 c) ++ inner_text (ltb 0x7F c) following
-one_character high text following c e =
-    ap (inner_text high) e
-    ∙ ap (λ z. z ++ 0x27 ∷ []) (bytes_append high (encode_utf8 c) following)
-    ∙ append_assoc (fish_bytes high (encode_utf8 c)) (fish_bytes (ends_high high (encode_utf8 c)) following) (0x27 ∷ [])
-    ∙ ap (λ z. fish_bytes high (encode_utf8 c) ++ inner_text z following) (character_high high c)
-
-all_themselves : (high : Bool) (xs : List ℕ) → AllByRecursion (λ x. is_escaped x ≡ false) xs → fish_bytes high xs ≡ xs
-all_themselves high [] h = refl
-all_themselves high (x ∷ xs) h = ap (λ z. z ++ fish_bytes (ltb 0x7F x) xs) (as_it_is high x h.0) ∙ ap (λ z. x ∷ z) (all_themselves (ltb 0x7F x) xs h.1)
-
-not_escaped : (b : ℕ) → b ≢ 0x27 → b ≢ 0x5C → is_escaped b ≡ false
-not_escaped b m n = rw (ne_eqb b 0x27 m) (rw (ne_eqb b 0x5C n) refl)
-
-pub plain_character : (high : Bool) (c : ℕ) → c ≢ 0x27 → c ≢ 0x5C → fish_bytes high (encode_utf8 c) ≡ encode_utf8 c
-plain_character high c m n = all_themselves high (encode_utf8 c) (each_of (λ b. is_escaped b ≡ false) (λ b h. not_escaped b (λ e. omega (arith, e, h)) (λ e. omega (arith, e, h))) encode_utf8 text_form c (not_escaped c m n))
-
-pub escaped_quote : (high : Bool) (c : ℕ) → c ≡ 0x27 → fish_bytes high (encode_utf8 c) ≡ (if high then 0x27 ∷ 0x5C ∷ 0x27 ∷ 0x27 ∷ [] else 0x5C ∷ 0x27 ∷ [])
-escaped_quote high c e = ap (λ z. fish_bytes high (encode_utf8 z)) e ∙ ap (fish_bytes high) (encode_ascii 0x27 (omega arith)) ∙ append-nil _
-
-pub escaped_backslash : (high : Bool) (c : ℕ) → c ≡ 0x5C → fish_bytes high (encode_utf8 c) ≡ (if high then 0x27 ∷ 0x5C ∷ 0x5C ∷ 0x27 ∷ [] else 0x5C ∷ 0x5C ∷ [])
-escaped_backslash high c e = ap (λ z. fish_bytes high (encode_utf8 z)) e ∙ ap (fish_bytes high) (encode_ascii 0x5C (omega arith)) ∙ append-nil _
+    is_backslash : (eqb b 0x27 ≡ true) ⊎ (eqb b 0x5C ≡ true) → b ≡ 0x5C
+    is_backslash (inl q) = absurd (n (eqb-true b 0x27 q))
+    is_backslash (inr q) = eqb-true b 0x5C q
 
 -- a byte is written in at most four, of which one needs another before it
-pub byte_room : (high : Bool) (b : ℕ) → length (fish_byte high b) + (if ltb 0x7F b then 2 else 0) ≤ 3 + (if high then 2 else 0)
+byte_room : (high : Bool) (b : ℕ) → length (fish_byte high b) + (if ltb 0x7F b then 2 else 0) ≤ 3 + (if high then 2 else 0)
 byte_room high b = elim (cases_Bool (is_escaped b)) [
   | inl e ↦ elim (cases_Bool high) [
     | inl h ↦ rw (low b (escaped_low b e), again high b e h, h) (omega arith)
@@ -223,3 +204,15 @@ byte_room high b = elim (cases_Bool (is_escaped b)) [
     room : (x : Bool) (n : ℕ) → 1 + (if x then 2 else 0) ≤ 3 + n
     room true n = omega arith
     room false n = omega arith
+
+bytes_room : (high : Bool) (name : List ℕ) → length (fish_bytes high name) ≤ 3 * length name + (if high then 2 else 0)
+bytes_room high [] = omega arith
+bytes_room high (b ∷ bs) = omega (arith, byte_room high b, bytes_room (ltb 0x7F b) bs, length-append (fish_byte high b) (fish_bytes (ltb 0x7F b) bs))
+
+word_room : (b : Bool) (name : List ℕ) → length (if b then name else fish_quoted name) ≤ 3 * length name + 2
+word_room true name = omega arith
+word_room false name = omega (arith, bytes_room false name, length-append (fish_bytes false name) (0x27 ∷ []))
+
+-- a word is at most this long
+pub word_len : (name : List ℕ) → length (fish_word name) ≤ 3 * length name + 2
+word_len name = word_room (is_plain_name name) name

@@ -1,6 +1,8 @@
 -- Lists, and elements that all have a property.
-use Rattle.std.proofs.Common.{◌≡◌, ℕ, List, [], ◌∷◌, ◌++◌, refl, ap, ◌∙◌}
+use Rattle.std.proofs.Common.{◌≡◌, ℕ, zero, suc, ◌<◌, arith, slice_index, List, [], ◌∷◌, ◌++◌, refl, ap, ◌∙◌}
 use Rattle.std.specs.List.{AllByRecursion, flat_map}
+use Rattle.std.specs.Str.{IsUtf8}
+use Rattle.std.proofs.lemmas.Str.{IsUtf8-from_ascii}
 
 pub no_cons : {x : ℕ} {xs : List ℕ} → x ∷ xs ≡ [] → ⊥
 no_cons e = cc
@@ -21,3 +23,12 @@ module _ {A : Type 0} (P : A → Type 0) where
 pub all_themselves : (f : ℕ → List ℕ) (xs : List ℕ) → AllByRecursion (λ x. f x ≡ x ∷ []) xs → flat_map f xs ≡ xs
 all_themselves f [] h = refl
 all_themselves f (x ∷ xs) h = ap (λ z. z ++ flat_map f xs) h.0 ∙ ap (λ z. x ∷ z) (all_themselves f xs h.1)
+
+ascii_at : (bytes : List ℕ) → AllByRecursion (λ b. b < 0x80) bytes → (i : ℕ) → slice_index bytes i < 128
+ascii_at [] h i = omega arith
+ascii_at (b ∷ bytes) h zero = h.0
+ascii_at (b ∷ bytes) h (suc i) = ascii_at bytes h.1 i
+
+-- ASCII bytes are text
+pub ascii_text : (bytes : List ℕ) → AllByRecursion (λ b. b < 0x80) bytes → IsUtf8 bytes
+ascii_text bytes h = IsUtf8-from_ascii bytes (ascii_at bytes h)

@@ -1,12 +1,13 @@
 -- Names in single quotation marks are read by PowerShell as these names.
-use Rattle.std.proofs.Common.{◌≡◌, ◌≢◌, ℕ, ◌*◌, ◌<◌, ◌≤◌, Bool, true, false, if◌then◌else◌, Option, None, Some, MatchOption, List, [], ◌∷◌, ◌++◌, length, refl, sym, ap, ◌∙◌, subst, arith, append_assoc, length-append}
+use Rattle.std.proofs.Common.{◌≡◌, ◌≢◌, ℕ, ◌+◌, ◌*◌, ◌<◌, ◌≤◌, Bool, true, false, if◌then◌else◌, Option, None, Some, MatchOption, List, [], ◌∷◌, ◌++◌, length, refl, sym, ap, ◌∙◌, subst, arith, append_assoc, length-append}
 use Rattle.std.specs.List.{AllByRecursion, flat_map}
 use Rattle.std.specs.Char.{encode_utf8}
-use Rattle.std.specs.Str.{IsUtf8, chars}
-use Rattle.wtf8_core.specs.Truncated.{IsTruncated}
+use Rattle.std.specs.Str.{IsUtf8, all_scalars, chars, encode_utf8_all}
 use Rattle.memchr.specs.Find.{IsFirstByte, is_byte}
+use Rattle.std.proofs.lemmas.Bool.{and_parts}
 use Rattle.std.proofs.lemmas.Grind.{flat_map-append}
-use Rattle.std.proofs.lemmas.Str.{chars_past_char, chars-nil, encode_ascii, length-encode, len_utf8_bounds}
+use Rattle.std.proofs.lemmas.List.{append_cancel_left}
+use Rattle.std.proofs.lemmas.Str.{chars_past_char, chars-nil, encode_ascii, encodes-chars, scalars-chars}
 use Rattle.os_command_line.specs.PowerShell.{HasNulAt, is_single_quote, StartsWithNoQuote, ReadsString, IsStringOf, IsPowerShellText, powershell_character, powershell_string}
 use Rattle.os_command_line.specs.PowerShell.ReadsString.{closes, doubled, itself}
 use Rattle.os_command_line.proofs.lemmas.ShellForms.{nul_found}
@@ -68,18 +69,30 @@ one_more text following c u e = ap (λ cs. flat_map powershell_character cs ++ 0
 pub no_more : (text : List ℕ) → text ≡ [] → inner_text text ≡ 0x27 ∷ []
 no_more text e = ap inner_text e ∙ ap (λ cs. flat_map powershell_character cs ++ 0x27 ∷ []) chars-nil
 
+pub quote_text : (c : ℕ) (encoded : List ℕ) → encoded ≡ encode_utf8 c → is_single_quote c ≡ true → powershell_character c ≡ encoded ++ encoded
+quote_text c encoded e is = ap (λ b. if b then encode_utf8 c ++ encode_utf8 c else encode_utf8 c) is ∙ ap (λ x. x ++ x) (sym e)
+
+pub other_text : (c : ℕ) (encoded : List ℕ) → encoded ≡ encode_utf8 c → is_single_quote c ≡ false → powershell_character c ≡ encoded
+other_text c encoded e is = ap (λ b. if b then encode_utf8 c ++ encode_utf8 c else encode_utf8 c) is ∙ sym e
+
 short_character : (b : Bool) (c : ℕ) → length (if b then encode_utf8 c ++ encode_utf8 c else encode_utf8 c) ≤ 2 * length (encode_utf8 c)
 short_character true c = omega (arith, length-append (encode_utf8 c) (encode_utf8 c))
 short_character false c = omega arith
 
-pub character_fits : (c : ℕ) → length (powershell_character c) ≤ 2 * length (encode_utf8 c)
+character_fits : (c : ℕ) → length (powershell_character c) ≤ 2 * length (encode_utf8 c)
 character_fits c = short_character (is_single_quote c) c
 
--- a prefix of the text is in the buffer, and the rest is left
-pub record IsPushed (old new : List ℕ) (count : ℕ) (left all : List ℕ) : Type 0 where
-  pub done : List ℕ
-  pub joined : done ++ left ≡ all
-  pub in_buffer : IsTruncated done old new count
+characters_fit : (cs : List ℕ) → length (flat_map powershell_character cs) ≤ 2 * length (encode_utf8_all cs)
+characters_fit [] = omega arith
+characters_fit (c ∷ cs) = omega (arith, character_fits c, characters_fit cs, length-append (powershell_character c) (flat_map powershell_character cs), length-append (encode_utf8 c) (encode_utf8_all cs))
 
-pub shorter : (text following : List ℕ) (c : ℕ) → text ≡ encode_utf8 c ++ following → length following < length text
-shorter text following c e = omega (arith, ap length e, length-append (encode_utf8 c) following, length-encode c, (len_utf8_bounds c).0)
+-- a string is at most this long
+pub string_len : (text : List ℕ) → IsUtf8 text → length (powershell_string (chars text)) ≤ 2 * length text + 2
+string_len text u = omega (arith, characters_fit (chars text), ap length (encodes-chars text u), length-append (flat_map powershell_character (chars text)) (0x27 ∷ []))
+
+-- what follows a character of a text is text
+pub after_character : (text following : List ℕ) (c : ℕ) → IsUtf8 text → text ≡ encode_utf8 c ++ following → IsUtf8 following
+after_character text following c u e =
+    let cs = chars_past_char text following c u e in
+    let are_scalars = and_parts _ _ (sym (ap all_scalars cs) ∙ scalars-chars text u) in
+    (chars following, (are_scalars.1, append_cancel_left (encode_utf8 c) _ _ (sym (ap encode_utf8_all cs) ∙ encodes-chars text u ∙ e)))

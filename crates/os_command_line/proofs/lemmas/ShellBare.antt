@@ -1,7 +1,9 @@
 -- Words each byte of which means itself or that are one text in single quotes, and names that need no quotes.
 use Rattle.std.proofs.Common.{◌≡◌, ◌≢◌, ℕ, zero, ◌<◌, ◌≤◌, Bool, true, false, not, ◌||◌, ◌&&◌, eqb, List, [], ◌∷◌, ◌++◌, length, refl, sym, ap, ◌∙◌, subst, arith, append_assoc, append-nil, Option, MatchOption, inl, inr}
 use Rattle.std.specs.List.{AllByRecursion}
+use Rattle.std.specs.Str.{IsUtf8}
 use Rattle.std.proofs.lemmas.Bool.{cases_Bool, true≢false, and_parts, eqb-true}
+use Rattle.std.proofs.lemmas.Str.{IsUtf8-from_is_utf8, is_utf8-from_IsUtf8}
 use Rattle.wtf8_core.proofs.lemmas.vectors.ComputedTests.{all_below, each_below}
 use Rattle.os_quote.specs.Shown.{stays_on_line}
 use Rattle.os_command_line.specs.declared.shell.form.Form.{Form}
@@ -13,7 +15,7 @@ use Rattle.os_command_line.specs.Shell.{dollar, single_quote, is_mark, is_blank,
 use Rattle.os_command_line.specs.Shell.Outcome.{Word}
 use Rattle.os_command_line.specs.Shell.Reads.{ends, bare, single}
 use Rattle.os_command_line.specs.ShellReader.{is_itself, raw_bytes, bytes_left, meant, outcome}
-use Rattle.os_command_line.specs.ShellSteps.{AreItself, BeginsBare, BeginsQuoted, is_bare_form, IsFormOf, IsLineFormOf, IsPlainIfBare}
+use Rattle.os_command_line.specs.ShellSteps.{AcceptsForm, AreItself, BeginsBare, BeginsQuoted, is_bare_form, IsFormOf, IsLineFormOf, prints_text}
 use Rattle.os_command_line.specs.ShellWriting.{is_plain, are_plain, is_plain_name, HasNoNul, IsLineText}
 use Rattle.os_command_line.proofs.lemmas.ShellMeaning.{meant_is, meant_short}
 use Rattle.os_command_line.proofs.lemmas.ShellOneReading.{complete, and_none, or_false}
@@ -112,10 +114,31 @@ plain_stays b h = elim (cases_Bool (stays_on_line b)) [
 pub plain_is_line_text : (name : List ℕ) → is_plain_name name ≡ true → IsLineText name
 plain_is_line_text name h = ascii name (each_plain IsShown (λ b p. (plain_low b p, plain_stays b p)) name (are_all name h))
 
-pub plain_if_bare : (name : List ℕ) (f : Form) → IsPlainIfBare name f → is_bare_form f ≡ true → is_plain_name name ≡ true
-plain_if_bare name form.Bare h e = h
-plain_if_bare name form.Single h e = absurd (true≢false (sym e))
-plain_if_bare name form.Dollar h e = absurd (true≢false (sym e))
+pub bare_is_text : (name : List ℕ) (f : Form) → IsFormOf name f → is_bare_form f ≡ true → IsUtf8 name
+bare_is_text name form.Bare h e = (plain_is_line_text name h).0
+bare_is_text name form.Single h e = absurd (true≢false (sym e))
+bare_is_text name form.Dollar h e = absurd h
+
+pub form_is_text : (name : List ℕ) (f : Form) → IsFormOf name f → IsUtf8 name → prints_text f name ≡ true
+form_is_text name form.Bare h u = is_utf8-from_IsUtf8 name u
+form_is_text name form.Single h u = is_utf8-from_IsUtf8 name u
+form_is_text name form.Dollar h u = refl
+
+pub line_form_is_text : (name : List ℕ) (f : Form) → IsLineFormOf name f → prints_text f name ≡ true
+line_form_is_text name form.Bare h = is_utf8-from_IsUtf8 name h.0.0
+line_form_is_text name form.Single h = is_utf8-from_IsUtf8 name h.0.0
+line_form_is_text name form.Dollar h = refl
+
+-- what sinks accept
+pub text_form : (name : List ℕ) (f : Form) → prints_text f name ≡ true → AcceptsForm IsUtf8 f name
+text_form name form.Bare e = IsUtf8-from_is_utf8 name e
+text_form name form.Single e = IsUtf8-from_is_utf8 name e
+text_form name form.Dollar e = tt
+
+pub any_form : (name : List ℕ) (f : Form) → AcceptsForm (λ piece. Unit {0}) f name
+any_form name form.Bare = tt
+any_form name form.Single = tt
+any_form name form.Dollar = tt
 
 pub bare_line_form : (name : List ℕ) (f : Form) → IsFormOf name f → is_bare_form f ≡ true → IsLineFormOf name f
 bare_line_form name form.Bare h e = (plain_is_line_text name h, h)

@@ -1,15 +1,12 @@
 -- Bytes that are looked for, and names that need no quotes.
-use Rattle.std.proofs.Common.{◌≡◌, ◌≢◌, ℕ, zero, suc, ◌+◌, ◌<◌, Bool, true, false, ◌&&◌, eqb, List, [], ◌∷◌, ◌++◌, length, take, drop, get_or, length-append, take-append-drop, refl, sym, ap, ◌∙◌, subst, arith, Option, None, Some, MatchOption}
+use Rattle.std.proofs.Common.{◌≡◌, ◌≢◌, ℕ, zero, suc, ◌+◌, ◌<◌, Bool, true, false, ◌&&◌, eqb, List, [], ◌∷◌, ◌++◌, length, take, drop, get_or, take-append-drop, refl, sym, ap, ◌∙◌, subst, arith, Option, None, Some, MatchOption, inl, inr}
 use Rattle.std.specs.List.{AllByRecursion}
-use Rattle.std.specs.Str.{IsUtf8}
-use Rattle.std.proofs.lemmas.Bool.{eq-eqb, eqb-true, ne_eqb}
-use Rattle.std.proofs.Math.Seq.{get_or-append_seam}
-use Rattle.std.proofs.lemmas.List.{take_all, take_at, drop_more, length-take-le}
-use Rattle.std.proofs.lemmas.Str.{IsCharBoundary-before_ascii, IsUtf8-take, IsUtf8-encode, encode_ascii}
+use Rattle.std.proofs.lemmas.Bool.{cases_Bool, eq-eqb, eqb-true, ne_eqb}
+use Rattle.std.proofs.lemmas.List.{take_all, drop_more, length-take-le}
 use Rattle.memchr.specs.Find.{NoneBefore, Nowhere, Passes, is_byte}
-use Rattle.os_quote.proofs.lemmas.Texts.{text_after}
+use Rattle.os_command_line.specs.Fish.{is_escaped}
 use Rattle.os_command_line.specs.Shell.{single_quote, HasNoQuote}
-use Rattle.os_command_line.specs.ShellSteps.{IsCutAtQuote}
+use Rattle.os_command_line.specs.ShellSteps.{AreShown, IsCutAtEscaped, IsCutAtQuote}
 use Rattle.os_command_line.specs.ShellWriting.{is_plain, are_plain, HasNoNul, IsFirstNul}
 
 -- where no byte before an index passes a test
@@ -25,8 +22,11 @@ module _ (test : ℕ → Bool) (P : ℕ → Type 0) (other : (x : ℕ) → ¬ (t
   pub before_first : (t : List ℕ) (i : ℕ) → NoneBefore (Passes test t) 0 (length t) i → AllByRecursion P (take i t)
   before_first t i h = none_from t i (λ k lt. h.before k (omega arith) lt)
 
+cut_here : (t : List ℕ) (i : ℕ) → i < length t → t ≡ take i t ++ get_or t i 0 ∷ drop (i + 1) t
+cut_here t i lt = sym (take-append-drop i t) ∙ ap (λ x. take i t ++ x) (drop_more t i 0 lt)
+
 pub cut_at : (wanted : ℕ) (t : List ℕ) (i : ℕ) → i < length t → is_byte wanted (get_or t i 0) ≡ true → t ≡ take i t ++ wanted ∷ drop (i + 1) t
-cut_at wanted t i lt h = sym (take-append-drop i t) ∙ ap (λ x. take i t ++ x) (drop_more t i 0 lt ∙ ap (λ x. x ∷ drop (i + 1) t) (eqb-true _ _ h))
+cut_at wanted t i lt h = cut_here t i lt ∙ ap (λ x. take i t ++ x ∷ drop (i + 1) t) (eqb-true _ _ h)
 
 not_zero : (x : ℕ) → ¬ (is_byte 0 x ≡ true) → x ≢ 0
 not_zero x n e = n (eq-eqb x 0 e)
@@ -45,17 +45,14 @@ no_quote_found bytes h = nowhere (is_byte single_quote) (λ x. eqb x single_quot
 pub quote_found : (bytes : List ℕ) (i : ℕ) → NoneBefore (Passes (is_byte single_quote) bytes) 0 (length bytes) i × Passes (is_byte single_quote) bytes i → IsCutAtQuote bytes (take i bytes) (drop (i + 1) bytes)
 quote_found bytes i h = record { none_before = before_first (is_byte single_quote) (λ x. eqb x single_quote ≡ false) not_quote bytes i h.0; joined = cut_at single_quote bytes i h.0.high h.1 }
 
--- a text is cut there between two texts
-pub cut_texts : (t prefix after : List ℕ) → IsUtf8 t → IsCutAtQuote t prefix after → IsUtf8 prefix × IsUtf8 after
-cut_texts t prefix after u k =
-    let n = length prefix in
-    let whole = prefix ++ single_quote ∷ after in
-    let v : IsUtf8 whole = subst IsUtf8 k.joined u in
-    let low : n < length whole = omega (arith, length-append prefix (single_quote ∷ after)) in
-    let at : get_or whole n 0 ≡ single_quote = get_or-append_seam prefix single_quote after 0 in
-    let f : IsUtf8 prefix = subst IsUtf8 (take_at prefix (single_quote ∷ after) n refl) (IsUtf8-take whole n v (IsCharBoundary-before_ascii whole n low (omega (arith, at)))) in
-    let quote : IsUtf8 (single_quote ∷ []) = subst IsUtf8 (encode_ascii single_quote (omega arith)) (IsUtf8-encode single_quote refl) in
-    (f, text_after (single_quote ∷ []) after quote (text_after prefix (single_quote ∷ after) f v))
+not_escaped : (x : ℕ) → ¬ (is_escaped x ≡ true) → is_escaped x ≡ false
+not_escaped x n = elim (cases_Bool (is_escaped x)) [ inl e ↦ absurd (n e) | inr e ↦ e ]
+
+pub none_escaped : (bytes : List ℕ) → Nowhere (Passes is_escaped bytes) 0 (length bytes) → AreShown bytes
+none_escaped bytes h = nowhere is_escaped (λ x. is_escaped x ≡ false) not_escaped bytes h
+
+pub escaped_found : (bytes : List ℕ) (i : ℕ) → NoneBefore (Passes is_escaped bytes) 0 (length bytes) i × Passes is_escaped bytes i → IsCutAtEscaped bytes (take i bytes) (get_or bytes i 0) (drop (i + 1) bytes)
+escaped_found bytes i h = record { shown_before = before_first is_escaped (λ x. is_escaped x ≡ false) not_escaped bytes i h.0; escaped = h.1; joined = cut_here bytes i h.0.high }
 
 -- one more byte that needs no quotes
 pub plain_more : (xs : List ℕ) (b : ℕ) → are_plain (xs ++ b ∷ []) ≡ are_plain xs && is_plain b

@@ -1,5 +1,5 @@
 -- Words as they are written, and how long they are.
-use Rattle.std.proofs.Common.{◌≡◌, ℕ, ◌+◌, ◌*◌, ◌<◌, ◌≤◌, Bool, true, false, ◌&&◌, eqb, List, [], ◌∷◌, ◌++◌, length, refl, sym, ap, ◌∙◌, subst, arith, length-append, inl, inr, ltb, Some}
+use Rattle.std.proofs.Common.{◌≡◌, ℕ, ◌+◌, ◌*◌, ◌<◌, ◌≤◌, Bool, true, false, ◌&&◌, eqb, List, [], ◌∷◌, ◌++◌, length, refl, sym, ap, ◌∙◌, subst, arith, append_assoc, length-append, inl, inr, ltb, Some}
 use Rattle.std.specs.Char.{encode_utf8}
 use Rattle.std.specs.List.{All, flat_map}
 use Rattle.std.proofs.lemmas.Bool.{cases_Bool, eqb-true}
@@ -20,7 +20,9 @@ use Rattle.os_str_ext.specs.Chunks.{chunks_of}
 use Rattle.os_str_ext.proofs.lemmas.SymbolBytes.{symbols_joined}
 use Rattle.os_quote.specs.Shown.{stays_on_line}
 use Rattle.os_command_line.specs.Shell.{single_quote, backslash, escape_meaning, HasNoQuote}
-use Rattle.os_command_line.specs.ShellSteps.{IsCutAtQuote}
+use Rattle.os_command_line.specs.ShellSteps.{IsCutAtQuote, form_text}
+use Rattle.os_command_line.specs.declared.shell.form.Form.{Form}
+use Rattle.os_command_line.specs.declared.shell.form.Form.TheVariants.{Bare, Single, Dollar}
 use Rattle.os_command_line.specs.ShellWriting.{single_byte, single_quoted, letter_for, octal_text, shown_or_octal, character_text, symbol_text, is_escape, is_high, text_after, dollar_text, IsDollarWord}
 use Rattle.os_command_line.proofs.lemmas.ShellOneReading.{and_none}
 
@@ -35,9 +37,19 @@ single_plain [] h = refl
 single_plain (b ∷ bytes) h = rw h.0 (ap (λ z. b ∷ z) (single_plain bytes h.1))
 
 -- up to the first quote and after it
-pub single_cut : (bytes prefix after : List ℕ) → IsCutAtQuote bytes prefix after → flat_map single_byte bytes ≡ prefix ++ (quote_text ++ flat_map single_byte after)
+single_cut : (bytes prefix after : List ℕ) → IsCutAtQuote bytes prefix after → flat_map single_byte bytes ≡ prefix ++ (quote_text ++ flat_map single_byte after)
 single_cut bytes prefix after k =
     ap (flat_map single_byte) k.joined ∙ flat_map-append single_byte prefix (single_quote ∷ after) ∙ ap (λ z. z ++ (quote_text ++ flat_map single_byte after)) (single_plain prefix k.none_before)
+
+-- what comes after the first single quote
+abbrev pub inner_text : List ℕ → List ℕ
+inner_text bytes = flat_map single_byte bytes ++ single_quote ∷ []
+
+pub cut_text : (bytes prefix after : List ℕ) → IsCutAtQuote bytes prefix after → inner_text bytes ≡ prefix ++ (quote_text ++ inner_text after)
+cut_text bytes prefix after k = ap (λ z. z ++ single_quote ∷ []) (single_cut bytes prefix after k) ∙ append_assoc prefix (quote_text ++ flat_map single_byte after) (single_quote ∷ [])
+
+pub shown_text : (bytes : List ℕ) → HasNoQuote bytes → inner_text bytes ≡ bytes ++ single_quote ∷ []
+shown_text bytes h = ap (λ z. z ++ single_quote ∷ []) (single_plain bytes h)
 
 pub cut_shorter : (bytes prefix after : List ℕ) → IsCutAtQuote bytes prefix after → length after < length bytes
 cut_shorter bytes prefix after k = omega (arith, ap length k.joined, length-append prefix (single_quote ∷ after))
@@ -137,3 +149,12 @@ pub dollar_word_len : (name text : List ℕ) → All IsByte name → IsDollarWor
 dollar_word_len name text w is =
     let joined = symbols_joined itself (All IsByte) unix_parts.encoded unix_laws.cut_prefix unix_laws.cut_suffix name w is.symbols is.are_symbols in
     omega (arith, symbols_len false is.symbols, ap length joined, ap length is.text_is, length-append (dollar_text false is.symbols) (single_quote ∷ []))
+
+pub dollar_more : (high : Bool) (left symbols : List Symbol) (s : Symbol) → left ≡ s ∷ symbols → dollar_text high left ++ single_quote ∷ [] ≡ text_after high s ++ (dollar_text (is_high s) symbols ++ single_quote ∷ [])
+dollar_more high left symbols s e = ap (λ x. dollar_text high x ++ single_quote ∷ []) e ∙ append_assoc (text_after high s) (dollar_text (is_high s) symbols) (single_quote ∷ [])
+
+-- a word in any form is at most this long
+pub form_len : (form : Form) (name : List ℕ) → All IsByte name → length (form_text form name) ≤ 4 * length name + 3
+form_len Bare name w = omega arith
+form_len Single name w = single_len name
+form_len Dollar name w = omega (arith, all_len name w, length-append (dollar_text false (symbols_of itself name)) (single_quote ∷ []))

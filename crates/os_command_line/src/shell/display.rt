@@ -1,6 +1,13 @@
 //! A name that prints as a word.
-use crate::shell::write_formatted::{write_dollar, write_single};
+ghost use Rattle.std.specs.Prelude.{◌≡◌, true};
+ghost use Rattle.platform_str.specs.Strings.{bytes};
+ghost use Rattle.os_command_line.specs.ShellSteps.{prints_text};
+
+use crate::shell::form::Form;
+use crate::shell::sink::Printer;
+use crate::shell::write_word::write_in;
 use platform_str::{OsStr, Unix, Writeable, write_filled};
+use std::alloc::AllocError;
 use std::fmt;
 
 /// A name that prints as a word of a shell. Printing it allocates nothing.
@@ -8,21 +15,24 @@ use std::fmt;
 /// Returned by [`quoted`](crate::shell::quoted) and
 /// [`quoted_line`](crate::shell::quoted_line). A width counts the characters of the word, and fills
 /// after it if no alignment is given. A precision doesn't truncate.
-#[derive(Clone, Copy)]
 pub struct Quoted<'a> {
-    pub(crate) shown: Shown<'a>,
+    pub(crate) form: Form,
+    pub(crate) name: OsStr<'a, Unix>,
+    /// The word is text.
+    pub(crate) ghost is_text: { prints_text form (bytes name) ≡ true },
 }
 
-/// How a name is printed.
-#[derive(Clone, Copy)]
-pub(crate) enum Shown<'a> {
-    /// As it is.
-    Bare(&'a str),
-    /// In single quotes.
-    Single(&'a str),
-    /// In dollar-single-quotes.
-    Dollar(OsStr<'a, Unix>),
+impl<'a> Clone for Quoted<'a> {
+    ghost is_clone = { λ x y. y ≡ x };
+
+    ghost is_infallible = { λ _. Unit {0} };
+
+    fn clone(&self) -> Result<Self, AllocError> {
+        Ok(*self)
+    }
 }
+
+impl<'a> Copy for Quoted<'a> {}
 
 impl<'a> fmt::Display for Quoted<'a> {
     ghost use Rattle.std.specs.Prelude.{Some};
@@ -46,10 +56,11 @@ impl<'a> Writeable for Quoted<'a> {
     ghost text = { λ q. quoted_text q };
 
     fn write_to<W: fmt::Write>(&self, f: &mut fmt::Formatter<W>) -> fmt::Result {
-        match self.shown {
-            Shown::Bare(text) => f.write_str(text),
-            Shown::Single(text) => write_single(text, f),
-            Shown::Dollar(name) => write_dollar(name, f),
-        }
+        let mut printer = Printer {
+            formatter: f,
+            result: Ok(()),
+        };
+        write_in(self.form, self.name, &mut printer);
+        printer.result
     }
 }

@@ -1,20 +1,19 @@
 //! Names as words of fish.
-ghost use Rattle.std.specs.Prelude.{◌≡◌, ◌+◌, ◌*◌, ◌<◌, ◌^◌, ◌++◌, ℕ, List, length, nat_lt, IfOk, IfErr, OnOk};
-ghost use Rattle.std.specs.Char.{encode_utf8};
-ghost use Rattle.std.specs.Fmt.{WritesStyledOnOk};
+ghost use Rattle.std.specs.Prelude.{◌≡◌, ◌+◌, ◌*◌, ◌<◌, ◌^◌, ℕ, List, true, false, length, IfOk, IfErr, OnOk, MatchOption};
 ghost use Rattle.wtf8_core.specs.Truncated.{IsTruncated};
 ghost use Rattle.platform_str.specs.Strings.{bytes};
-ghost use Rattle.os_command_line.specs.Fish.{fish_byte, fish_bytes, fish_quoted, fish_text, fish_word, is_escaped, IsFishFault, IsFishText};
+ghost use Rattle.os_command_line.specs.Fish.{fish_byte, fish_quoted, fish_text, fish_word, is_escaped, IsFishFault, IsFishText};
+ghost use Rattle.os_command_line.specs.ShellSteps.{AreShown, IsCutAtEscaped, ends_high};
 ghost use Rattle.os_command_line.specs.ShellWriting.{HasNoNul, IsFirstNul};
 
 use crate::error_text::write_at_byte;
 use crate::shell::error::NulError;
 use crate::shell::form::{first_nul, is_plain_name};
-use crate::shell::powershell::first_char;
+use crate::shell::sink::{Buffer, Printer, Sink};
+use memchr::memchr2;
 use platform_str::{OsStr, Platform, Unix, Writeable, write_filled};
 use std::error::Error;
 use std::fmt;
-use wtf8_core::push_truncated;
 
 /// Why a name isn't printed as a word of fish.
 ///
@@ -150,50 +149,12 @@ fn push_word(buffer: &mut [u8], name: &[u8]) -> usize
     requires { 3 * length name.now + 2 < 2 ^ 64 }
     ensures { IsTruncated (fish_word name.now) buffer.old buffer.new result }
 {
-    if is_plain_name(name) {
-        push_truncated(buffer, 0, name)
-    } else {
-        push_quoted(buffer, name)
-    }
-}
-
-/// Writes bytes in single quotes into a buffer.
-fn push_quoted(buffer: &mut [u8], name: &[u8]) -> usize
-    requires { 3 * length name.now + 2 < 2 ^ 64 }
-    ensures { IsTruncated (fish_quoted name.now) buffer.old buffer.new result }
-{
-    let mut count = push_truncated(buffer, 0, b"'");
-    let mut high = false;
-    let mut rest = name;
-    while let Some((first, after)) = rest.split_first() {
-        count = push_byte(buffer, count, high, *first);
-        high = *first > 0x7F;
-        rest = after;
-    }
-    push_truncated(buffer, count, b"'")
-}
-
-/// Appends a byte in single quotes, after one from 0x80 on or not.
-fn push_byte(buffer: &mut [u8], count: usize, high: bool, byte: u8) -> usize
-    requires { count + 4 < 2 ^ 64 }
-    ensures written { (text : List ℕ) → (old : List ℕ) → IsTruncated text old buffer.old count
-        → IsTruncated (text ++ fish_byte high byte) old buffer.new result }
-    ensures len { result ≡ count + length (fish_byte high byte) }
-{
-    if is_escaped(byte) {
-        if high {
-            return push_truncated(buffer, count, &[b'\'', b'\\', byte, b'\'']);
-        }
-        return push_truncated(buffer, count, &[b'\\', byte]);
-    }
-    push_truncated(buffer, count, &[byte])
-}
-
-/// Whether a backslash escapes a byte in single quotes.
-fn is_escaped(byte: u8) -> bool
-    ensures { result ≡ is_escaped byte }
-{
-    byte == b'\'' || byte == b'\\'
+    let mut sink = Buffer {
+        bytes: buffer,
+        count: 0,
+    };
+    write_word(name, &mut sink);
+    sink.count
 }
 
 impl<'a> fmt::Display for FishQuoted<'a> {
@@ -220,50 +181,78 @@ impl<'a> Writeable for FishQuoted<'a> {
     ghost text = { λ q. fish_text q };
 
     fn write_to<W: fmt::Write>(&self, f: &mut fmt::Formatter<W>) -> fmt::Result {
-        write_word(self.text, f)
+        let mut printer = Printer {
+            formatter: f,
+            result: Ok(()),
+        };
+        write_word(self.text.as_bytes(), &mut printer);
+        printer.result
     }
 }
 
-/// Writes a text as a word.
-fn write_word<W: fmt::Write>(text: &str, f: &mut fmt::Formatter<W>) -> fmt::Result
-    ensures { WritesStyledOnOk W.write_str_gives f.old result (fish_word text.now) f.new }
+/// Writes bytes as a word to a sink.
+fn write_word<S: Sink>(name: &[u8], sink: &mut S)
+    requires accepted { S.pieces.accepts name.now }
+    requires room { S.rules.has_room sink.old (fish_word name.now) }
+    ensures { S.rules.took sink.old (fish_word name.now) sink.new }
 {
-    if is_plain_name(text.as_bytes()) {
-        return f.write_str(text);
+    if is_plain_name(name) {
+        sink.take(name)
+    } else {
+        write_in_quotes(name, sink)
     }
-    write_quoted(text, f)
 }
 
-/// Writes a text in single quotes.
-fn write_quoted<W: fmt::Write>(text: &str, f: &mut fmt::Formatter<W>) -> fmt::Result
-    ensures { WritesStyledOnOk W.write_str_gives f.old result (fish_quoted text.now) f.new }
+/// Writes bytes in single quotes to a sink.
+fn write_in_quotes<S: Sink>(name: &[u8], sink: &mut S)
+    requires accepted { S.pieces.accepts name.now }
+    requires room { S.rules.has_room sink.old (fish_quoted name.now) }
+    ensures { S.rules.took sink.old (fish_quoted name.now) sink.new }
 {
-    f.write_str("'")?;
-    let mut high = false;
-    let mut rest = text;
-    while let Some((character, following)) = first_char(rest) {
-        write_character(high, character, f)?;
-        high = character > '\x7F';
-        rest = following;
+    sink.take_text("'");
+    let mut rest = name;
+    while let Some((prefix, byte, after)) = cut_at_escaped(rest) {
+        sink.take(prefix);
+        sink.take_text(escape_of(ends_high(prefix), byte));
+        rest = after;
     }
-    f.write_str("'")
+    sink.take(rest);
+    sink.take_text("'");
 }
 
-/// Writes a character in single quotes, after a byte from 0x80 on or not.
-#[tactic(auto, using(crate::proofs::lemmas::Fish::plain_character, crate::proofs::lemmas::Fish::escaped_quote, crate::proofs::lemmas::Fish::escaped_backslash))]
-fn write_character<W: fmt::Write>(
-    high: bool,
-    character: char,
-    f: &mut fmt::Formatter<W>,
-) -> fmt::Result
-    ensures { WritesStyledOnOk W.write_str_gives f.old result
-        (fish_bytes high (encode_utf8 character)) f.new }
+/// What comes before the first single quote or backslash, it, and what comes after it.
+fn cut_at_escaped(bytes: &[u8]) -> Option<(&[u8], u8, &[u8])>
+    ensures { MatchOption result (AreShown bytes.now)
+        (λ parts. IsCutAtEscaped bytes.now parts.0.now parts.1 parts.2.now) }
 {
-    if character == '\'' {
-        return f.write_str(if high { "'\\''" } else { "\\'" });
+    let Some(at) = memchr2(b'\'', b'\\', bytes) else {
+        return None;
+    };
+    Some((&bytes[..at], bytes[at], &bytes[at + 1..]))
+}
+
+/// Whether bytes end with one from 0x80 on.
+#[tactic(auto, using(crate::proofs::lemmas::Fish::last_high))]
+fn ends_high(bytes: &[u8]) -> bool
+    ensures { result ≡ ends_high false bytes.now }
+{
+    match bytes.split_last() {
+        Some((last, _)) => *last > 0x7F,
+        None => false,
     }
-    if character == '\\' {
-        return f.write_str(if high { "'\\\\'" } else { "\\\\" });
+}
+
+/// A single quote or a backslash in single quotes, after a byte from 0x80 on or not.
+#[tactic(auto, using(crate::proofs::lemmas::Fish::escaped_quote, crate::proofs::lemmas::Fish::escaped_backslash))]
+fn escape_of(high: bool, byte: u8) -> &'static str
+    requires { is_escaped byte ≡ true }
+    ensures { result.now ≡ fish_byte high byte }
+{
+    if byte == b'\'' {
+        if high { "'\\''" } else { "\\'" }
+    } else if high {
+        "'\\\\'"
+    } else {
+        "\\\\"
     }
-    f.write_char(character)
 }

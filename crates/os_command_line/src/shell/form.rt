@@ -143,20 +143,3 @@ pub(crate) fn cut_at_quote(bytes: &[u8]) -> Option<(&[u8], &[u8])>
     };
     Some((&bytes[..at], &bytes[at + 1..]))
 }
-
-/// Returns the parts of a text before and after its first single quote, as [`cut_at_quote`] does
-/// for bytes.
-pub(crate) fn split_at_quote(text: &str) -> Option<(&str, &str)>
-    ensures cut { MatchOption result (HasNoQuote text.now)
-        (λ parts. IsCutAtQuote text.now parts.0.now parts.1.now) }
-{
-    let Some((prefix, after)) = cut_at_quote(text.as_bytes()) else {
-        return None;
-    };
-    Some(unsafe {
-        (
-            str::from_utf8_unchecked(prefix),
-            str::from_utf8_unchecked(after),
-        )
-    })
-}

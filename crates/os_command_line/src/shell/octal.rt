@@ -54,11 +54,3 @@ pub(crate) fn octal_digit(value: u16) -> u8
 {
     b'0' + value as u8
 }
-
-/// The character of an ASCII byte.
-pub(crate) fn ascii_char(byte: u8) -> char
-    requires { byte < 128 }
-    ensures { result ≡ byte }
-{
-    char::from(byte)
-}

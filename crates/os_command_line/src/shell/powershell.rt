@@ -9,11 +9,11 @@ ghost use Rattle.platform_str.specs.Strings.{bytes};
 ghost use Rattle.os_command_line.specs.PowerShell.{HasNulAt, is_single_quote, IsPowerShellFault, IsPowerShellName, IsPowerShellText, powershell_character, powershell_string, powershell_text};
 
 use crate::error_text::write_at_byte;
+use crate::shell::sink::{Buffer, Printer, Sink};
 use memchr::memchr;
 use platform_str::{OsStr, Platform, Windows, Writeable, write_filled};
 use std::error::Error;
 use std::fmt;
-use wtf8_core::push_truncated;
 
 /// Why a name can't be written as a string of PowerShell.
 ///
@@ -159,41 +159,12 @@ fn push_string(buffer: &mut [u8], text: &str) -> usize
     requires { 2 * length text.now + 2 < 2 ^ 64 }
     ensures { IsTruncated (powershell_string (chars text.now)) buffer.old buffer.new result }
 {
-    let mut count = push_truncated(buffer, 0, b"'");
-    let mut rest = text;
-    while let Some((character, following)) = first_char(rest) {
-        count = push_character(buffer, count, character);
-        rest = following;
-    }
-    push_truncated(buffer, count, b"'")
-}
-
-/// Appends a character of a string.
-fn push_character(buffer: &mut [u8], count: usize, character: char) -> usize
-    requires { count + 2 * length (encode_utf8 character) < 2 ^ 64 }
-    ensures written { (text : List ℕ) → (old : List ℕ) → IsTruncated text old buffer.old count
-        → IsTruncated (text ++ powershell_character character) old buffer.new result }
-    ensures len { result ≡ count + length (powershell_character character) }
-{
-    let mut bytes = [0; 4];
-    let encoded = character.encode_utf8(&mut bytes).as_bytes();
-    let len = push_truncated(buffer, count, encoded);
-    if is_single_quote(character) {
-        return push_truncated(buffer, len, encoded);
-    }
-    len
-}
-
-/// The first character of a text, and what comes after it.
-pub(crate) fn first_char(text: &str) -> Option<(char, &str)>
-    ensures { MatchOption result (text.now ≡ []) (λ first. (text.now
-        ≡ encode_utf8 first.0 ++ first.1.now) × IsUtf8 first.1.now) }
-{
-    let mut characters = text.chars();
-    let Some(character) = characters.next() else {
-        return None;
+    let mut sink = Buffer {
+        bytes: buffer,
+        count: 0,
     };
-    Some((character, characters.as_str()))
+    write_string(text, &mut sink);
+    sink.count
 }
 
 /// Whether PowerShell takes a character for a single quotation mark.
@@ -225,32 +196,38 @@ impl<'a> Writeable for PowerShellQuoted<'a> {
     ghost text = { λ q. powershell_text q };
 
     fn write_to<W: fmt::Write>(&self, f: &mut fmt::Formatter<W>) -> fmt::Result {
-        write_string(self.text, f)
+        let mut printer = Printer {
+            formatter: f,
+            result: Ok(()),
+        };
+        write_string(self.text, &mut printer);
+        printer.result
     }
 }
 
-/// Writes a text as a string.
-fn write_string<W: fmt::Write>(text: &str, f: &mut fmt::Formatter<W>) -> fmt::Result
-    ensures { WritesStyledOnOk W.write_str_gives f.old result (powershell_string (chars text.now))
-        f.new }
+/// Writes a text as a string to a sink.
+fn write_string<S: Sink>(text: &str, sink: &mut S)
+    requires { S.rules.has_room sink.old (powershell_string (chars text.now)) }
+    ensures { S.rules.took sink.old (powershell_string (chars text.now)) sink.new }
 {
-    f.write_str("'")?;
-    let mut rest = text;
-    while let Some((character, following)) = first_char(rest) {
-        write_character(character, f)?;
-        rest = following;
+    sink.take_text("'");
+    for character in text.chars() {
+        write_character(character, sink);
     }
-    f.write_str("'")
+    sink.take_text("'");
 }
 
-/// Writes a character of a string.
-fn write_character<W: fmt::Write>(character: char, f: &mut fmt::Formatter<W>) -> fmt::Result
-    ensures { WritesStyledOnOk W.write_str_gives f.old result (powershell_character character)
-        f.new }
+/// Writes a character of a string to a sink.
+fn write_character<S: Sink>(character: char, sink: &mut S)
+    requires { S.rules.has_room sink.old (powershell_character character) }
+    ensures { S.rules.took sink.old (powershell_character character) sink.new }
 {
+    let mut room = [0; 4];
+    let encoded: &str = character.encode_utf8(&mut room);
     if is_single_quote(character) {
-        f.write_char(character)?;
-        return f.write_char(character);
+        sink.take_text(encoded);
+        sink.take_text(encoded)
+    } else {
+        sink.take_text(encoded)
     }
-    f.write_char(character)
 }

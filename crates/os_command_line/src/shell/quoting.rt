@@ -1,12 +1,12 @@
 //! From names to what prints as words.
-ghost use Rattle.std.specs.Prelude.{◌≡◌, MatchOption, MatchResult};
+ghost use Rattle.std.specs.Prelude.{◌↔◌, IsTrue, MatchResult};
 ghost use Rattle.std.specs.Str.{IsUtf8};
 ghost use Rattle.platform_str.specs.Strings.{bytes};
-ghost use Rattle.os_command_line.specs.ShellSteps.{form_text, IsPlainIfBare};
-ghost use Rattle.os_command_line.specs.ShellViews.{shown_text, quoted_text};
+ghost use Rattle.os_command_line.specs.ShellSteps.{IsFormOf};
+ghost use Rattle.os_command_line.specs.ShellViews.{quoted_text};
 ghost use Rattle.os_command_line.specs.ShellWriting.{HasNoNul, IsFirstNul, IsLineWord, IsTextWord};
 
-use crate::shell::display::{Quoted, Shown};
+use crate::shell::display::Quoted;
 use crate::shell::error::NulError;
 use crate::shell::form::{Form, form_of, line_form_of};
 use platform_str::{OsStr, Unix};
@@ -51,6 +51,7 @@ use platform_str::{OsStr, Unix};
 /// let fault = quoted(OsStr::<Unix>::new("a\0"));
 /// assert!(rt; fault.is_err_and(|error| error == NulError { index: 1 }));
 /// ```
+#[tactic(auto, using(crate::proofs::lemmas::ShellBare::form_is_text))]
 pub fn quoted<'a>(name: OsStr<'a, Unix>) -> Result<Quoted<'a>, NulError>
     ensures word { MatchResult result
         (λ word. IsTextWord (bytes name.entry) (quoted_text word))
@@ -58,11 +59,14 @@ pub fn quoted<'a>(name: OsStr<'a, Unix>) -> Result<Quoted<'a>, NulError>
     ensures no_nul { MatchResult result (λ _. HasNoNul (bytes name.entry)) (λ _. Unit {0}) }
 {
     let form = form_of(name)?;
-    let shown = match text_of(form, name) {
-        Some(text) => shown_in(form, text),
-        None => Shown::Dollar(name),
-    };
-    Ok(Quoted { shown })
+    if is_text(form, name) {
+        Ok(Quoted { form, name })
+    } else {
+        Ok(Quoted {
+            form: Form::Dollar,
+            name,
+        })
+    }
 }
 
 /// Returns a value that prints as a word on one line that bash, zsh, ksh93, mksh and busybox read as
@@ -94,6 +98,7 @@ pub fn quoted<'a>(name: OsStr<'a, Unix>) -> Result<Quoted<'a>, NulError>
 /// let word = quoted_line(OsStr::<Unix>::new("\u{E9}'\n"))?;
 /// assert_eq!(rt; word.to_string(alloc)?.as_str(), "$'\u{E9}'$'\\'\\n'");
 /// ```
+#[tactic(auto, using(crate::proofs::lemmas::ShellBare::line_form_is_text))]
 pub fn quoted_line<'a>(name: OsStr<'a, Unix>) -> Result<Quoted<'a>, NulError>
     ensures word { MatchResult result
         (λ word. IsLineWord (bytes name.entry) (quoted_text word))
@@ -101,32 +106,20 @@ pub fn quoted_line<'a>(name: OsStr<'a, Unix>) -> Result<Quoted<'a>, NulError>
     ensures no_nul { MatchResult result (λ _. HasNoNul (bytes name.entry)) (λ _. Unit {0}) }
 {
     let form = line_form_of(name)?;
-    let shown = match text_of(form, name) {
-        Some(text) => shown_in(form, text),
-        None => Shown::Dollar(name),
-    };
-    Ok(Quoted { shown })
+    Ok(Quoted { form, name })
 }
 
-/// A name as a text, if it is one: a name that is written as it is has only ASCII.
-fn text_of(form: Form, name: OsStr<'_, Unix>) -> Option<&str>
-    requires { IsPlainIfBare (bytes name) form }
-    ensures { MatchOption result (¬ (IsUtf8 (bytes name.entry)))
-        (λ text. text.now ≡ bytes name.entry) }
+/// Whether a name of a form is text. One that is written as it is has only ASCII.
+#[tactic(auto, using(crate::proofs::lemmas::ShellBare::bare_is_text))]
+fn is_text(form: Form, name: OsStr<'_, Unix>) -> bool
+    requires { IsFormOf (bytes name) form }
+    ensures { IsTrue result ↔ IsUtf8 (bytes name.entry) }
 {
     if form.is_bare() {
-        return Some(unsafe { str::from_utf8_unchecked(name.as_encoded_bytes()) });
+        return true;
     }
-    name.to_str()
-}
-
-/// How a text is printed in a form.
-fn shown_in<'a>(form: Form, text: &'a str) -> Shown<'a>
-    ensures { shown_text result ≡ form_text form text.now }
-{
-    match form {
-        Form::Bare => Shown::Bare(text),
-        Form::Single => Shown::Single(text),
-        Form::Dollar => Shown::Dollar(OsStr::new(text)),
+    match name.to_str() {
+        Some(_) => true,
+        None => false,
     }
 }

@@ -1,8 +1,13 @@
-use Rattle.std.proofs.Common.{[], ◌∙◌, sym, subst}
-use Rattle.wtf8_core.specs.Truncated.{IsTruncated}
-use Rattle.wtf8_core.proofs.lemmas.buffers.Truncated.{none_yet}
-use Rattle.os_command_line.proofs.lemmas.Fish.{bare_word}
+use Rattle.std.proofs.Common.{rules, refl, sym, arith}
+use Rattle.os_quote.proofs.lemmas.Pushing.{pushed_whole}
+use Rattle.os_command_line.proofs.lemmas.Fish.{word_len}
 use Rattle.os_command_line.proofs.shell.fish.push_word.Goals as goal
 
-pub returns-then-is_plain_name : goal.returns-then-is_plain_name
-returns-then-is_plain_name c = subst (λ x. IsTruncated x c.args.buffer.now c.push_truncated.new.buffer c.push_truncated.result) (sym (bare_word c.args.name.now (sym c.is_plain_name.ensures ∙ c.if-is_plain_name.true))) (c.push_truncated.ensures.written [] c.args.buffer.now (none_yet c.args.buffer.now))
+pub write_word-requires : goal.write_word-requires
+write_word-requires c = record { accepted = tt; room = omega (arith, c.requires, word_len c.args.name.now) }
+
+pub returns : goal.returns
+returns c =
+    let pushed = c.write_word.ensures in
+    let same = sym pushed.0 in
+    pushed_whole pushed.1 refl refl (search (rules, same))

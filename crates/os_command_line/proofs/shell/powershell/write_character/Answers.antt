@@ -1,12 +1,28 @@
-use Rattle.std.proofs.Common.{if◌then◌else◌, ◌++◌, ◌∙◌, ap, sym, subst, refl, true}
-use Rattle.std.specs.Char.{encode_utf8}
-use Rattle.std.specs.Fmt.{HasWrittenStyled}
-use Rattle.os_command_line.proofs.lemmas.Writing.{both}
+use Rattle.std.proofs.Common.{sym, ◌∙◌, subst}
+use Rattle.os_command_line.proofs.lemmas.PowerShell.{quote_text, other_text}
 use Rattle.os_command_line.proofs.shell.powershell.write_character.Goals as goal
 
+pub take_text-requires : goal.take_text-requires
+take_text-requires g c =
+    let is = quote_text _ _ c.encode_utf8-encoded.ensures.value (sym c.is_single_quote.ensures ∙ c.if-is_single_quote.true) in
+    g.S.Sink.rules.room_before _ c.encode_utf8-encoded.result.now c.encode_utf8-encoded.result.now (subst (g.S.Sink.rules.has_room c.args.sink.now) is c.requires)
+
+pub take_text-requires-then-is_single_quote : goal.take_text-requires-then-is_single_quote
+take_text-requires-then-is_single_quote g c =
+    let is = quote_text _ _ c.encode_utf8-encoded.ensures.value (sym c.is_single_quote.ensures ∙ c.if-is_single_quote.true) in
+    g.S.Sink.rules.room_after _ _ _ c.encode_utf8-encoded.result.now c.take_text.ensures (subst (g.S.Sink.rules.has_room c.args.sink.now) is c.requires)
+
+pub take_text-requires-else-is_single_quote : goal.take_text-requires-else-is_single_quote
+take_text-requires-else-is_single_quote g c =
+    let is = other_text _ _ c.encode_utf8-encoded.ensures.value (sym c.is_single_quote.ensures ∙ c.if-is_single_quote.false) in
+    subst (g.S.Sink.rules.has_room c.args.sink.now) is c.requires
+
 pub returns-then-is_single_quote : goal.returns-then-is_single_quote
-returns-then-is_single_quote g c = λ flush ok.
-    let took = g.W.Write.write_str_gives in
-    let encoded = encode_utf8 c.args.character in
-    let doubled = ap (λ b. if b then encoded ++ encoded else encoded) (sym c.is_single_quote.ensures ∙ c.if-is_single_quote.true) in
-    subst (λ x. HasWrittenStyled took c.args.f.now x c.write_char-then-is_single_quote.new.self) (sym doubled) (both took _ _ _ _ _ (λ p. c.in_ok-write_char.ensures.styled p (refl {a = true})) (λ p. c.write_char-then-is_single_quote.ensures.styled p ok) flush)
+returns-then-is_single_quote g c =
+    let is = quote_text _ _ c.encode_utf8-encoded.ensures.value (sym c.is_single_quote.ensures ∙ c.if-is_single_quote.true) in
+    subst (λ x. g.S.Sink.rules.took c.args.sink.now x c.take_text-then-is_single_quote.new.self) (sym is) (g.S.Sink.rules.took_both _ _ _ _ _ c.take_text.ensures c.take_text-then-is_single_quote.ensures)
+
+pub returns-else-is_single_quote : goal.returns-else-is_single_quote
+returns-else-is_single_quote g c =
+    let is = other_text _ _ c.encode_utf8-encoded.ensures.value (sym c.is_single_quote.ensures ∙ c.if-is_single_quote.false) in
+    subst (λ x. g.S.Sink.rules.took c.args.sink.now x c.take_text-else-is_single_quote.new.self) (sym is) c.take_text-else-is_single_quote.ensures

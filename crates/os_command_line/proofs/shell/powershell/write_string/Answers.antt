@@ -1,25 +1,29 @@
-use Rattle.std.proofs.Common.{[], ◌∷◌, refl, true}
-use Rattle.std.specs.Str.{chars}
-use Rattle.os_command_line.proofs.lemmas.Writing.{nothing_yet, one_more, last_written}
-use Rattle.os_command_line.specs.PowerShell.{powershell_character, powershell_string}
-use Rattle.os_command_line.proofs.lemmas.PowerShell.{inner_text, one_more as one_more_character, no_more, shorter}
+use Rattle.std.proofs.Common.{◌≡◌, [], ◌∷◌, refl, rules, sym, ap, subst}
+use Rattle.std.proofs.lemmas.List.{nil_from_length}
+use Rattle.std.specs.Str.{IsUtf8}
+use Rattle.std.specs.Str.Iter.{chars_rest}
+use Rattle.os_command_line.proofs.lemmas.Taking.{nothing_taken, one_taken, all_taken, room_left}
+use Rattle.os_command_line.proofs.lemmas.PowerShell.{inner_text, one_more, no_more, after_character}
 use Rattle.os_command_line.proofs.shell.powershell.write_string.Goals as goal
+
+pub take_text-requires : goal.take_text-requires
+take_text-requires g c = g.S.Sink.rules.room_before _ (0x27 ∷ []) (inner_text c.args.text.now) c.requires
 
 pub loop-character-init : goal.loop-character-init
 loop-character-init g c =
-    let took = g.W.Write.write_str_gives in
-    let all = powershell_string (chars c.args.text.now) in
-    (c.utf8.text, one_more took c.args.f.now c.args.f.now _ all (0x27 ∷ []) (inner_text c.args.text.now) all (nothing_yet took c.args.f.now all) (λ flush. c.in_ok-write_str.ensures.styled flush (refl {a = true})) refl)
+    let whole : chars_rest c.into_iter-character-iterator.result ≡ c.args.text.now = search rules in
+    (subst IsUtf8 (sym whole) c.utf8.text, one_taken g.S.Sink.rules (nothing_taken g.S.Sink.rules) c.take_text.ensures (ap (λ x. 0x27 ∷ inner_text x) (sym whole)))
+
+pub write_character-requires : goal.write_character-requires
+write_character-requires g c = room_left g.S.Sink.rules c.loop-character.invariant.1 _ _ c.requires (one_more _ _ _ c.loop-character.invariant.0 c.in-Some.ensures.steps.0)
 
 pub loop-character-preserved : goal.loop-character-preserved
 loop-character-preserved g c =
-    let took = g.W.Write.write_str_gives in
-    let step = one_more_character c.loop-character.rest.now c.in-Some.following.now c.in-Some.character c.loop-character.invariant.0 c.in-Some.ensures.0 in
-    (c.in-Some.ensures.1, one_more took _ c.loop-character.f _ _ (powershell_character c.in-Some.character) (inner_text c.in-Some.following.now) _ c.loop-character.invariant.1 (λ flush. c.in_ok-write_character.ensures flush (refl {a = true})) step)
+    let steps = c.in-Some.ensures.steps.0 in
+    (after_character _ _ _ c.loop-character.invariant.0 steps, one_taken g.S.Sink.rules c.loop-character.invariant.1 c.write_character.ensures (one_more _ _ _ c.loop-character.invariant.0 steps))
+
+pub take_text-requires-2 : goal.take_text-requires-2
+take_text-requires-2 g c = room_left g.S.Sink.rules c.loop-character.invariant.1 (0x27 ∷ []) [] c.requires (no_more _ (nil_from_length _ c.in-None.ensures.steps.0.0))
 
 pub returns : goal.returns
-returns g c = λ flush ok.
-    last_written g.W.Write.write_str_gives _ c.loop-character.f _ _ (0x27 ∷ []) _ c.loop-character.invariant.1 (λ p. c.write_str-2.ensures.styled p ok) (no_more c.loop-character.rest.now c.in_default.ensures) flush
-
-pub loop-character-smaller : goal.loop-character-smaller
-loop-character-smaller g c = shorter c.loop-character.rest.now c.in-Some.following.now c.in-Some.character c.in-Some.ensures.0
+returns g c = all_taken g.S.Sink.rules (one_taken g.S.Sink.rules c.loop-character.invariant.1 {rest = []} c.take_text-2.ensures (no_more _ (nil_from_length _ c.in-None.ensures.steps.0.0))) refl

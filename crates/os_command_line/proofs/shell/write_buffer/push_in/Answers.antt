@@ -1,9 +1,15 @@
-use Rattle.std.proofs.Common.{ap, sym}
+use Rattle.std.proofs.Common.{rules, refl, sym, arith}
 use Rattle.platform_str.specs.Strings.{bytes}
-use Rattle.os_quote.proofs.lemmas.Pushing.{push_bytes, push_same, pushed_all}
-use Rattle.os_command_line.specs.ShellSteps.{form_text}
+use Rattle.os_quote.proofs.lemmas.Pushing.{pushed_whole}
+use Rattle.os_command_line.proofs.lemmas.ShellBare.{any_form}
+use Rattle.os_command_line.proofs.lemmas.ShellWritten.{form_len}
 use Rattle.os_command_line.proofs.shell.write_buffer.push_in.Goals as goal
 
-pub returns-in-Bare : goal.returns-in-Bare
-returns-in-Bare c =
-    pushed_all (push_same (ap (λ f. form_text f (bytes c.args.name)) (sym c.in-Bare.is)) (push_bytes c.as_encoded_bytes.ensures.value c.push_truncated.ensures.written c.push_truncated.ensures.len))
+pub write_in-requires : goal.write_in-requires
+write_in-requires c = record { accepted = any_form (bytes c.args.name) c.args.form; room = omega (arith, c.requires, form_len c.args.form (bytes c.args.name) c.args.name.ok) }
+
+pub returns : goal.returns
+returns c =
+    let pushed = c.write_in.ensures in
+    let same = sym pushed.0 in
+    pushed_whole pushed.1 refl refl (search (rules, same))

@@ -1,0 +1,148 @@
+//! Words written to a sink, piece by piece.
+ghost use Rattle.std.specs.Prelude.{◌<◌, ◌∷◌, [], false};
+ghost use Rattle.std.specs.List.{AllByRecursion, flat_map};
+ghost use Rattle.platform_str.specs.PlatformWords.{itself};
+ghost use Rattle.platform_str.specs.Strings.{bytes};
+ghost use Rattle.os_str_ext.specs.Symbols.{symbols_of};
+ghost use Rattle.os_command_line.specs.ShellSteps.{form_text, AcceptsForm};
+ghost use Rattle.os_command_line.specs.ShellWriting.{single_byte, single_quoted, dollar_quoted, dollar_text, text_after, symbol_text, character_text, letter_for, octal_text, shown_or_octal};
+
+use crate::shell::form::{Form, cut_at_quote};
+use crate::shell::octal::{is_escape, is_high, letter_for, octal_digit};
+use crate::shell::sink::Sink;
+use os_quote::stays_on_line;
+use os_str_ext::{OsStrBytesExt, Symbol};
+use platform_str::{OsStr, Unix};
+
+/// Writes a name in a form.
+pub(crate) fn write_in<S: Sink>(form: Form, name: OsStr<'_, Unix>, sink: &mut S)
+    requires accepted { AcceptsForm S.pieces.accepts form (bytes name) }
+    requires room { S.rules.has_room sink.old (form_text form (bytes name)) }
+    ensures { S.rules.took sink.old (form_text form (bytes name.entry)) sink.new }
+{
+    match form {
+        Form::Bare => sink.take(name.as_encoded_bytes()),
+        Form::Single => write_single(name.as_encoded_bytes(), sink),
+        Form::Dollar => write_dollar(name, sink),
+    }
+}
+
+/// Writes bytes in single quotes.
+fn write_single<S: Sink>(bytes: &[u8], sink: &mut S)
+    requires accepted { S.pieces.accepts bytes.now }
+    requires room { S.rules.has_room sink.old (single_quoted bytes.now) }
+    ensures { S.rules.took sink.old (single_quoted bytes.now) sink.new }
+{
+    sink.take_text("'");
+    let mut rest = bytes;
+    while let Some((prefix, after)) = cut_at_quote(rest) {
+        sink.take(prefix);
+        sink.take_text("'\\''");
+        rest = after;
+    }
+    sink.take(rest);
+    sink.take_text("'");
+}
+
+/// Writes a name in dollar-single-quotes.
+fn write_dollar<S: Sink>(name: OsStr<'_, Unix>, sink: &mut S)
+    requires { S.rules.has_room sink.old (dollar_quoted (symbols_of itself (bytes name))) }
+    ensures { S.rules.took sink.old (dollar_quoted (symbols_of itself (bytes name.entry))) sink.new }
+{
+    sink.take_text("$'");
+    let mut high = false;
+    for symbol in name.symbols() {
+        write_after(high, symbol, sink);
+        high = is_high(symbol);
+    }
+    sink.take_text("'");
+}
+
+/// Writes what means a symbol, after a byte from 0x80 on or not.
+fn write_after<S: Sink>(high: bool, symbol: Symbol, sink: &mut S)
+    requires { S.rules.has_room sink.old (text_after high symbol) }
+    ensures { S.rules.took sink.old (text_after high symbol) sink.new }
+{
+    if high && is_escape(symbol) {
+        return write_again(symbol, sink);
+    }
+    write_symbol(symbol, sink)
+}
+
+/// Ends the quotes, begins them again and writes what means a symbol.
+fn write_again<S: Sink>(symbol: Symbol, sink: &mut S)
+    requires { S.rules.has_room sink.old (0x27 ∷ 0x24 ∷ 0x27 ∷ symbol_text symbol) }
+    ensures { S.rules.took sink.old (0x27 ∷ 0x24 ∷ 0x27 ∷ symbol_text symbol) sink.new }
+{
+    sink.take_text("'$'");
+    write_symbol(symbol, sink)
+}
+
+/// Writes what means a symbol.
+fn write_symbol<S: Sink>(symbol: Symbol, sink: &mut S)
+    requires { S.rules.has_room sink.old (symbol_text symbol) }
+    ensures { S.rules.took sink.old (symbol_text symbol) sink.new }
+{
+    match symbol {
+        Symbol::Character(character) => write_character(character, sink),
+        Symbol::Unit(unit) => write_octal(unit.to_u64() as u16, sink),
+    }
+}
+
+/// Writes what means a character.
+fn write_character<S: Sink>(character: char, sink: &mut S)
+    requires { S.rules.has_room sink.old (character_text character (letter_for character)) }
+    ensures { S.rules.took sink.old (character_text character (letter_for character)) sink.new }
+{
+    match letter_for(character) {
+        Some(letter) => take_ascii(&[b'\\', letter], sink),
+        None => write_shown(character, sink),
+    }
+}
+
+/// Writes a character as it is, or byte by byte if it doesn't stay on the line.
+fn write_shown<S: Sink>(character: char, sink: &mut S)
+    requires { S.rules.has_room sink.old (shown_or_octal character) }
+    ensures { S.rules.took sink.old (shown_or_octal character) sink.new }
+{
+    let mut room = [0; 4];
+    let text: &str = character.encode_utf8(&mut room);
+    if stays_on_line(character) {
+        sink.take_text(text)
+    } else {
+        write_octals(text.as_bytes(), sink)
+    }
+}
+
+/// Writes each byte as a backslash and three octal digits.
+fn write_octals<S: Sink>(bytes: &[u8], sink: &mut S)
+    requires { S.rules.has_room sink.old (flat_map octal_text bytes.now) }
+    ensures { S.rules.took sink.old (flat_map octal_text bytes.now) sink.new }
+{
+    for byte in bytes {
+        write_octal(*byte as u16, sink);
+    }
+}
+
+/// Writes a backslash and three octal digits.
+fn write_octal<S: Sink>(number: u16, sink: &mut S)
+    requires { S.rules.has_room sink.old (octal_text number) }
+    ensures { S.rules.took sink.old (octal_text number) sink.new }
+{
+    let text = [
+        b'\\',
+        octal_digit(number / 64 % 8),
+        octal_digit(number / 8 % 8),
+        octal_digit(number % 8),
+    ];
+    take_ascii(&text, sink)
+}
+
+/// Writes ASCII bytes, which are text.
+fn take_ascii<S: Sink>(bytes: &[u8], sink: &mut S)
+    requires ascii { AllByRecursion (λ b. b < 0x80) bytes.now }
+    requires room { S.rules.has_room sink.old bytes.now }
+    ensures { S.rules.took sink.old bytes.now sink.new }
+{
+    sink.take(bytes)
+}
