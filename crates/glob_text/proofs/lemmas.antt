@@ -1,4 +1,3 @@
-pub mod Advancing
 pub mod Backwards
 pub mod Braces
 pub mod Choices
@@ -7,9 +6,10 @@ pub mod EscapedLetters
 pub mod EscapedMarks
 pub mod EscapedMeaning
 pub mod Folding
-pub mod Mapped
 pub mod Meanings
 pub mod Names
 pub mod Pieces
 pub mod Readings
 pub mod Sizes
+pub mod Nodes
+pub mod Written

@@ -8,9 +8,9 @@ pub mod Braces
 pub mod BraceSteps
 pub mod Alternatives
 pub mod Chosen
-pub mod ChoiceSteps
 pub mod Backwards
 pub mod Sizes
+pub mod Nodes
 pub mod Parts
 pub mod Meaning
 pub mod Folded

@@ -1,14 +1,18 @@
 //! Writes out a pattern as patterns without alternatives.
-ghost use Rattle.std.specs.Prelude.{◌≡◌, ◌++◌, ◌∷◌, [], true, map, IfOk, OnOk};
+//!
+//! The marks are read from the last to the first. What the marks behind a place are written out as
+//! is a node, which refers to other nodes. So each mark takes a constant time and adds at most one
+//! node. Then the choices are read from the nodes, and each mark of a choice is read once.
+ghost use Rattle.std.specs.Prelude.{◌≡◌, true, map, IfOk, MatchOption, OnOk};
 ghost use Rattle.glob_text.specs.Marks.{mark_of};
 ghost use Rattle.glob_text.specs.Braces.{are_balanced};
-ghost use Rattle.glob_text.specs.Alternatives.{each, product, AreChoices};
+ghost use Rattle.glob_text.specs.Alternatives.{AreTooMany};
 ghost use Rattle.glob_text.specs.Chosen.{choices_of};
-ghost use Rattle.glob_text.specs.ChoiceSteps.{indices_of, state_of, after_open, after_comma, after_close, advanced};
+ghost use Rattle.glob_text.specs.Nodes.{added, comma_in, drawing_of, node_at, open_in, opened_of, stepped, with_found, with_one, writing_of, IsDrawingOf, IsWrittenOut};
 
 use crate::mark::Mark;
+use crate::size::Size;
 use std::alloc::{AllocError, Allocator, Global};
-use std::mem::replace;
 
 /// A pattern without alternatives: the indices of its marks.
 #[derive(Drop)]
@@ -16,191 +20,212 @@ pub struct Chosen<A: Allocator = Global> {
     pub marks: Vec<usize, A>,
 }
 
-/// Alternatives that aren't closed.
+/// Counted. Other nodes are given by their indices, which are lower.
+#[derive(Clone, Copy)]
+enum Node {
+    /// One choice without marks.
+    End,
+    /// The index of a mark, and the choices that it comes before.
+    One(usize, usize),
+    /// Counted, and others after them.
+    Both(usize, usize),
+}
+
+/// Counted, by their node.
+#[derive(Clone, Copy)]
+struct Counted {
+    node: usize,
+    size: Size,
+}
+
+/// Alternatives that are read from their `}` on.
+#[derive(Clone, Copy)]
+struct Group {
+    // What comes after them.
+    after: Counted,
+    // The alternatives that are whole, each with what comes after it.
+    found: Option<Counted>,
+}
+
+/// What the marks that are read are written out as.
 #[derive(Drop)]
-struct Group<A: Allocator = Global> {
-    // The choices of the alternatives that are whole.
-    found: Vec<Chosen<A>, A>,
-    // Those of what is before the brace.
-    outer: Vec<Chosen<A>, A>,
+struct Drawing<A: Allocator = Global> {
+    nodes: Vec<Node, A>,
+    // The alternatives that are read, the innermost last.
+    groups: Vec<Group, A>,
+    current: Counted,
 }
 
-/// How far the choices have been found.
+/// A choice that is being written: the indices of its marks so far, and the node of how it goes on.
 #[derive(Drop)]
-struct Found<A: Allocator = Global> {
-    // The alternatives that are open, the innermost last.
-    groups: Vec<Group<A>, A>,
-    // The choices of what comes last.
-    current: Vec<Chosen<A>, A>,
+struct Opened<A: Allocator = Global> {
+    marks: Vec<usize, A>,
+    node: usize,
 }
 
-/// Returns the one choice without marks, with capacity for `room` marks.
-fn nothing<A: Allocator + Copy>(alloc: A, room: usize) -> Result<Vec<Chosen<A>, A>, AllocError>
-    ensures { IfOk result (λ choices. indices_of choices.items ≡ [] ∷ []) }
-{
-    let mut choices = Vec::new(alloc);
-    choices.push(Chosen {
-        marks: Vec::with_capacity(alloc, room)?,
-    })?;
-    Ok(choices)
-}
-
-/// Adds a mark to each of the choices.
-fn push_mark<A: Allocator>(choices: &mut Vec<Chosen<A>, A>, mark: usize) -> Result<(), AllocError>
-    ensures { OnOk result
-        (indices_of choices.new.items ≡ each (indices_of choices.old.items) mark) }
-{
-    let mut at = 0;
-    while at < choices.len() {
-        choices[at].marks.push(mark)?;
-        at += 1;
+impl<A: Allocator> Drawing<A> {
+    /// Puts a mark before each choice.
+    fn add_one(&mut self, index: usize) -> Result<(), AllocError>
+        ensures { OnOk result (drawing_of self.new ≡ with_one (drawing_of self.old) index) }
+    {
+        let node = self.nodes.len();
+        self.nodes.push(Node::One(index, self.current.node))?;
+        self.current = Counted {
+            node,
+            size: self.current.size.with_mark(),
+        };
+        Ok(())
     }
-    Ok(())
-}
 
-/// A choice, and after it another.
-fn joined<A: Allocator + Copy>(
-    alloc: A,
-    first: &Chosen<A>,
-    second: &Chosen<A>,
-) -> Result<Chosen<A>, AllocError>
-    ensures { IfOk result
-        (λ both. both.marks.items ≡ first.now.marks.items ++ second.now.marks.items) }
-{
-    let mut marks = Vec::new(alloc);
-    marks.extend_from_slice(&first.marks)?;
-    marks.extend_from_slice(&second.marks)?;
-    Ok(Chosen { marks })
-}
-
-/// Appends a choice, with each of others after it.
-fn push_each<A: Allocator + Copy>(
-    alloc: A,
-    choices: &mut Vec<Chosen<A>, A>,
-    first: &Chosen<A>,
-    others: &[Chosen<A>],
-) -> Result<(), AllocError>
-    ensures { IfOk result (λ _. indices_of choices.new.items ≡ indices_of choices.old.items
-        ++ map (λ other. first.now.marks.items ++ other) (indices_of others.entry.now)) }
-{
-    let mut left = others;
-    while let Some((second, rest)) = left.split_first() {
-        let both = joined(alloc, first, second)?;
-        choices.push(both)?;
-        left = rest;
+    /// Adds the choices that were found before, after those of now.
+    fn add_found(&mut self, found: Option<Counted>) -> Result<(), AllocError>
+        ensures { OnOk result (drawing_of self.new ≡ with_found (drawing_of self.old) found) }
+    {
+        let Some(found) = found else { return Ok(()) };
+        let node = self.nodes.len();
+        self.nodes.push(Node::Both(self.current.node, found.node))?;
+        self.current = Counted {
+            node,
+            size: self.current.size.and(found.size),
+        };
+        Ok(())
     }
-    Ok(())
-}
 
-/// Each choice of the first, and after it each of the second.
-fn product<A: Allocator + Copy>(
-    alloc: A,
-    first: &[Chosen<A>],
-    second: &[Chosen<A>],
-) -> Result<Vec<Chosen<A>, A>, AllocError>
-    ensures { IfOk result (λ choices. indices_of choices.items
-        ≡ product (indices_of first.entry.now) (indices_of second.now)) }
-{
-    let mut choices = Vec::new(alloc);
-    let mut left = first;
-    while let Some((choice, rest)) = left.split_first() {
-        push_each(alloc, &mut choices, choice, second)?;
-        left = rest;
+    /// Adds a comma.
+    fn add_comma(&mut self, index: usize) -> Result<(), AllocError>
+        ensures { OnOk result (drawing_of self.new
+            ≡ comma_in (drawing_of self.old).groups (drawing_of self.old) index) }
+    {
+        let Some(group) = self.groups.pop() else {
+            return self.add_one(index);
+        };
+        self.add_found(group.found)?;
+        self.groups.push(Group {
+            after: group.after,
+            found: Some(self.current),
+        })?;
+        self.current = group.after;
+        Ok(())
     }
-    Ok(choices)
+
+    /// Adds a `{`.
+    fn add_open(&mut self) -> Result<(), AllocError>
+        ensures { OnOk result (drawing_of self.new
+            ≡ open_in (drawing_of self.old).groups (drawing_of self.old)) }
+    {
+        match self.groups.pop() {
+            Some(group) => self.add_found(group.found),
+            None => Ok(()),
+        }
+    }
+
+    /// Adds the mark of this index, which comes before those that were read.
+    fn add(&mut self, mark: &Mark<A>, index: usize) -> Result<(), AllocError>
+        ensures { OnOk result (drawing_of self.new
+            ≡ added (drawing_of self.old) (mark_of mark.now) index) }
+    {
+        match mark {
+            Mark::Close(_) => self.groups.push(Group {
+                after: self.current,
+                found: None,
+            })?,
+            Mark::Comma => self.add_comma(index)?,
+            Mark::Open(_) => self.add_open()?,
+            Mark::Literal(_) => self.add_one(index)?,
+            Mark::Any => self.add_one(index)?,
+            Mark::Star(_) => self.add_one(index)?,
+            Mark::OneOf(_) => self.add_one(index)?,
+        }
+        Ok(())
+    }
 }
 
-/// After a `{`.
-fn after_open<A: Allocator + Copy>(alloc: A, found: &mut Found<A>) -> Result<(), AllocError>
-    ensures { OnOk result (state_of found.new ≡ after_open (state_of found.old)) }
+/// Reads marks.
+fn read_marks<A: Allocator + Copy>(alloc: A, marks: &[Mark<A>]) -> Result<Drawing<A>, AllocError>
+    ensures { IfOk result (λ drawing. IsDrawingOf (map mark_of marks.entry.now)
+        (drawing_of drawing)) }
 {
-    let outer = replace(&mut found.current, nothing(alloc, 0)?);
-    found.groups.push(Group {
-        found: Vec::new(alloc),
-        outer,
-    })?;
-    Ok(())
-}
-
-/// After a comma.
-fn after_comma<A: Allocator + Copy>(
-    alloc: A,
-    found: &mut Found<A>,
-    mark: usize,
-) -> Result<(), AllocError>
-    ensures { OnOk result (state_of found.new ≡ after_comma (state_of found.old) mark) }
-{
-    let Some(group) = found.groups.pop() else {
-        return push_mark(&mut found.current, mark);
+    let mut nodes = Vec::new(alloc);
+    nodes.push(Node::End)?;
+    let mut drawing = Drawing {
+        nodes,
+        groups: Vec::new(alloc),
+        current: Counted {
+            node: 0,
+            size: Size::nothing(),
+        },
     };
-    let Group {
-        found: mut whole,
-        outer,
-    } = group;
-    whole.append(&mut found.current)?;
-    found.groups.push(Group {
-        found: whole,
-        outer,
-    })?;
-    found.current = nothing(alloc, 0)?;
-    Ok(())
+    let mut left = marks;
+    while let Some((mark, before)) = left.split_last() {
+        drawing.add(mark, before.len())?;
+        left = before;
+    }
+    Ok(drawing)
 }
 
-/// After a `}`.
-fn after_close<A: Allocator + Copy>(alloc: A, found: &mut Found<A>) -> Result<(), AllocError>
-    ensures { OnOk result (state_of found.new ≡ after_close (state_of found.old)) }
+/// The node of an index.
+fn node_at(nodes: &[Node], index: usize) -> Node
+    ensures { result ≡ node_at nodes.now index }
 {
-    let Some(group) = found.groups.pop() else {
-        return Ok(());
-    };
-    let Group {
-        found: mut whole,
-        outer,
-    } = group;
-    whole.append(&mut found.current)?;
-    found.current = product(alloc, &outer, &whole)?;
-    Ok(())
-}
-
-/// After one more mark, of this index.
-fn advance<A: Allocator + Copy>(
-    alloc: A,
-    found: &mut Found<A>,
-    mark: &Mark<A>,
-    index: usize,
-) -> Result<(), AllocError>
-    ensures { OnOk result
-        (state_of found.new ≡ advanced (state_of found.old) (mark_of mark.now) index) }
-{
-    match mark {
-        Mark::Open(_) => after_open(alloc, found),
-        Mark::Comma => after_comma(alloc, found, index),
-        Mark::Close(_) => after_close(alloc, found),
-        Mark::Literal(_) => push_mark(&mut found.current, index),
-        Mark::Any => push_mark(&mut found.current, index),
-        Mark::Star(_) => push_mark(&mut found.current, index),
-        Mark::OneOf(_) => push_mark(&mut found.current, index),
+    match nodes.get(index) {
+        Some(node) => *node,
+        None => Node::End,
     }
 }
 
-/// The choices of marks whose braces are closed.
+/// Goes on with a choice by one node.
+fn go_on<A: Allocator + Copy>(
+    alloc: A,
+    nodes: &[Node],
+    one: Opened<A>,
+    opened: &mut Vec<Opened<A>, A>,
+    written: &mut Vec<Chosen<A>, A>,
+) -> Result<(), AllocError>
+    ensures { OnOk result (writing_of opened.new.items written.new.items
+        ≡ stepped (node_at nodes.now one.node) (opened_of one)
+        (writing_of opened.old.items written.old.items)) }
+{
+    let Opened { mut marks, node } = one;
+    match node_at(nodes, node) {
+        Node::End => written.push(Chosen { marks })?,
+        Node::One(index, next) => {
+            marks.push(index)?;
+            opened.push(Opened { marks, node: next })?;
+        }
+        Node::Both(first, second) => {
+            let copy = Vec::from_slice(alloc, &marks)?;
+            opened.push(Opened {
+                marks: copy,
+                node: second,
+            })?;
+            opened.push(Opened { marks, node: first })?;
+        }
+    }
+    Ok(())
+}
+
+/// The choices of marks whose braces are closed, or `None` if they are too large.
 pub(crate) fn choices<A: Allocator + Copy>(
     alloc: A,
     marks: &[Mark<A>],
-) -> Result<Vec<Chosen<A>, A>, AllocError>
+) -> Result<Option<Vec<Chosen<A>, A>>, AllocError>
     requires { are_balanced 0 (map mark_of marks.now) ≡ true }
-    ensures { IfOk result (λ choices. AreChoices (map mark_of marks.entry.now)
-        (choices_of (map mark_of marks.entry.now) choices.items)) }
+    ensures { IfOk result (λ written. MatchOption written (AreTooMany (map mark_of marks.entry.now))
+        (λ choices. IsWrittenOut (map mark_of marks.entry.now)
+        (choices_of (map mark_of marks.entry.now) choices.items))) }
 {
-    let mut found = Found {
-        groups: Vec::new(alloc),
-        current: nothing(alloc, marks.len())?,
-    };
-    let mut left = marks;
-    while let Some((mark, rest)) = left.split_first() {
-        let index = marks.len() - left.len();
-        advance(alloc, &mut found, mark, index)?;
-        left = rest;
+    let drawing = read_marks(alloc, marks)?;
+    if drawing.current.size.is_too_large() {
+        return Ok(None);
     }
-    Ok(found.current)
+    let mut written = Vec::new(alloc);
+    let mut opened = Vec::new(alloc);
+    opened.push(Opened {
+        marks: Vec::new(alloc),
+        node: drawing.current.node,
+    })?;
+    while let Some(one) = opened.pop() {
+        go_on(alloc, &drawing.nodes, one, &mut opened, &mut written)?;
+    }
+    Ok(Some(written))
 }

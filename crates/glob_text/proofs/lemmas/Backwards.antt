@@ -8,11 +8,11 @@ use Rattle.glob_text.specs.Alternatives.{each, product, Level, sequence, alterna
 use Rattle.glob_text.specs.Backwards.{Pending, Behind, each_after, choices_before, choices_behind, at_end}
 
 module _ {X : Type 0} where
-  map_alike : (f g : List X → List X) → ((d : List X) → f d ≡ g d) → (ds : List (List X)) → map f ds ≡ map g ds
+  pub map_alike : (f g : List X → List X) → ((d : List X) → f d ≡ g d) → (ds : List (List X)) → map f ds ≡ map g ds
   map_alike f g e [] = refl
   map_alike f g e (d ∷ ds) = ap (λ z. z ∷ map f ds) (e d) ∙ ap (λ z. g d ∷ z) (map_alike f g e ds)
 
-  map_itself : (ds : List (List X)) → map (λ d. [] ++ d) ds ≡ ds
+  pub map_itself : (ds : List (List X)) → map (λ d. [] ++ d) ds ≡ ds
   map_itself [] = refl
   map_itself (d ∷ ds) = ap (λ z. d ∷ z) (map_itself ds)
 
