@@ -5,5 +5,6 @@ pub mod NeverBoth
 pub mod ReadOnce
 pub mod Refusals
 pub mod Requests
+pub mod Shown
 pub mod Surplus
 pub mod TaskNames

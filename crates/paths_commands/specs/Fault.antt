@@ -1,5 +1,5 @@
 -- The text of each reason why a path or the arguments are rejected.
-use Rattle.std.specs.Prelude.{ℕ, List, ◌++◌, codes, decimal}
+use Rattle.std.specs.Prelude.{ℕ, ◌+◌, ◌-◌, ◌^◌, min, List, ◌++◌, codes, decimal}
 use Rattle.std.specs.Fmt.Cut.{IsTextOrCut}
 use Rattle.std.specs.Fmt.InlineText.{inline_text}
 use Rattle.os_str_bytes.specs.FaultText.{fault_text}
@@ -11,13 +11,17 @@ use Rattle.paths_commands.specs.declared.fault.CommandFault.TheVariants.{Unreada
 use Rattle.program_frame.specs.Misuse.{misuse_text}
 use Rattle.program_frame.specs.declared.misuse.Misuse as misuse
 
+-- what the program prints of a component, at this index, that the other platform can't have: its number, from 1, and its escape
+abbrev pub unlike_text : ℕ → List ℕ → List ℕ
+unlike_text index text = codes "a path there can't have component " ++ (decimal (min (index + 1) (2 ^ 64 - 1)) ++ (codes ", '" ++ (text ++ codes "'")))
+
 -- what the program prints of the reason why a path is rejected
 abbrev pub refusal_text : Refusal → List ℕ
 refusal_text (NoString error) = fault_text error
 refusal_text NoNormalForm = codes "no name before a .."
 refusal_text NoRelativePath = codes "no path from the base leads there"
 refusal_text (NoJoin error) = join_error_text error
-refusal_text (NoComponent index) = codes "no path there can have the component at index " ++ decimal index
+refusal_text (NoComponent index text) = unlike_text index (inline_text text)
 refusal_text (NoStringThere error) = codes "no path there: " ++ fault_text error
 
 -- what the program prints of why it ends, beside faults of lists

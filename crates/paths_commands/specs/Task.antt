@@ -1,5 +1,7 @@
 -- What each task requests of a path, and with which faults a path is rejected.
-use Rattle.std.specs.Prelude.{◌≡◌, ◌≢◌, ◌⊎◌, ℕ, List, [], ◌∷◌, ◌++◌, codes, Some, None}
+use Rattle.std.specs.Prelude.{◌≡◌, ◌≢◌, ◌⊎◌, ℕ, ◌≤◌, List, [], ◌∷◌, ◌++◌, codes, length, Some, None}
+use Rattle.std.specs.Fmt.Cut.{IsTextOrCut}
+use Rattle.std.specs.Fmt.InlineText.{inline_text}
 use Rattle.std.specs.Borrow.{Bor}
 use Rattle.os_str_bytes.specs.Platform.{Ghosts}
 use Rattle.os_str_bytes.specs.EncodingError.{EncodingError}
@@ -112,32 +114,18 @@ IsAnswer style (JoinChecked base) path answer = IsJoinedBelow style base.now pat
 IsAnswer style (Relative base) path answer = IsRelativeFrom style path base.now (Some answer)
 IsAnswer style (Convert to) path answer = (strings to).well_formed answer × IsRestyled style (style_of to) path answer
 
--- why there is no path of another platform with the path's components: it can't have one of them, or the bytes aren't a string of it
-abbrev pub IsUnconverted : Style → Style → (List ℕ → EncodingError → Type 0) → List ℕ → Refusal → Type 0
-IsUnconverted from to is_fault path (refusal.NoString error) = ⊥
-IsUnconverted from to is_fault path refusal.NoNormalForm = ⊥
-IsUnconverted from to is_fault path refusal.NoRelativePath = ⊥
-IsUnconverted from to is_fault path (refusal.NoJoin error) = ⊥
-IsUnconverted from to is_fault path (refusal.NoComponent index) = IsConvertFault from to is_fault path (convert.Component index)
-IsUnconverted from to is_fault path (refusal.NoStringThere error) = IsConvertFault from to is_fault path (convert.Encoding error)
-
 -- why a path isn't joined to the base, other than that an allocation failed
 abbrev pub IsUnjoined : Style → List ℕ → List ℕ → Refusal → Type 0
 IsUnjoined style base path (refusal.NoString error) = ⊥
 IsUnjoined style base path refusal.NoNormalForm = ⊥
 IsUnjoined style base path refusal.NoRelativePath = ⊥
 IsUnjoined style base path (refusal.NoJoin error) = (error ≢ join.Memory) × IsJoinFault style base path error
-IsUnjoined style base path (refusal.NoComponent index) = ⊥
+IsUnjoined style base path (refusal.NoComponent index text) = ⊥
 IsUnjoined style base path (refusal.NoStringThere error) = ⊥
 
--- why there is no result for a string of the platform
-abbrev pub IsUnanswered : Style → Task → List ℕ → Refusal → Type 0
-IsUnanswered style task path (refusal.NoString error) = ⊥
-IsUnanswered style task path refusal.NoNormalForm = (task ≡ Normalize) × HasNoNormalForm style path
-IsUnanswered style task path refusal.NoRelativePath = (base : Bor (List ℕ)) × ((task ≡ Relative base) × IsRelativeFrom style path base.now None)
-IsUnanswered style task path (refusal.NoJoin error) = (base : Bor (List ℕ)) × ((task ≡ JoinChecked base) × IsUnjoined style base.now path (refusal.NoJoin error))
-IsUnanswered style task path (refusal.NoComponent index) = (to : Os) × ((task ≡ Convert to) × IsUnconverted style (style_of to) (strings to).first_fault path (refusal.NoComponent index))
-IsUnanswered style task path (refusal.NoStringThere error) = (to : Os) × ((task ≡ Convert to) × IsUnconverted style (style_of to) (strings to).first_fault path (refusal.NoStringThere error))
+-- the component at this index is this one
+abbrev pub IsAt : List Item → ℕ → Item → Type 0
+IsAt items index item = (before : List Item) × ((after : List Item) × ((items ≡ before ++ item ∷ after) × (length before ≡ index)))
 
 -- on a platform that states this of its strings, and whose paths follow these rules:
 module _ {E : Type 0} (p : Ghosts E) (style : Style) where
@@ -166,14 +154,42 @@ module _ {E : Type 0} (p : Ghosts E) (style : Style) where
   abbrev pub IsText : Task → List ℕ → List ℕ → Type 0
   IsText task path text = p.well_formed path × IsPathText task path text
 
+  -- what is shown of the component at this index: its escape, which is cut if it is longer than 200 bytes
+  abbrev pub IsShown : List Item → ℕ → List ℕ → Type 0
+  IsShown items index text =
+      ((item : Item) × (IsAt items index item × ((line : List ℕ) × (IsLineEscape p.units (component_text style item) line × IsTextOrCut 200 line text))))
+      ⊎ ((length items ≤ index) × (text ≡ []))
+
+  -- the same, of a path's components
+  abbrev pub IsShownOf : List ℕ → ℕ → List ℕ → Type 0
+  IsShownOf path index text = (items : List Item) × (AreComponents style path items × IsShown items index text)
+
+  -- why there is no path of another platform with the path's components: it can't have one of them, or the bytes aren't a string of it
+  abbrev pub IsUnconverted : Style → (List ℕ → EncodingError → Type 0) → List ℕ → Refusal → Type 0
+  IsUnconverted to is_fault path (refusal.NoString error) = ⊥
+  IsUnconverted to is_fault path refusal.NoNormalForm = ⊥
+  IsUnconverted to is_fault path refusal.NoRelativePath = ⊥
+  IsUnconverted to is_fault path (refusal.NoJoin error) = ⊥
+  IsUnconverted to is_fault path (refusal.NoComponent index text) = IsConvertFault style to is_fault path (convert.Component index) × IsShownOf path index (inline_text text)
+  IsUnconverted to is_fault path (refusal.NoStringThere error) = IsConvertFault style to is_fault path (convert.Encoding error)
+
+  -- why there is no result for a string of the platform
+  abbrev pub IsUnanswered : Task → List ℕ → Refusal → Type 0
+  IsUnanswered task path (refusal.NoString error) = ⊥
+  IsUnanswered task path refusal.NoNormalForm = (task ≡ Normalize) × HasNoNormalForm style path
+  IsUnanswered task path refusal.NoRelativePath = (base : Bor (List ℕ)) × ((task ≡ Relative base) × IsRelativeFrom style path base.now None)
+  IsUnanswered task path (refusal.NoJoin error) = (base : Bor (List ℕ)) × ((task ≡ JoinChecked base) × IsUnjoined style base.now path (refusal.NoJoin error))
+  IsUnanswered task path (refusal.NoComponent index text) = (to : Os) × ((task ≡ Convert to) × IsUnconverted (style_of to) (strings to).first_fault path (refusal.NoComponent index text))
+  IsUnanswered task path (refusal.NoStringThere error) = (to : Os) × ((task ≡ Convert to) × IsUnconverted (style_of to) (strings to).first_fault path (refusal.NoStringThere error))
+
   -- why a path is rejected: the first fault of bytes that aren't a string, or why there is no result
   abbrev pub IsRefusal : Task → List ℕ → Refusal → Type 0
   IsRefusal task path (refusal.NoString error) = p.first_fault path error
-  IsRefusal task path refusal.NoNormalForm = IsUnanswered style task path refusal.NoNormalForm
-  IsRefusal task path refusal.NoRelativePath = IsUnanswered style task path refusal.NoRelativePath
-  IsRefusal task path (refusal.NoJoin error) = IsUnanswered style task path (refusal.NoJoin error)
-  IsRefusal task path (refusal.NoComponent index) = IsUnanswered style task path (refusal.NoComponent index)
-  IsRefusal task path (refusal.NoStringThere error) = IsUnanswered style task path (refusal.NoStringThere error)
+  IsRefusal task path refusal.NoNormalForm = IsUnanswered task path refusal.NoNormalForm
+  IsRefusal task path refusal.NoRelativePath = IsUnanswered task path refusal.NoRelativePath
+  IsRefusal task path (refusal.NoJoin error) = IsUnanswered task path (refusal.NoJoin error)
+  IsRefusal task path (refusal.NoComponent index text) = IsUnanswered task path (refusal.NoComponent index text)
+  IsRefusal task path (refusal.NoStringThere error) = IsUnanswered task path (refusal.NoStringThere error)
 
   -- what is done with each path of at most `max` bytes
   abbrev pub rules_of : Task → ℕ → ListRules Refusal

@@ -1,14 +1,18 @@
 //! The components of a path, one a line.
-ghost use Rattle.std.specs.Prelude.{◌≡◌, ◌∷◌, ◌++◌, [], ℕ, List, OnOk, OnErr};
+ghost use Rattle.std.specs.Prelude.{◌≡◌, ◌∷◌, ◌++◌, [], ℕ, List, MatchOption, OnOk, OnErr, length, ◌≤◌};
+ghost use Rattle.std.specs.Fmt.InlineText.{inline_text};
 ghost use Rattle.os_path.specs.Views.{os_item_of};
 ghost use Rattle.platform_str.specs.Strings.{bytes, path_bytes};
 ghost use Rattle.path_rules.specs.StyleRules.{main_separator};
-ghost use Rattle.paths_commands.specs.Task.{AreLines, IsComponentsText, component_text};
+ghost use Rattle.paths_commands.specs.Task.{AreLines, IsAt, IsComponentsText, IsShown, IsShownOf, component_text};
 
+use crate::fault::SHOWN;
 use os_path::{Component, Components, PathExt, PathStyle, Style};
+use os_quote::escaped_line;
 use os_str_bytes::{OsStr, Path, Platform};
 use program_frame::lists::lines::push_line;
 use std::alloc::{AllocError, Allocator};
+use std::fmt::InlineText;
 
 /// Appends the escape of each component of a path on a line, and an empty line.
 ///
@@ -45,6 +49,43 @@ fn push_lines<'a, E: PathStyle, A: Allocator + Copy>(
         push_line(alloc, component_text(component), text)?;
     }
     Ok(())
+}
+
+/// The escape of a path's component at this index, or nothing if it has no such component.
+pub fn shown_component<E: PathStyle>(path: Path<'_, E>, index: usize) -> InlineText<SHOWN>
+    ensures { IsShownOf ⟦<E as Platform>⟧ E.follows (path_bytes path.entry) index
+        (inline_text result) }
+{
+    shown_at(path.components(), index)
+}
+
+/// The escape of the component at this index, or nothing if there is none.
+fn shown_at<'a, E: PathStyle>(components: Components<'a, E>, index: usize) -> InlineText<SHOWN>
+    ensures { IsShown ⟦<E as Platform>⟧ E.follows components.entry.items index
+        (inline_text result) }
+{
+    match component_at(components, index) {
+        Some(component) => InlineText::of(escaped_line(component_text(component))),
+        None => InlineText::new(),
+    }
+}
+
+/// The component at this index.
+fn component_at<'a, E: PathStyle>(
+    components: Components<'a, E>,
+    index: usize,
+) -> Option<Component<OsStr<'a, E>>>
+    ensures { MatchOption result (length components.entry.items ≤ index)
+        (λ component. IsAt components.entry.items index (os_item_of component)) }
+{
+    let mut left = index;
+    for component in components {
+        if left == 0 {
+            return Some(component);
+        }
+        left -= 1;
+    }
+    None
 }
 
 /// A component as it is written.

@@ -1,5 +1,8 @@
 //! What keeps the program from its output.
-ghost use Rattle.paths_commands.specs.Fault.{IsOfMisuse};
+ghost use Rattle.std.specs.Prelude.{◌++◌, codes};
+ghost use Rattle.std.specs.Fmt.{WritesStyledOnOk};
+ghost use Rattle.std.specs.Fmt.InlineText.{inline_text};
+ghost use Rattle.paths_commands.specs.Fault.{IsOfMisuse, unlike_text};
 
 use os_path::JoinError;
 use os_str_bytes::EncodingError;
@@ -11,8 +14,11 @@ use program_frame::misuse::Misuse;
 use std::fmt;
 use std::fmt::{Display as _, InlineText};
 
+/// How many bytes of a component's escape are printed. A longer one is cut, and ends in three dots.
+pub const SHOWN: usize = 200;
+
 /// Why a path is rejected.
-#[derive(Clone, Copy, PartialEq, Eq)]
+#[derive(Clone, Copy)]
 pub enum Refusal {
     /// It isn't a string of the platform: the first fault of its bytes.
     NoString(EncodingError),
@@ -22,8 +28,9 @@ pub enum Refusal {
     NoRelativePath,
     /// It isn't joined to the base, for this reason, which is never that an allocation failed.
     NoJoin(JoinError),
-    /// The other platform's paths can't have the component at this index, the first such.
-    NoComponent(usize),
+    /// The other platform's paths can't have the component at this index, the first such. The text
+    /// is its escape.
+    NoComponent(usize, InlineText<SHOWN>),
     /// The bytes with its components aren't a string of the other platform: their first fault.
     NoStringThere(EncodingError),
 }
@@ -81,16 +88,37 @@ impl ItemRefusal for Refusal {
             Refusal::NoNormalForm => f.write_str("no name before a .."),
             Refusal::NoRelativePath => f.write_str("no path from the base leads there"),
             Refusal::NoJoin(error) => error.fmt(f),
-            Refusal::NoComponent(index) => {
-                f.write_str("no path there can have the component at index ")?;
-                write_number(index, f)
-            }
+            Refusal::NoComponent(index, text) => write_component(index, &text, f),
             Refusal::NoStringThere(error) => {
                 f.write_str("no path there: ")?;
                 error.fmt(f)
             }
         }
     }
+}
+
+/// Writes which component a path of another platform can't have, counted from 1.
+fn write_component<W: fmt::Write>(
+    index: usize,
+    text: &InlineText<SHOWN>,
+    f: &mut fmt::Formatter<W>,
+) -> fmt::Result
+    ensures { WritesStyledOnOk W.write_str_gives f.old result
+        (unlike_text index (inline_text text.now)) f.new }
+{
+    f.write_str("a path there can't have component ")?;
+    write_number(index.saturating_add(1), f)?;
+    write_quoted(text.as_str(), f)
+}
+
+/// Writes a comma and a text between quotes.
+fn write_quoted<W: fmt::Write>(text: &str, f: &mut fmt::Formatter<W>) -> fmt::Result
+    ensures { WritesStyledOnOk W.write_str_gives f.old result
+        (codes ", '" ++ (text.now ++ codes "'")) f.new }
+{
+    f.write_str(", '")?;
+    f.write_str(text)?;
+    f.write_str("'")
 }
 
 impl WordsRefusal for CommandFault {

@@ -16,7 +16,7 @@ ghost use Rattle.paths_commands.specs.Task.{rules_of, IsText, IsPathText, IsComp
 ghost use Rattle.platform_str.specs.Strings.{path_bytes};
 
 use crate::answers::{parent, part};
-use crate::components::push_components;
+use crate::components::{push_components, shown_component};
 use crate::fault::Refusal;
 use crate::task::Task;
 use os_path::{ConvertError, JoinError, NormalizeError, PathExt, PathStyle};
@@ -57,7 +57,8 @@ fn write_path<E: PathStyle, A: Allocator + Copy>(
         × (IsPathText ⟦<E as Platform>⟧ E.follows task.entry (path_bytes path.entry) text
         × (output.new.items ≡ output.old.items ++ text))) }
     ensures fault { IfErr result (λ fault. (fault ≡ Memory) ⊎ ((why : why.Refusal)
-        × ((fault ≡ Refused why) × IsUnanswered E.follows task.entry (path_bytes path.entry) why))) }
+        × ((fault ≡ Refused why) × IsUnanswered ⟦<E as Platform>⟧ E.follows task.entry
+        (path_bytes path.entry) why))) }
     ensures unchanged { OnErr result (output.new.items ≡ output.old.items) }
 {
     match task {
@@ -213,7 +214,7 @@ fn write_on<E: PathStyle, A: Allocator + Copy>(
         × IsRestyled E.follows (style_of to) (path_bytes path.entry) made)
         × (output.new.items ≡ output.old.items ++ (made ++ 0 ∷ [])))) }
     ensures fault { IfErr result (λ fault. (fault ≡ Memory) ⊎ ((why : why.Refusal)
-        × ((fault ≡ Refused why) × IsUnconverted E.follows (style_of to)
+        × ((fault ≡ Refused why) × IsUnconverted ⟦<E as Platform>⟧ E.follows (style_of to)
         (strings to).first_fault (path_bytes path.entry) why))) }
     ensures unchanged { OnErr result (output.new.items ≡ output.old.items) }
 {
@@ -234,15 +235,16 @@ fn write_converted<E: PathStyle, F: PathStyle, A: Allocator + Copy>(
         × IsRestyled E.follows F.follows (path_bytes path.entry) made)
         × (output.new.items ≡ output.old.items ++ (made ++ 0 ∷ [])))) }
     ensures fault { IfErr result (λ fault. (fault ≡ Memory) ⊎ ((why : why.Refusal)
-        × ((fault ≡ Refused why)
-        × IsUnconverted E.follows F.follows F.first_fault (path_bytes path.entry) why))) }
+        × ((fault ≡ Refused why) × IsUnconverted ⟦<E as Platform>⟧ E.follows F.follows
+        F.first_fault (path_bytes path.entry) why))) }
     ensures unchanged { OnErr result (output.new.items ≡ output.old.items) }
 {
     match path.with_style::<F, A>(alloc) {
         Ok(made) => write_answer(made.as_os_str().as_encoded_bytes(), output),
-        Err(ConvertError::Component(index)) => {
-            Err(ItemFault::Refused(Refusal::NoComponent(index)))
-        }
+        Err(ConvertError::Component(index)) => Err(ItemFault::Refused(Refusal::NoComponent(
+            index,
+            shown_component(path, index),
+        ))),
         Err(ConvertError::Encoding(fault)) => {
             Err(ItemFault::Refused(Refusal::NoStringThere(fault)))
         }

@@ -13,29 +13,29 @@ use Rattle.paths_commands.specs.declared.task.Task.{Task}
 use Rattle.paths_commands.specs.declared.task.Task.TheVariants.{Convert, JoinChecked}
 
 -- a string without a result is rejected
-pub unanswered_refused : {E : Type 0} (p : Ghosts E) (style : Style) (task : Task) (path : List ℕ) (why : Refusal) → IsUnanswered style task path why → IsRefusal p style task path why
+pub unanswered_refused : {E : Type 0} (p : Ghosts E) (style : Style) (task : Task) (path : List ℕ) (why : Refusal) → IsUnanswered p style task path why → IsRefusal p style task path why
 unanswered_refused p style task path (NoString error) none = absurd none
 unanswered_refused p style task path NoNormalForm none = none
 unanswered_refused p style task path NoRelativePath none = none
 unanswered_refused p style task path (NoJoin error) none = none
-unanswered_refused p style task path (NoComponent index) none = none
+unanswered_refused p style task path (NoComponent index text) none = none
 unanswered_refused p style task path (NoStringThere error) none = none
 
 -- a path that has no path of the other platform has no result
-pub unconverted_unanswered : (style : Style) (task : Task) (to : Os) (path : List ℕ) (why : Refusal) → task ≡ Convert to
-    → IsUnconverted style (style_of to) (strings to).first_fault path why → IsUnanswered style task path why
-unconverted_unanswered style task to path (NoString error) is none = none
-unconverted_unanswered style task to path NoNormalForm is none = absurd none
-unconverted_unanswered style task to path NoRelativePath is none = absurd none
-unconverted_unanswered style task to path (NoJoin error) is none = absurd none
-unconverted_unanswered style task to path (NoComponent index) is none = (to, (is, none))
-unconverted_unanswered style task to path (NoStringThere error) is none = (to, (is, none))
+pub unconverted_unanswered : {E : Type 0} (p : Ghosts E) (style : Style) (task : Task) (to : Os) (path : List ℕ) (why : Refusal) → task ≡ Convert to
+    → IsUnconverted p style (style_of to) (strings to).first_fault path why → IsUnanswered p style task path why
+unconverted_unanswered p style task to path (NoString error) is none = none
+unconverted_unanswered p style task to path NoNormalForm is none = absurd none
+unconverted_unanswered p style task to path NoRelativePath is none = absurd none
+unconverted_unanswered p style task to path (NoJoin error) is none = absurd none
+unconverted_unanswered p style task to path (NoComponent index text) is none = (to, (is, none))
+unconverted_unanswered p style task to path (NoStringThere error) is none = (to, (is, none))
 
 -- a path that isn't joined to the base has no result
-pub unjoined_unanswered : (style : Style) (task : Task) (base : Bor (List ℕ)) (path : List ℕ) (why : Refusal) → task ≡ JoinChecked base → IsUnjoined style base.now path why → IsUnanswered style task path why
-unjoined_unanswered style task base path (NoString error) is none = none
-unjoined_unanswered style task base path NoNormalForm is none = absurd none
-unjoined_unanswered style task base path NoRelativePath is none = absurd none
-unjoined_unanswered style task base path (NoJoin error) is none = (base, (is, none))
-unjoined_unanswered style task base path (NoComponent index) is none = absurd none
-unjoined_unanswered style task base path (NoStringThere error) is none = absurd none
+pub unjoined_unanswered : {E : Type 0} (p : Ghosts E) (style : Style) (task : Task) (base : Bor (List ℕ)) (path : List ℕ) (why : Refusal) → task ≡ JoinChecked base → IsUnjoined style base.now path why → IsUnanswered p style task path why
+unjoined_unanswered p style task base path (NoString error) is none = none
+unjoined_unanswered p style task base path NoNormalForm is none = absurd none
+unjoined_unanswered p style task base path NoRelativePath is none = absurd none
+unjoined_unanswered p style task base path (NoJoin error) is none = (base, (is, none))
+unjoined_unanswered p style task base path (NoComponent index text) is none = absurd none
+unjoined_unanswered p style task base path (NoStringThere error) is none = absurd none

@@ -1,5 +1,5 @@
 //! What becomes of the items that are rejected.
-ghost use Rattle.std.specs.Prelude.{◌≡◌, ◌<◌, ◌≤◌, ℕ, true, false};
+ghost use Rattle.std.specs.Prelude.{◌≡◌, ◌<◌, ◌≤◌, ◌+◌, ◌-◌, ◌^◌, min, ℕ, true, false};
 ghost use Rattle.program_frame.specs.declared.lists.refusals.KeepGoing.{KeepGoing};
 
 use crate::lists::fault::{ItemRefusal, ListFault};
@@ -29,6 +29,8 @@ pub trait Refusals<F> {
     fn passes(&mut self, number: u64, item: &[u8], why: F) -> bool
         ensures more { passed self.old ≤ passed self.new }
         ensures some { result ≡ true → 0 < passed self.new }
+        ensures one { result ≡ true → passed self.new ≡ min (passed self.old + 1) (2 ^ 64 - 1) }
+        ensures none { result ≡ false → passed self.new ≡ passed self.old }
         ensures ends { result ≡ false → stops };
 }
 

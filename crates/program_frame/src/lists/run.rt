@@ -107,7 +107,7 @@ pub fn run<T: ListTask, A: Allocator, R: Read, W: Write>(
 /// let (mut reader, mut writer) = (Marked::new(paths), Marked::new(&mut taken));
 /// let task = OnPlatform::<Unix>::new(Task::Normalize, 255);
 /// let mut refusals = KeepGoing::new("paths", &rt);
-/// assert!(rt; run_with(alloc, &task, &mut refusals, &mut reader, &mut writer) == Ok(()));
+/// assert!(rt; run_with(alloc, &task, &mut refusals, &mut reader, &mut writer).is_ok());
 /// assert_eq!(rt; refusals.count(), 1);
 /// assert_eq!(rt; taken.as_slice(), b"b\0d/e\0".as_slice());
 /// ```

@@ -17,6 +17,6 @@ returns-in-Ok-clause-fault g c =
     (λ fault cases max.
     ⊎_elim
     (λ memory. subst (IsItemFault (rules_of P S task max) item) (sym memory) tt)
-    (λ none. subst (IsItemFault (rules_of P S task max) item) (sym none.1.0) (unanswered_refused P S task item none.0 (subst (λ s. IsUnanswered S task s none.0) same none.1.1)))
+    (λ none. subst (IsItemFault (rules_of P S task max) item) (sym none.1.0) (unanswered_refused P S task item none.0 (subst (λ s. IsUnanswered P S task s none.0) same none.1.1)))
     cases)
     c.write_path.ensures.fault

@@ -20,7 +20,7 @@ returns-in-Unix-clause-fault g c =
     let S = g.E.PathStyle.follows in
     let path = path_bytes c.args.path in
     IfErr-weaker c.write_converted.result _ _
-    (λ fault. ⊎_elim (λ memory. inl memory) (λ none. inr (none.0, (none.1.0, subst (λ to. IsUnconverted S (style_of to) (strings to).first_fault path none.0) (sym c.in-Unix.is) none.1.1))))
+    (λ fault. ⊎_elim (λ memory. inl memory) (λ none. inr (none.0, (none.1.0, subst (λ to. IsUnconverted g.E.Platform S (style_of to) (strings to).first_fault path none.0) (sym c.in-Unix.is) none.1.1))))
     c.write_converted.ensures.fault
 
 pub returns-in-Windows-clause-ok : goal.returns-in-Windows-clause-ok
@@ -36,7 +36,7 @@ returns-in-Windows-clause-fault g c =
     let S = g.E.PathStyle.follows in
     let path = path_bytes c.args.path in
     IfErr-weaker c.write_converted-in-Windows.result _ _
-    (λ fault. ⊎_elim (λ memory. inl memory) (λ none. inr (none.0, (none.1.0, subst (λ to. IsUnconverted S (style_of to) (strings to).first_fault path none.0) (sym c.in-Windows.is) none.1.1))))
+    (λ fault. ⊎_elim (λ memory. inl memory) (λ none. inr (none.0, (none.1.0, subst (λ to. IsUnconverted g.E.Platform S (style_of to) (strings to).first_fault path none.0) (sym c.in-Windows.is) none.1.1))))
     c.write_converted-in-Windows.ensures.fault
 
 pub returns-in-Wasm-clause-ok : goal.returns-in-Wasm-clause-ok
@@ -52,5 +52,5 @@ returns-in-Wasm-clause-fault g c =
     let S = g.E.PathStyle.follows in
     let path = path_bytes c.args.path in
     IfErr-weaker c.write_converted-in-Wasm.result _ _
-    (λ fault. ⊎_elim (λ memory. inl memory) (λ none. inr (none.0, (none.1.0, subst (λ to. IsUnconverted S (style_of to) (strings to).first_fault path none.0) (sym c.in-Wasm.is) none.1.1))))
+    (λ fault. ⊎_elim (λ memory. inl memory) (λ none. inr (none.0, (none.1.0, subst (λ to. IsUnconverted g.E.Platform S (style_of to) (strings to).first_fault path none.0) (sym c.in-Wasm.is) none.1.1))))
     c.write_converted-in-Wasm.ensures.fault

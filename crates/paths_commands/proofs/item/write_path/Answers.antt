@@ -97,7 +97,7 @@ returns-in-JoinChecked-clause-fault g c =
     let S = g.E.PathStyle.follows in
     let path = path_bytes c.args.path in
     IfErr-weaker c.write_checked.result _ _
-    (λ fault. ⊎_elim (λ memory. inl memory) (λ none. inr (none.0, (none.1.0, unjoined_unanswered S c.args.task _ path none.0 c.in-JoinChecked.is none.1.1))))
+    (λ fault. ⊎_elim (λ memory. inl memory) (λ none. inr (none.0, (none.1.0, unjoined_unanswered g.E.Platform S c.args.task _ path none.0 c.in-JoinChecked.is none.1.1))))
     c.write_checked.ensures.fault
 
 pub returns-in-Relative-clause-ok : goal.returns-in-Relative-clause-ok
@@ -127,5 +127,5 @@ returns-in-Convert-clause-fault g c =
     let S = g.E.PathStyle.follows in
     let path = path_bytes c.args.path in
     IfErr-weaker c.write_on.result _ _
-    (λ fault. ⊎_elim (λ memory. inl memory) (λ none. inr (none.0, (none.1.0, unconverted_unanswered S c.args.task _ path none.0 c.in-Convert.is none.1.1))))
+    (λ fault. ⊎_elim (λ memory. inl memory) (λ none. inr (none.0, (none.1.0, unconverted_unanswered g.E.Platform S c.args.task _ path none.0 c.in-Convert.is none.1.1))))
     c.write_on.ensures.fault

@@ -3,12 +3,6 @@ use Rattle.std.proofs.Output.{has_written_styled_append, has_written_styled_of_e
 use Rattle.paths_commands.specs.Fault.{refusal_text}
 use Rattle.paths_commands.proofs.fault.RefusalItemRefusal.write.Goals as goal
 
-pub returns-in_ok-write_str-in-NoComponent : goal.returns-in_ok-write_str-in-NoComponent
-returns-in_ok-write_str-in-NoComponent g c = λ flush ok.
-    let head = c.in_ok-write_str-in-NoComponent.ensures.styled flush (refl {a = true}) in
-    let index = c.write_number.ensures head.flush ok in
-    has_written_styled_of_eq _ _ _ _ _ (sym (ap refusal_text c.in-NoComponent.is)) (has_written_styled_append _ _ _ _ _ _ head index)
-
 pub returns-in_ok-write_str-in-NoStringThere : goal.returns-in_ok-write_str-in-NoStringThere
 returns-in_ok-write_str-in-NoStringThere g c = λ flush ok.
     let head = c.in_ok-write_str-in-NoStringThere.ensures.styled flush (refl {a = true}) in
