@@ -6,7 +6,7 @@ ghost use Rattle.glob_text.specs.Marks.{Mark};
 ghost use Rattle.glob_text.specs.Meaning.{MatchesWrittenOut};
 ghost use Rattle.glob_text.specs.Parts.{AreCompiled};
 
-use glob_text::{Syntax, escape, laws};
+use glob_text::{PatternFault, Syntax, compile, escape, laws};
 use std::alloc::{AllocError, Allocator};
 use wildcards::{Choice, Letters, Options, matches_choice};
 
@@ -44,4 +44,17 @@ pub fn within_limits()
         → AreWithinLimits choices → ¬ (AreTooMany marks) }
 {
     laws::written_once();
+}
+
+/// The choices that a pattern is compiled to: they are those of marks that are within both limits.
+pub fn compile_within_limits<L: Letters, A: Allocator + Copy>(
+    alloc: A,
+    syntax: Syntax,
+    text: &[u8],
+) -> Result<Result<Vec<Choice<A>, A>, PatternFault>, AllocError>
+    requires { L.formed text.now }
+    ensures { IfOk result (λ read. IfOk read (λ compiled. (written : List (List Mark))
+        × (AreCompiled syntax.separators written compiled.items × AreWithinLimits written))) }
+{
+    compile::<L, A>(alloc, syntax, text)
 }
