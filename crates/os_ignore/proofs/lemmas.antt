@@ -3,6 +3,7 @@ pub mod Below
 pub mod Bodies
 pub mod Classes
 pub mod Cuts
+pub mod Escaped
 pub mod Groups
 pub mod LineReadings
 pub mod Nameless
@@ -12,6 +13,8 @@ pub mod OneVerdict
 pub mod Parts
 pub mod Readings
 pub mod Rests
+pub mod SameFiles
 pub mod Tags
 pub mod Tagged
+pub mod Texts
 pub mod Verdicts

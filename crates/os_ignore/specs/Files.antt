@@ -1,8 +1,11 @@
 -- The lines of an ignore file (gitignore, and git's dir.c where it says more).
-use Rattle.std.specs.Prelude.{◌≡◌, ◌⊎◌, ◌+◌, ℕ, nat_eq, ◌&&◌, cond, List, [], ◌∷◌, ◌++◌, Option, Some, None}
+use Rattle.std.specs.Prelude.{◌≡◌, ◌⊎◌, ◌+◌, ℕ, nat_eq, ◌&&◌, cond, List, [], ◌∷◌, ◌++◌, Option, Some, None, Result, Ok, Err}
+use Rattle.std.specs.List.{slice_get}
+use Rattle.os_ignore.specs.declared.letter.Letter.{Letter}
 use Rattle.os_ignore.specs.declared.line.Line.{Line}
+use Rattle.os_ignore.specs.declared.reason.NoPattern.{NoPattern}
 use Rattle.os_ignore.specs.Components.{pieces}
-use Rattle.os_ignore.specs.Lines.{IsLine, SaysNothing}
+use Rattle.os_ignore.specs.Lines.{IsLine, IsLineOf, SaysNothing, LettersSayNothing}
 use Rattle.os_ignore.specs.PatternText.{concat_of}
 use Rattle.os_ignore.specs.Reading.{Reads}
 
@@ -24,22 +27,39 @@ pub record IsLineText (line text : List ℕ) : Type 0 where
   pub more : List (List ℕ)
   pub first : pieces 0x0 whole ≡ text ∷ more
 
+-- the part that is read of the file's line of this number, from 1
+pub record IsTextAt (file : List ℕ) (number : ℕ) (text : List ℕ) : Type 0 where
+  pub before : ℕ
+  pub number_is : number ≡ before + 1
+  pub line : List ℕ
+  pub line_is : slice_get (pieces 0xA (without_mark file)) before ≡ Some line
+  pub read : IsLineText line text
+
+-- the file has no line of this number
+abbrev pub NoTextAt : List ℕ → ℕ → Type 0
+NoTextAt file number = (before : ℕ) → number ≡ before + 1 → slice_get (pieces 0xA (without_mark file)) before ≡ None
+
 module _ {A : Type 0} where
   -- the line, if there is one
-  abbrev pub list_of : Option (Line A) → List (Line A)
-  list_of None = []
-  list_of (Some line) = line ∷ []
+  abbrev pub list_of : Result (Line A) NoPattern → List (Line A)
+  list_of (Err reason) = []
+  list_of (Ok line) = line ∷ []
 
-  -- the text is this line, of this number, or says nothing
-  abbrev pub SaysLine : ℕ → List ℕ → Option (Line A) → Type 0
-  SaysLine number text None = SaysNothing A text
-  SaysLine number text (Some line) = (line.number ≡ number) × IsLine text line
+  -- the text is this line, of this number, or says nothing for this reason
+  abbrev pub SaysLine : ℕ → List ℕ → Result (Line A) NoPattern → Type 0
+  SaysLine number text (Err reason) = SaysNothing A text reason
+  SaysLine number text (Ok line) = (line.number ≡ number) × IsLine text line
+
+  -- likewise of the letters
+  abbrev pub LettersSayLine : ℕ → List Letter → Result (Line A) NoPattern → Type 0
+  LettersSayLine number letters (Err reason) = LettersSayNothing A letters reason
+  LettersSayLine number letters (Ok line) = (line.number ≡ number) × IsLineOf letters line
 
   -- a line is read, and what it says
   pub record IsNextLine (number : ℕ) (line : List ℕ) (lines : List (List ℕ)) (said : List (Line A)) (left : ℕ × List (List ℕ)) : Type 0 where
     pub text : List ℕ
     pub read : IsLineText line text
-    pub says : Option (Line A)
+    pub says : Result (Line A) NoPattern
     pub text_says : SaysLine number text says
     pub said_is : said ≡ list_of says
     pub left_is : left ≡ (number + 1, lines)
@@ -58,3 +78,14 @@ module _ {A : Type 0} where
     pub count : ℕ
     pub read : Reads IsLineRead (1, pieces 0xA (without_mark file)) groups (count, [])
     pub joined : lines ≡ concat_of groups
+
+-- why what was read is no pattern
+abbrev pub reason_of : {A : Type 0} → Result (Line A) NoPattern → Option NoPattern
+reason_of (Err reason) = Some reason
+reason_of (Ok line) = None
+
+module _ (A : Type 0) where
+  -- why the line is no pattern, and no reason where it is one
+  abbrev pub HasReason : List ℕ → Option NoPattern → Type 0
+  HasReason line None = (text : List ℕ) × IsLineText line text × (pattern : Line A) × IsLine text pattern
+  HasReason line (Some reason) = (text : List ℕ) × IsLineText line text × SaysNothing A text reason

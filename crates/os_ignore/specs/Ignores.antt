@@ -1,10 +1,12 @@
 -- The ignore files of a tree.
 use Rattle.std.specs.Prelude.{◌≡◌, ℕ, List, [], ◌∷◌, ◌++◌, length}
+use Rattle.std.specs.List.{AllByRecursion}
 use Rattle.os_ignore.specs.declared.file.File.{File}
 use Rattle.os_ignore.specs.declared.ignore.Ignore.{Ignore}
+use Rattle.os_ignore.specs.declared.reason.NoPattern.{NoPattern}
 use Rattle.os_ignore.specs.Components.{pieces}
 use Rattle.os_ignore.specs.Directories.{IsPlace}
-use Rattle.os_ignore.specs.Files.{AreLines, IsLineText, without_mark}
+use Rattle.os_ignore.specs.Files.{AreLines, IsLineText, IsTextAt, NoTextAt, without_mark}
 use Rattle.os_ignore.specs.Lines.{SaysNothing}
 
 module _ {A : Type 0} where
@@ -16,6 +18,7 @@ module _ {A : Type 0} where
   pub record IsFileAt (number : ℕ) (directory content : List ℕ) (file : File A) : Type 0 where
     pub number_is : file.number ≡ number
     pub directory_is : file.directory.items ≡ directory
+    pub content_is : file.content.items ≡ content
     pub lines : AreLines content file.lines.items
 
   -- a file is added after the last in a directory that isn't longer
@@ -32,6 +35,26 @@ module _ {A : Type 0} where
     pub files_are : files ≡ file ∷ []
     pub file_is : IsFileAt 0 [] content file
 
+  -- the file has this number, and the text is its line of the other number
+  abbrev pub FileHasText : ℕ → ℕ → List ℕ → File A → Type 0
+  FileHasText number line text file = (file.number ≡ number) × IsTextAt file.content.items line text
+
+  -- the file has another number, or no such line
+  abbrev pub FileHasNoText : ℕ → ℕ → File A → Type 0
+  FileHasNoText number line file = file.number ≡ number → NoTextAt file.content.items line
+
+  -- the text is a line of one of the files, by the numbers of the file and of the line
+  pub record HasText (files : List (File A)) (number line : ℕ) (text : List ℕ) : Type 0 where
+    pub front : List (File A)
+    pub file : File A
+    pub back : List (File A)
+    pub joined : files ≡ front ++ file ∷ back
+    pub has : FileHasText number line text file
+
+  -- no file has a line of these numbers
+  abbrev pub HasNoText : List (File A) → ℕ → ℕ → Type 0
+  HasNoText files number line = AllByRecursion (FileHasNoText number line) files
+
   -- the files are in one directory, have one number, and are read from one text
   pub record AreOfOneText (file other : File A) : Type 0 where
     pub number : ℕ
@@ -47,6 +70,7 @@ pub record IsBlanked (A : Type 0) (content other : List ℕ) : Type 0 where
   pub line : List ℕ
   pub text : List ℕ
   pub read : IsLineText line text
-  pub says : SaysNothing A text
+  pub reason : NoPattern
+  pub says : SaysNothing A text reason
   pub lines : pieces 0xA (without_mark content) ≡ front ++ line ∷ back
   pub others : pieces 0xA (without_mark other) ≡ front ++ [] ∷ back

@@ -44,3 +44,8 @@ AreLetters text letters = Reads IsLetter text letters []
 -- a backslash at the end of the text quotes nothing
 abbrev pub IsDangling : List ℕ → Type 0
 IsDangling text = (letters : List Letter) × Reads IsLetter text letters (0x5C ∷ [])
+
+-- the bytes, each behind a backslash
+abbrev pub escaped : List ℕ → List ℕ
+escaped [] = []
+escaped (b ∷ bs) = 0x5C ∷ b ∷ escaped bs

@@ -4,13 +4,15 @@ use Rattle.std.specs.List.{AllByRecursion}
 use denote.Ref.{Bor}
 use Rattle.os_ignore.specs.declared.letter.Letter.{Letter}
 use Rattle.os_ignore.specs.declared.line.Line.{Line}
+use Rattle.os_ignore.specs.declared.reason.NoPattern.{NoPattern}
+use Rattle.os_ignore.specs.declared.reason.NoPattern.TheVariants.{Comment, Empty, Backslash, QuotedSlash, Class}
 use Rattle.os_ignore.specs.Letters.{is_plain, is_simple, AreLetters, IsDangling}
 use Rattle.os_ignore.specs.PatternText.{IsPattern, IsBrokenPattern}
 
--- the first letter is a `#`, so the line is a comment
-abbrev pub is_comment : List Letter → Bool
+-- the text begins with a `#`, so the line is a comment
+abbrev pub is_comment : List ℕ → Bool
 is_comment [] = false
-is_comment (l ∷ ls) = is_plain l 0x23
+is_comment (b ∷ bs) = nat_eq b 0x23
 
 -- the letters without the blanks at their end that aren't quoted
 pub record IsTrimmed (letters trimmed : List Letter) : Type 0 where
@@ -51,9 +53,8 @@ abbrev pub after_literal : List Letter → List Letter
 after_literal [] = []
 after_literal (l ∷ ls) = cond (is_simple l) (after_literal ls) (l ∷ ls)
 
--- the letters, but for a comment, blanks, `!` and a `/` at the end
+-- the letters, but for blanks, `!` and a `/` at the end
 pub record IsBody (letters : List Letter) (takes_in directories : Bool) (body : List Letter) : Type 0 where
-  pub no_comment : is_comment letters ≡ false
   pub trimmed : List Letter
   pub without_blanks : IsTrimmed letters trimmed
   pub taken : takes_in ≡ (strip_first 0x21 trimmed).0
@@ -71,18 +72,19 @@ module _ {A : Type 0} where
 
   -- the line that the text is
   pub record IsLine (text : List ℕ) (line : Line A) : Type 0 where
+    pub no_comment : is_comment text ≡ false
     pub letters : List Letter
     pub read : AreLetters text letters
     pub line_of : IsLineOf letters line
 
--- the letters are a comment, blanks alone, or no pattern
-pub data LettersSayNothing (A : Type 0) (letters : List Letter) : Type 0 where
-  comment : is_comment letters ≡ true → LettersSayNothing A letters
-  quoted_slash : {trimmed : List Letter} → IsTrimmed letters trimmed → EndsQuoted (strip_first 0x21 trimmed).1 → LettersSayNothing A letters
-  empty : {takes_in directories : Bool} {body : List Letter} → IsBody letters takes_in directories body → (strip_first 0x2F body).1 ≡ [] → LettersSayNothing A letters
-  broken : {takes_in directories : Bool} {body : List Letter} → IsBody letters takes_in directories body → IsBrokenPattern A (after_literal (strip_first 0x2F body).1) → LettersSayNothing A letters
+-- why the letters are no pattern: they end with a slash that is quoted, nothing is left of them, or a class in them isn't one
+pub data LettersSayNothing (A : Type 0) (letters : List Letter) (reason : NoPattern) : Type 0 where
+  quoted_slash : {trimmed : List Letter} → IsTrimmed letters trimmed → EndsQuoted (strip_first 0x21 trimmed).1 → reason ≡ QuotedSlash → LettersSayNothing A letters reason
+  empty : {takes_in directories : Bool} {body : List Letter} → IsBody letters takes_in directories body → (strip_first 0x2F body).1 ≡ [] → reason ≡ Empty → LettersSayNothing A letters reason
+  broken : {takes_in directories : Bool} {body : List Letter} → IsBody letters takes_in directories body → IsBrokenPattern A (after_literal (strip_first 0x2F body).1) → reason ≡ Class → LettersSayNothing A letters reason
 
--- the text says nothing: its last backslash quotes nothing, or its letters say nothing
-pub data SaysNothing (A : Type 0) (text : List ℕ) : Type 0 where
-  dangling : IsDangling text → SaysNothing A text
-  letters : {letters : List Letter} → AreLetters text letters → LettersSayNothing A letters → SaysNothing A text
+-- why the text says nothing: it is a comment, its last backslash quotes nothing, or its letters are no pattern
+pub data SaysNothing (A : Type 0) (text : List ℕ) (reason : NoPattern) : Type 0 where
+  comment : is_comment text ≡ true → reason ≡ Comment → SaysNothing A text reason
+  dangling : is_comment text ≡ false → IsDangling text → reason ≡ Backslash → SaysNothing A text reason
+  letters : {letters : List Letter} → is_comment text ≡ false → AreLetters text letters → LettersSayNothing A letters reason → SaysNothing A text reason

@@ -1,5 +1,6 @@
 //! Ignore files of one tree.
-ghost use Rattle.std.specs.Prelude.{◌≡◌, [], IfOk, OnOk, OnErr};
+ghost use Rattle.std.specs.Prelude.{◌≡◌, [], IfOk, OnOk, OnErr, MatchOption};
+ghost use Rattle.os_ignore.specs.Ignores.{HasText, HasNoText};
 ghost use Rattle.os_ignore.specs.Verdicts.{IsVerdict};
 
 use crate::directory::files_before;
@@ -114,4 +115,40 @@ impl<A: Allocator + Copy> Ignore<A> {
     {
         decide(&self.files, path, is_dir)
     }
+
+    /// Returns the text of a line by the numbers that a [`Verdict`] has, of its file and of the line.
+    /// It has no carriage return at its end, and ends before a NUL: the part of the line that is read.
+    ///
+    /// ```
+    /// use os_ignore::{Ignore, Verdict};
+    ///
+    /// let mut ignore = Ignore::new(alloc, b"*.log\r\n/out/\r\n")?;
+    /// ignore.add(alloc, b"doc", b"!a.log\n")?;
+    /// assert_eq!(rt; ignore.matched(b"b.log", false), Verdict::Ignored { file: 0, line: 1 });
+    /// assert_eq!(rt; ignore.line(0, 1), Some(b"*.log".as_slice()));
+    /// assert_eq!(rt; ignore.matched(b"doc/a.log", false), Verdict::TakenIn { file: 1, line: 1 });
+    /// assert_eq!(rt; ignore.line(1, 1), Some(b"!a.log".as_slice()));
+    /// assert_eq!(rt; ignore.line(1, 3), None);
+    /// ```
+    pub fn line(&self, file: usize, line: usize) -> Option<&[u8]>
+        ensures { MatchOption result (HasNoText (files_of self.now) file line)
+            (λ text. HasText (files_of self.now) file line text.now) }
+    {
+        text_in(&self.files, file, line)
+    }
+}
+
+/// The text of a line of one of the files.
+fn text_in<A: Allocator>(files: &[File<A>], number: usize, line: usize) -> Option<&[u8]>
+    ensures { MatchOption result (HasNoText files.entry.now number line)
+        (λ text. HasText files.entry.now number line text.now) }
+{
+    let mut left = files;
+    while let Some((file, before)) = left.split_last() {
+        if let Some(text) = file.text_of(number, line) {
+            return Some(text);
+        }
+        left = before;
+    }
+    None
 }

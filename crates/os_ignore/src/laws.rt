@@ -1,8 +1,13 @@
 //! Laws of ignore files. Each is the contract of a function that does nothing.
-ghost use Rattle.std.specs.Prelude.{◌≡◌, ◌↔◌, ◌∷◌, Bool, ℕ, List, true, false};
+ghost use Rattle.std.specs.Prelude.{◌≡◌, ◌↔◌, ◌<◌, ◌∷◌, ◌++◌, Bool, ℕ, List, length, true, false};
+ghost use Rattle.std.specs.List.{AllZip};
 ghost use Rattle.os_ignore.specs.declared.file.File.{File};
 ghost use Rattle.os_ignore.specs.declared.line.Line.{Line};
+ghost use Rattle.os_ignore.specs.declared.reason.NoPattern.{NoPattern};
 ghost use Rattle.os_ignore.specs.declared.verdict.Verdict.{Verdict};
+ghost use Rattle.os_ignore.specs.Components.{IsPlain, IsLastComponent};
+ghost use Rattle.os_ignore.specs.Ignores.{IsFileAt, AreOfOneText, IsBlanked};
+ghost use Rattle.os_ignore.specs.Letters.{escaped};
 ghost use Rattle.os_ignore.specs.Lines.{IsLine, SaysNothing};
 ghost use Rattle.os_ignore.specs.Matching.{LineMatches};
 ghost use Rattle.os_ignore.specs.Verdicts.{IsVerdict};
@@ -39,5 +44,31 @@ pub fn taken_in_again<A: Allocator>()
 
 /// A text that is a line isn't one that says nothing.
 pub fn never_both<A: Allocator>()
-    ensures { (text : List ℕ) → (line : Line A) → IsLine text line → SaysNothing A text → ⊥ }
+    ensures { (text : List ℕ) → (line : Line A) → (reason : NoPattern)
+        → IsLine text line → SaysNothing A text reason → ⊥ }
+{}
+
+/// The line of a name whose bytes are all quoted matches the paths with this last component, and no
+/// other.
+pub fn escaped_alone<A: Allocator>()
+    ensures { (name : List ℕ) → (line : Line A) → 0 < length name → IsPlain 0x2F name
+        → IsLine (escaped name) line → (line.takes_in ≡ false) × ((path : List ℕ)
+        → (is_dir : Bool) → LineMatches line path is_dir ↔ IsLastComponent path name) }
+{}
+
+/// The verdict depends on the texts of the files alone.
+pub fn by_text<A: Allocator>()
+    ensures { (files : List (File A)) → (others : List (File A)) → AllZip AreOfOneText files others
+        → (path : List ℕ) → (is_dir : Bool) → (v : Verdict) → (w : Verdict)
+        → IsVerdict files path is_dir v → IsVerdict others path is_dir w → v ≡ w }
+{}
+
+/// A line that says nothing changes no verdict: it may as well be empty.
+pub fn silent_line<A: Allocator>()
+    ensures { (content : List ℕ) → (other : List ℕ) → IsBlanked A content other → (number : ℕ)
+        → (directory : List ℕ) → (file : File A) → (blank : File A)
+        → IsFileAt number directory content file → IsFileAt number directory other blank
+        → (front : List (File A)) → (back : List (File A)) → (path : List ℕ) → (is_dir : Bool)
+        → (v : Verdict) → (w : Verdict) → IsVerdict (front ++ file ∷ back) path is_dir v
+        → IsVerdict (front ++ blank ∷ back) path is_dir w → v ≡ w }
 {}

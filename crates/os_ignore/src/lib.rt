@@ -34,10 +34,12 @@ pub mod laws;
 mod letter;
 mod line;
 mod pattern;
+mod reason;
 mod tag;
 mod verdict;
 mod walk;
 
 pub use ignore::Ignore;
+pub use reason::{NoPattern, no_pattern};
 pub use verdict::Verdict;
 pub use walk::Walk;

@@ -1,10 +1,12 @@
 //! A line of an ignore file, as it is written.
-ghost use Rattle.std.specs.Prelude.{◌≡◌, IfOk, IfSome, MatchOption, ◌++◌, ◌∷◌};
+ghost use Rattle.std.specs.Prelude.{◌≡◌, IfOk, ◌++◌, ◌∷◌};
+ghost use Rattle.os_ignore.specs.Files.{SaysLine, LettersSayLine};
 ghost use Rattle.os_ignore.specs.Tags.{IsTag};
-ghost use Rattle.os_ignore.specs.Lines.{IsTrimmed, strip_first, StripsSlash, has_slash, is_comment, literal_prefix, after_literal, IsLineOf, LettersSayNothing, IsLine, SaysNothing};
+ghost use Rattle.os_ignore.specs.Lines.{IsTrimmed, strip_first, StripsSlash, has_slash, is_comment, literal_prefix, after_literal};
 
 use crate::letter::{Kind, Letter, letters};
 use crate::pattern::read_pattern;
+use crate::reason::NoPattern;
 use crate::tag::line_tag;
 use std::alloc::{AllocError, Allocator, Global};
 use wildcards::{Part, Piece};
@@ -110,44 +112,40 @@ pub(crate) fn read_literal<A: Allocator>(
     Ok((literal, left))
 }
 
-/// Whether letters begin with a `#`.
-fn is_comment(letters: &[Letter]) -> bool
-    ensures { result ≡ is_comment letters.now }
+/// Whether a text begins with a `#`.
+fn is_comment(text: &[u8]) -> bool
+    ensures { result ≡ is_comment text.now }
 {
-    match letters.split_first() {
-        Some((first, _)) => first.is_plain(b'#'),
+    match text.split_first() {
+        Some((first, _)) => *first == b'#',
         None => false,
     }
 }
 
-/// Reads the letters of a line, or returns `None` if they match nothing.
+/// Reads the letters of a line that is no comment, or returns why they are no pattern.
 fn read_letters<A: Allocator + Copy>(
     alloc: A,
     number: usize,
     letters: &[Letter],
-) -> Result<Option<Line<A>>, AllocError>
-    ensures line { IfOk result (λ read. MatchOption read (LettersSayNothing A letters.now)
-        (λ line. (line.number ≡ number) × IsLineOf letters.now line)) }
-    ensures tag { IfOk result (λ read. IfSome read (λ line. IsTag line line.tag)) }
+) -> Result<Result<Line<A>, NoPattern>, AllocError>
+    ensures line { IfOk result (λ read. LettersSayLine number letters.now read) }
+    ensures tag { IfOk result (λ read. IfOk read (λ line. IsTag line line.tag)) }
 {
-    if is_comment(letters) {
-        return Ok(None);
-    }
     let (takes_in, named) = strip_first(b'!', trim(letters));
     let Some((directories, whole)) = strip_slash(named) else {
-        return Ok(None);
+        return Ok(Err(NoPattern::QuotedSlash));
     };
     let anchored = has_slash(whole);
     let (_, body) = strip_first(b'/', whole);
     if body.is_empty() {
-        return Ok(None);
+        return Ok(Err(NoPattern::Empty));
     }
     let (literal, rest) = read_literal(alloc, body)?;
     let Some(pattern) = read_pattern(alloc, rest)? else {
-        return Ok(None);
+        return Ok(Err(NoPattern::Class));
     };
     let tag = line_tag(alloc, anchored, &literal, rest)?;
-    Ok(Some(Line {
+    Ok(Ok(Line {
         number,
         takes_in,
         directories,
@@ -158,18 +156,20 @@ fn read_letters<A: Allocator + Copy>(
     }))
 }
 
-/// Reads the text of a line, or returns `None` if it matches nothing.
+/// Reads the text of a line, or returns why it is no pattern.
 pub(crate) fn read_line<A: Allocator + Copy>(
     alloc: A,
     number: usize,
     text: &[u8],
-) -> Result<Option<Line<A>>, AllocError>
-    ensures line { IfOk result (λ read. MatchOption read (SaysNothing A text.now)
-        (λ line. (line.number ≡ number) × IsLine text.now line)) }
-    ensures tag { IfOk result (λ read. IfSome read (λ line. IsTag line line.tag)) }
+) -> Result<Result<Line<A>, NoPattern>, AllocError>
+    ensures line { IfOk result (λ read. SaysLine number text.now read) }
+    ensures tag { IfOk result (λ read. IfOk read (λ line. IsTag line line.tag)) }
 {
+    if is_comment(text) {
+        return Ok(Err(NoPattern::Comment));
+    }
     let Some(letters) = letters(alloc, text)? else {
-        return Ok(None);
+        return Ok(Err(NoPattern::Backslash));
     };
     read_letters(alloc, number, &letters)
 }

@@ -2,6 +2,8 @@
 use Rattle.std.proofs.Common.{◌≡◌, ℕ, Bool, List, [], ◌∷◌, ◌++◌, refl, sym, ◌∙◌, subst}
 use Rattle.std.specs.List.{AllByRecursion}
 use Rattle.os_ignore.specs.declared.file.File.{File}
+use Rattle.os_ignore.specs.Files.{IsTextAt}
+use Rattle.os_ignore.specs.Ignores.{HasText}
 use Rattle.os_ignore.specs.Verdicts.{Decides}
 
 -- what holds of each element holds of the one between others
@@ -13,3 +15,9 @@ between P (y ∷ front) x back h = between P front x back h.1
 pub its_number : {A : Type 0} (file : File A) (path : List ℕ) (is_dir takes_in : Bool) (number line : ℕ) → Decides (file ∷ []) path is_dir takes_in number line → number ≡ file.number
 its_number file path is_dir takes_in number line d =
     sym d.numbers.0 ∙ between (λ z. z.number ≡ file.number) d.front d.file d.back (subst (AllByRecursion (λ z. z.number ≡ file.number)) d.joined (refl, tt))
+
+-- a line of the file is one of its text
+pub its_text : {A : Type 0} (file : File A) (content : List ℕ) (number line : ℕ) (text : List ℕ) → file.content.items ≡ content → HasText (file ∷ []) number line text → IsTextAt content line text
+its_text file content number line text e h =
+    let own = between (λ z. z.content.items ≡ content) h.front h.file h.back (subst (AllByRecursion (λ z. z.content.items ≡ content)) h.joined (e, tt)) in
+    subst (λ z. IsTextAt z line text) own h.has.1

@@ -1,12 +1,19 @@
 //! Ignore files: what is below a directory that is ignored, and which file decides.
-ghost use Rattle.std.specs.Prelude.{◌≡◌, ◌<◌, ◌∷◌, [], length, slice_index, true, IsTrue, IfOk, IfSome};
+ghost use Rattle.std.specs.Prelude.{◌≡◌, ◌<◌, ◌∷◌, [], length, slice_index, Bool, true, false, ℕ, List, None, Some, IsTrue, IfOk, IfSome};
 ghost use Rattle.os_ignore.specs.declared.file.File.{File};
+ghost use Rattle.os_ignore.specs.declared.line.Line.{Line};
+ghost use Rattle.os_ignore.specs.declared.reason.NoPattern.{NoPattern};
 ghost use Rattle.os_ignore.specs.declared.verdict.Verdict.{Verdict};
-ghost use Rattle.os_ignore.specs.Ignores.{IsFileAt, files_of};
+ghost use Rattle.os_ignore.specs.Components.{IsPlain, IsLastComponent};
+ghost use Rattle.os_ignore.specs.Files.{HasReason, IsTextAt};
+ghost use Rattle.os_ignore.specs.Ignores.{IsBlanked, IsFileAt, files_of};
+ghost use Rattle.os_ignore.specs.Letters.{escaped};
+ghost use Rattle.os_ignore.specs.Lines.{IsLine, SaysNothing};
+ghost use Rattle.os_ignore.specs.Matching.{LineMatches};
 ghost use Rattle.os_ignore.specs.Verdicts.{IsVerdict, is_ignored};
 ghost use Rattle.os_ignore.specs.Walks.{files_of_walk};
 
-use os_ignore::{Ignore, Verdict, Walk, laws};
+use os_ignore::{Ignore, NoPattern, Verdict, Walk, laws, no_pattern};
 use std::alloc::{AllocError, Allocator};
 
 /// The verdict of one file of a tree on a path: that of its lines, as they are written.
@@ -109,4 +116,86 @@ pub fn walked<A: Allocator + Copy>(
     laws::walked_verdict::<A>();
     let walked = walk.matched(alloc, path, is_dir)?;
     Ok((walked, ignore.matched(path, is_dir)))
+}
+
+/// The verdicts of two files of one text on a path: they are equal.
+pub fn read_twice<A: Allocator + Copy>(
+    alloc: A,
+    content: &[u8],
+    path: &[u8],
+    is_dir: bool,
+) -> Result<(Verdict, Verdict), AllocError>
+    ensures { IfOk result (λ said. said.0 ≡ said.1) }
+{
+    laws::by_text::<A>();
+    let first = Ignore::new(alloc, content)?;
+    let second = Ignore::new(alloc, content)?;
+    Ok((first.matched(path, is_dir), second.matched(path, is_dir)))
+}
+
+/// The verdicts of a file on a path, and of the file that has an empty line in place of one that
+/// says nothing: they are equal.
+pub fn without_a_silent_line<A: Allocator + Copy>(
+    alloc: A,
+    content: &[u8],
+    other: &[u8],
+    path: &[u8],
+    is_dir: bool,
+) -> Result<(Verdict, Verdict), AllocError>
+    requires { IsBlanked A content.now other.now }
+    ensures { IfOk result (λ said. said.0 ≡ said.1) }
+{
+    laws::silent_line::<A>();
+    let first = Ignore::new(alloc, content)?;
+    let second = Ignore::new(alloc, other)?;
+    Ok((first.matched(path, is_dir), second.matched(path, is_dir)))
+}
+
+/// The line of an escaped name matches the paths that end with it, and no other; with a `!` before it
+/// it takes them in again.
+pub fn escaped_name<A: Allocator>()
+    ensures { (name : List ℕ) → (line : Line A) → (again : Line A) → 0 < length name
+        → IsPlain 0x2F name → IsLine (escaped name) line → IsLine (0x21 ∷ escaped name) again
+        → (again.takes_in ≡ true) × ((path : List ℕ) → (is_dir : Bool)
+        → IsLastComponent path name → LineMatches again path is_dir) }
+{
+    laws::escaped_alone::<A>();
+    laws::taken_in_again::<A>();
+}
+
+/// Two lines of one text both match a path, or neither does; and their text says something.
+pub fn lines_of_a_text<A: Allocator>()
+    ensures { (text : List ℕ) → (a : Line A) → (b : Line A) → IsLine text a → IsLine text b
+        → ((reason : NoPattern) → SaysNothing A text reason → ⊥) × ((path : List ℕ)
+        → (is_dir : Bool) → (LineMatches b path is_dir → ⊥) → LineMatches a path is_dir → ⊥) }
+{
+    laws::one_meaning::<A>();
+    laws::never_both::<A>();
+}
+
+/// Whether a line is a pattern. If it isn't, it has a reason.
+pub fn is_pattern<A: Allocator + Copy>(alloc: A, line: &[u8]) -> Result<bool, AllocError>
+    ensures pattern { IfOk result (λ is. is ≡ true → HasReason A line.now None) }
+    ensures reason { IfOk result (λ is. is ≡ false → (reason : NoPattern)
+        × HasReason A line.now (Some reason)) }
+{
+    match no_pattern(alloc, line)? {
+        Some(_) => Ok(false),
+        None => Ok(true),
+    }
+}
+
+/// Whether the one file of a tree has a line of this number.
+pub fn has_line<A: Allocator + Copy>(
+    alloc: A,
+    content: &[u8],
+    line: usize,
+) -> Result<bool, AllocError>
+    ensures { IfOk result (λ has. has ≡ true → (text : List ℕ) × IsTextAt content.now line text) }
+{
+    let ignore = Ignore::new(alloc, content)?;
+    match ignore.line(0, line) {
+        Some(_) => Ok(true),
+        None => Ok(false),
+    }
 }

@@ -1,22 +1,24 @@
 -- What a line says, once its letters are read.
-use Rattle.std.proofs.Common.{◌≡◌, ℕ, List, Option, Some, None, Result, Ok, Err}
-use Rattle.std.specs.Prelude.{MatchOption, IfOk}
+use Rattle.std.proofs.Common.{◌≡◌, ℕ, false, List, Option, Result, Ok, Err, sym, subst}
+use Rattle.std.specs.Prelude.{IfOk}
 use Rattle.os_ignore.specs.declared.letter.Letter.{Letter}
 use Rattle.os_ignore.specs.declared.line.Line.{Line}
+use Rattle.os_ignore.specs.declared.reason.NoPattern.{NoPattern}
 use Rattle.os_ignore.specs.Letters.{AreLetters}
-use Rattle.os_ignore.specs.Files.{SaysLine}
+use Rattle.os_ignore.specs.Files.{IsLineText, SaysLine, LettersSayLine, HasReason, reason_of}
 use Rattle.os_ignore.specs.Lines as lines
-use Rattle.os_ignore.specs.Lines.{LettersSayNothing, SaysNothing, IsLineOf, IsLine}
+use Rattle.os_ignore.specs.Lines.{is_comment}
 
-module _ {A : Type 0} (text : List ℕ) (letters : List Letter) (read : AreLetters text letters) (number : ℕ) where
-  says : (o : Option (Line A)) → MatchOption o (LettersSayNothing A letters) (λ line. (line.number ≡ number) × IsLineOf letters line) → MatchOption o (SaysNothing A text) (λ line. (line.number ≡ number) × IsLine text line)
-  says None h = lines.letters read h
-  says (Some line) h = (h.0, record { letters = letters; read = read; line_of = h.1 })
+module _ {A : Type 0} (text : List ℕ) (letters : List Letter) (none : is_comment text ≡ false) (read : AreLetters text letters) (number : ℕ) where
+  says : (o : Result (Line A) NoPattern) → LettersSayLine number letters o → SaysLine number text o
+  says (Err reason) h = lines.letters none read h
+  says (Ok line) h = (h.0, record { no_comment = none; letters = letters; read = read; line_of = h.1 })
 
-  pub said : {E : Type 0} (r : Result (Option (Line A)) E) → IfOk r (λ o. MatchOption o (LettersSayNothing A letters) (λ line. (line.number ≡ number) × IsLineOf letters line)) → IfOk r (λ o. MatchOption o (SaysNothing A text) (λ line. (line.number ≡ number) × IsLine text line))
+  pub said : {E : Type 0} (r : Result (Result (Line A) NoPattern) E) → IfOk r (λ o. LettersSayLine number letters o) → IfOk r (λ o. SaysLine number text o)
   said (Ok o) h = says o h
   said (Err e) h = tt
 
-pub says_line : {A : Type 0} (text : List ℕ) (number : ℕ) (o : Option (Line A)) → MatchOption o (SaysNothing A text) (λ line. (line.number ≡ number) × IsLine text line) → SaysLine number text o
-says_line text number None h = h
-says_line text number (Some line) h = h
+module _ {A : Type 0} (line text : List ℕ) (read : IsLineText line text) where
+  pub has_reason : (o : Result (Line A) NoPattern) → SaysLine 1 text o → (reason : Option NoPattern) → reason ≡ reason_of o → HasReason A line reason
+  has_reason (Ok l) s reason e = subst (HasReason A line) (sym e) (text, read, l, s.1)
+  has_reason (Err r) s reason e = subst (HasReason A line) (sym e) (text, read, s)

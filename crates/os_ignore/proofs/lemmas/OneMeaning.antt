@@ -1,14 +1,14 @@
 -- A line has one meaning, and a line that says nothing has none.
-use Rattle.std.proofs.Common.{◌≡◌, ℕ, nat_eq, cond, Bool, true, false, Option, Some, None, List, [], ◌∷◌, ◌++◌, refl, sym, ap, ◌∙◌, subst}
+use Rattle.std.proofs.Common.{◌≡◌, ℕ, cond, Bool, true, false, List, [], ◌∷◌, ◌++◌, refl, sym, ap, ◌∙◌, subst}
 use Rattle.std.specs.List.{AllByRecursion}
 use Rattle.std.proofs.lemmas.List.{same_from_push}
-use Rattle.wildcards.specs.Match.{Matches}
 use Rattle.os_ignore.specs.declared.letter.Letter.{Letter}
 use Rattle.os_ignore.specs.declared.line.Line.{Line}
-use Rattle.os_ignore.specs.Letters.{IsLetter, AreLetters, is_plain}
+use Rattle.os_ignore.specs.declared.reason.NoPattern.{NoPattern}
+use Rattle.os_ignore.specs.Letters.{AreLetters, is_plain}
 use Rattle.os_ignore.specs.Lines as lines
-use Rattle.os_ignore.specs.Lines.{is_comment, IsTrimmed, strip_first, EndsQuoted, IsStripped, has_slash, literal_prefix, after_literal, IsBody, IsLineOf, IsLine, LettersSayNothing, SaysNothing}
-use Rattle.os_ignore.specs.Matching.{IsTarget, MatchesText, LineMatches, by_slashes}
+use Rattle.os_ignore.specs.Lines.{IsTrimmed, strip_first, EndsQuoted, IsStripped, has_slash, literal_prefix, after_literal, IsBody, IsLineOf, IsLine, LettersSayNothing, SaysNothing}
+use Rattle.os_ignore.specs.Matching.{IsTarget, LineMatches}
 use Rattle.os_ignore.specs.PatternText.{IsPattern}
 use Rattle.os_ignore.proofs.lemmas.OneReading.{same_letters, not_dangling, matches_too, not_broken_pattern}
 
@@ -95,29 +95,29 @@ module _ {A : Type 0} where
       let body = same.1.1 in (
         same.0,
         body_matches a b k.body same.1.0 (h.anchored ∙ ap has_slash body) k.anchored
-        (h.literal ∙ ap (λ z. literal_prefix (strip_first 0x2F z).1) body) k.literal
-        (subst (λ z. IsPattern (after_literal (strip_first 0x2F z).1) a.pattern.items) body h.pattern) k.pattern,
+            (h.literal ∙ ap (λ z. literal_prefix (strip_first 0x2F z).1) body) k.literal
+            (subst (λ z. IsPattern (after_literal (strip_first 0x2F z).1) a.pattern.items) body h.pattern) k.pattern,
       )
 
   -- a text has one meaning
   pub one_meaning : (text : List ℕ) (a b : Line A) → IsLine text a → IsLine text b → (a.takes_in ≡ b.takes_in) × ((path : List ℕ) (is_dir : Bool) → LineMatches a path is_dir → LineMatches b path is_dir)
   one_meaning text a b h k = letters_match k.letters a b (subst (λ z. IsLineOf z a) (same_letters text h.letters k.letters h.read k.read) h.line_of) k.line_of
 
-  letters_say : (letters : List Letter) (line : Line A) → IsLineOf letters line → LettersSayNothing A letters → ⊥
-  letters_say letters line h (lines.comment c) = let never : true ≡ false = sym c ∙ h.read.no_comment in absurd cc
-  letters_say letters line h (lines.quoted_slash {trimmed} t q) =
+  letters_say : (letters : List Letter) (line : Line A) (reason : NoPattern) → IsLineOf letters line → LettersSayNothing A letters reason → ⊥
+  letters_say letters line reason h (lines.quoted_slash {trimmed} t q r) =
       not_quoted (strip_first 0x21 h.read.trimmed).1 line.directories h.body h.read.stripped (subst (λ z. EndsQuoted (strip_first 0x21 z).1) (same_trimmed letters trimmed h.read.trimmed t h.read.without_blanks) q)
-  letters_say letters line h (lines.empty {takes_in} {directories} {body} b e) =
+  letters_say letters line reason h (lines.empty {takes_in} {directories} {body} b e r) =
       let same = same_body letters line.takes_in line.directories takes_in directories h.body body h.read b in
       h.some (ap (λ z. (strip_first 0x2F z).1) same.1.1 ∙ e)
-  letters_say letters line h (lines.broken {takes_in} {directories} {body} b e) =
+  letters_say letters line reason h (lines.broken {takes_in} {directories} {body} b e r) =
       let same = same_body letters line.takes_in line.directories takes_in directories h.body body h.read b in
       not_broken_pattern (after_literal (strip_first 0x2F body).1) line.pattern.items (subst (λ z. IsPattern (after_literal (strip_first 0x2F z).1) line.pattern.items) same.1.1 h.pattern) e
 
   -- a text that says nothing is no line
-  pub not_both : (text : List ℕ) (line : Line A) → IsLine text line → SaysNothing A text → ⊥
-  not_both text line h (lines.dangling d) = not_dangling text h.letters h.read d
-  not_both text line h (lines.letters {letters} r s) = letters_say letters line (subst (λ z. IsLineOf z line) (same_letters text h.letters letters h.read r) h.line_of) s
+  pub not_both : (text : List ℕ) (line : Line A) (reason : NoPattern) → IsLine text line → SaysNothing A text reason → ⊥
+  not_both text line reason h (lines.comment c r) = let never : true ≡ false = sym c ∙ h.no_comment in absurd cc
+  not_both text line reason h (lines.dangling n d r) = not_dangling text h.letters h.read d
+  not_both text line reason h (lines.letters {letters} n r s) = letters_say letters line reason (subst (λ z. IsLineOf z line) (same_letters text h.letters letters h.read r) h.line_of) s
 
   -- `!` before a line that doesn't begin with it takes in again what the line matches
   pub taken_again : (text : List ℕ) (a b : Line A) → IsLine text a → IsLine (0x21 ∷ text) b → a.takes_in ≡ false → (b.takes_in ≡ true) × ((path : List ℕ) (is_dir : Bool) → (LineMatches a path is_dir → LineMatches b path is_dir) × (LineMatches b path is_dir → LineMatches a path is_dir))

@@ -20,10 +20,10 @@ use Rattle.os_ignore.specs.declared.class_text.Before.TheVariants.{First}
 use Rattle.os_ignore.specs.declared.pattern.After.{After}
 use Rattle.os_ignore.specs.declared.pattern.After.TheVariants as after
 use Rattle.os_ignore.specs.Class.{permits}
-use Rattle.os_ignore.specs.ClassText.{IsMember, IsClass, IsBrokenClass, Reading, broken, closed, member, member_at, negation}
+use Rattle.os_ignore.specs.ClassText.{IsMember, IsClass, IsBrokenClass, broken, closed, member, member_at, negation}
 use Rattle.os_ignore.specs.Letters.{BeginsWith, IsLetter, AreLetters, IsDangling, kind_of}
 use Rattle.os_ignore.specs.Matching.{by_slashes}
-use Rattle.os_ignore.specs.PatternText.{PieceAt, IsPiece, IsPart, EndsPart, IsGroup, NextGroup, IsPattern, IsBrokenHere, IsBrokenPart, IsBrokenPattern, is_deep, all_stars, is_joined, group, concat_of, left_after, text_of}
+use Rattle.os_ignore.specs.PatternText.{PieceAt, IsPiece, EndsPart, NextGroup, IsPattern, IsBrokenHere, IsBrokenPart, IsBrokenPattern, is_deep, all_stars, is_joined, group, concat_of, left_after, text_of}
 use Rattle.os_ignore.specs.Reading.{Reads}
 
 -- what is read item by item, up to where no item begins
@@ -242,8 +242,7 @@ module _ {A : Type 0} where
       let deep = same_deep a.part.pieces.items b.part.pieces.items same.1 in
       let own = same_group (is_deep a.part.pieces.items) (is_joined a.after) a.part b.part (same_part a.part b.part same.1) in
       let other : h ≡ group (is_deep a.part.pieces.items) (is_joined a.after) b.part =
-      b.pieces_are ∙ ap (λ v. group v (is_joined b.after) b.part) (sym deep) ∙ ap (λ v. group (is_deep a.part.pieces.items) v b.part) (sym ends.1) in
-      (
+      b.pieces_are ∙ ap (λ v. group v (is_joined b.after) b.part) (sym deep) ∙ ap (λ v. group (is_deep a.part.pieces.items) v b.part) (sym ends.1) in (
         a.left_is ∙ ends.0 ∙ sym b.left_is,
         subst (λ z. AllZip (SamePiece SamePart) z h) (sym a.pieces_are) (subst (λ z. AllZip (SamePiece SamePart) (group (is_deep a.part.pieces.items) (is_joined a.after) a.part) z) (sym other) own),
       )

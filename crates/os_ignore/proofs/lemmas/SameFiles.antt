@@ -1,13 +1,14 @@
 -- Files that are read from the same text have the same verdicts.
-use Rattle.std.proofs.Common.{◌≡◌, ◌⊎◌, inl, inr, ◌+◌, ◌<◌, ℕ, Bool, true, false, Option, Some, None, List, [], ◌∷◌, ◌++◌, length, refl, sym, ap, ◌∙◌, subst}
+use Rattle.std.proofs.Common.{◌≡◌, inl, inr, ◌+◌, ℕ, Bool, true, false, Result, Ok, Err, List, [], ◌∷◌, ◌++◌, length, refl, sym, ap, ◌∙◌, subst}
 use Rattle.std.specs.List.{AllByRecursion, AllZip}
 use Rattle.std.proofs.lemmas.List.{same_from_push}
 use Rattle.os_ignore.specs.declared.file.File.{File}
 use Rattle.os_ignore.specs.declared.line.Line.{Line}
-use Rattle.os_ignore.specs.declared.letter.Letter.{Letter}
+use Rattle.os_ignore.specs.declared.reason.NoPattern.{NoPattern}
+use Rattle.os_ignore.specs.declared.reason.NoPattern.TheVariants.{Empty}
 use Rattle.os_ignore.specs.declared.verdict.Verdict.{Verdict}
 use Rattle.os_ignore.specs.declared.verdict.Verdict.TheVariants.{Neither, Ignored, TakenIn}
-use Rattle.os_ignore.specs.Components.{IsCut, pieces}
+use Rattle.os_ignore.specs.Components.{pieces}
 use Rattle.os_ignore.specs.Files.{IsWithoutReturn, IsLineText, SaysLine, IsNextLine, NextLine, IsLineRead, AreLines, list_of, without_mark}
 use Rattle.os_ignore.specs.Ignores.{IsFileAt, AreOfOneText, IsBlanked}
 use Rattle.os_ignore.specs.Lines as lines
@@ -65,12 +66,11 @@ no_last (y ∷ front) x e = absurd cc
 empty_text : IsLineText [] []
 empty_text = record { whole = []; without_return = inr (refl, λ front e. no_last front 0xD e); more = []; first = refl }
 
-empty_says : (A : Type 0) → SaysNothing A []
-empty_says A = lines.letters {letters = []} refl (lines.empty {takes_in = false} {directories = false} {body = []} body refl)
+empty_says : (A : Type 0) → SaysNothing A [] Empty
+empty_says A = lines.letters {letters = []} refl refl (lines.empty {takes_in = false} {directories = false} {body = []} body refl refl)
   where
     body : IsBody [] false false []
     body = record {
-      no_comment = refl;
       trimmed = [];
       without_blanks = record { blanks = []; joined = refl; blank = tt; no_more = λ front l e. absurd (no_last front l e) };
       taken = refl;
@@ -91,19 +91,19 @@ module _ {A : Type 0} where
   own_file f = (refl, (refl, itself SameLine own_line f.lines.items))
 
   -- the lines of a text
-  same_said : (number : ℕ) (text : List ℕ) (o p : Option (Line A)) → SaysLine number text o → SaysLine number text p → AllZip SameLine (list_of o) (list_of p)
-  same_said number text None None h k = tt
-  same_said number text None (Some b) h k = absurd (not_both text b k.1 h)
-  same_said number text (Some a) None h k = absurd (not_both text a h.1 k)
-  same_said number text (Some a) (Some b) h k =
+  same_said : (number : ℕ) (text : List ℕ) (o p : Result (Line A) NoPattern) → SaysLine number text o → SaysLine number text p → AllZip SameLine (list_of o) (list_of p)
+  same_said number text (Err reason) (Err other) h k = tt
+  same_said number text (Err reason) (Ok b) h k = absurd (not_both text b reason k.1 h)
+  same_said number text (Ok a) (Err reason) h k = absurd (not_both text a reason h.1 k)
+  same_said number text (Ok a) (Ok b) h k =
       let there = one_meaning text a b h.1 k.1 in
       let back = one_meaning text b a k.1 h.1 in
       ((h.0 ∙ sym k.0, (there.0, λ path is_dir. (there.1 path is_dir, back.1 path is_dir))), tt)
 
-  one_read : (from : ℕ × List (List ℕ)) (as bs : List (Line A)) (e f : ℕ × List (List ℕ)) → IsLineRead from as e → IsLineRead from bs f → (e ≡ f) × AllZip SameLine as bs
-  one_read from as bs e f h k = go from.1 h k
+  one_read : (from : ℕ × List (List ℕ)) (xs bs : List (Line A)) (e f : ℕ × List (List ℕ)) → IsLineRead from xs e → IsLineRead from bs f → (e ≡ f) × AllZip SameLine xs bs
+  one_read from xs bs e f h k = go from.1 h k
     where
-      go : (ls : List (List ℕ)) → NextLine from.0 ls as e → NextLine from.0 ls bs f → (e ≡ f) × AllZip SameLine as bs
+      go : (ls : List (List ℕ)) → NextLine from.0 ls xs e → NextLine from.0 ls bs f → (e ≡ f) × AllZip SameLine xs bs
       go [] h k = absurd h
       go (line ∷ ls) h k =
           let text = one_text line h.text k.text h.read k.read in
@@ -112,8 +112,8 @@ module _ {A : Type 0} where
             subst (λ z. AllZip SameLine z bs) (sym h.said_is) (subst (λ z. AllZip SameLine (list_of h.says) z) (sym k.said_is) same),
           )
 
-  same_lines : (content : List ℕ) (as bs : List (Line A)) → AreLines content as → AreLines content bs → AllZip SameLine as bs
-  same_lines content as bs h k =
+  same_lines : (content : List ℕ) (xs bs : List (Line A)) → AreLines content xs → AreLines content bs → AllZip SameLine xs bs
+  same_lines content xs bs h k =
       let same = same_items IsLineRead (AllZip SameLine) one_read (1, pieces 0xA (without_mark content)) h.groups k.groups (h.count, []) (k.count, []) h.read k.read (λ o e s. s) (λ o e s. s) in
       subst (λ z. AllZip SameLine z bs) (sym h.joined) (subst (λ z. AllZip SameLine (concat_of h.groups) z) (sym k.joined) (zip_concat SameLine h.groups k.groups same.1))
 
@@ -122,14 +122,14 @@ module _ {A : Type 0} where
 
   -- their verdicts
   module _ (path : List ℕ) (is_dir : Bool) where
-    none_too : (as bs : List (Line A)) → AllZip SameLine as bs → NoneMatches path is_dir as → NoneMatches path is_dir bs
+    none_too : (xs bs : List (Line A)) → AllZip SameLine xs bs → NoneMatches path is_dir xs → NoneMatches path is_dir bs
     none_too [] [] z h = tt
     none_too [] (b ∷ bs) z h = absurd z
-    none_too (a ∷ as) [] z h = absurd z
-    none_too (a ∷ as) (b ∷ bs) z h = (λ m. h.0 ((z.0.1.1 path is_dir).1 m), none_too as bs z.1 h.1)
+    none_too (a ∷ xs) [] z h = absurd z
+    none_too (a ∷ xs) (b ∷ bs) z h = (λ m. h.0 ((z.0.1.1 path is_dir).1 m), none_too xs bs z.1 h.1)
 
-    last_too : (as bs : List (Line A)) (a : Line A) → AllZip SameLine as bs → IsLastMatch path is_dir as a → (b : Line A) × (IsLastMatch path is_dir bs b × SameLine a b)
-    last_too as bs a z m =
+    last_too : (xs bs : List (Line A)) (a : Line A) → AllZip SameLine xs bs → IsLastMatch path is_dir xs a → (b : Line A) × (IsLastMatch path is_dir bs b × SameLine a b)
+    last_too xs bs a z m =
         let h = split SameLine m.front a m.back bs (subst (λ v. AllZip SameLine v bs) m.joined z) in (
           h.y,
           (record { front = h.before; back = h.after; joined = h.joined; matches = (h.same.1.1 path is_dir).0 m.matches; none_after = none_too m.back h.after h.rest m.none_after }, h.same),
@@ -187,11 +187,11 @@ module _ {A : Type 0} where
   by_text files others z = same_verdict files others (texts files others z)
 
   -- an empty line in place of one that says nothing
-  nothing : (number : ℕ) (o : Option (Line A)) → SaysLine number [] o → o ≡ None
-  nothing number None h = refl
-  nothing number (Some line) h = absurd (not_both [] line h.1 (empty_says A))
+  nothing : (number : ℕ) (o : Result (Line A) NoPattern) → SaysLine number [] o → list_of o ≡ []
+  nothing number (Err reason) h = refl
+  nothing number (Ok line) h = absurd (not_both [] line Empty h.1 (empty_says A))
 
-  module _ (line text : List ℕ) (read : IsLineText line text) (says : SaysNothing A text) (back : List (List ℕ)) (count : ℕ) where
+  module _ (line text : List ℕ) (reason : NoPattern) (read : IsLineText line text) (says : SaysNothing A text reason) (back : List (List ℕ)) (count : ℕ) where
     not_end : (number : ℕ) (ls : List (List ℕ)) (l : List ℕ) → ◌≡◌ {A = ℕ × List (List ℕ)} (number, l ∷ ls) (count, []) → ⊥
     not_end number ls l e = let never : l ∷ ls ≡ [] = ap (λ z. z.1) e in absurd cc
 
@@ -201,27 +201,24 @@ module _ {A : Type 0} where
     blank [] number (g ∷ gs) r =
         let h : IsNextLine number [] back g r.0 = r.1 in
         let none = nothing number h.says (subst (λ z. SaysLine number z h.says) (one_text [] h.text [] h.read empty_text) h.text_says) in
-        (r.0, (record { text = text; read = read; says = None; text_says = says; said_is = h.said_is ∙ ap list_of none; left_is = h.left_is }, r.2))
+        (r.0, record { text = text; read = read; says = Err reason; text_says = says; said_is = h.said_is ∙ none; left_is = h.left_is }, r.2)
     blank (x ∷ front) number (g ∷ gs) r =
-        let h : IsNextLine number x (front ++ [] ∷ back) g r.0 = r.1 in
-        (
+        let h : IsNextLine number x (front ++ [] ∷ back) g r.0 = r.1 in (
           (number + 1, front ++ line ∷ back),
-          (
-            record { text = h.text; read = h.read; says = h.says; text_says = h.text_says; said_is = h.said_is; left_is = refl },
-            blank front (number + 1) gs (subst (λ z. Reads IsLineRead z gs (count, [])) h.left_is r.2),
-          ),
+          record { text = h.text; read = h.read; says = h.says; text_says = h.text_says; said_is = h.said_is; left_is = refl },
+          blank front (number + 1) gs (subst (λ z. Reads IsLineRead z gs (count, [])) h.left_is r.2),
         )
 
   blanked : (content other : List ℕ) → IsBlanked A content other → (ls : List (Line A)) → AreLines other ls → AreLines content ls
   blanked content other b ls h = record {
     groups = h.groups;
     count = h.count;
-    read = subst (λ z. Reads IsLineRead (1, z) h.groups (h.count, [])) (sym b.lines) (blank b.line b.text b.read b.says b.back h.count b.front 1 h.groups (subst (λ z. Reads IsLineRead (1, z) h.groups (h.count, [])) b.others h.read));
+    read = subst (λ z. Reads IsLineRead (1, z) h.groups (h.count, [])) (sym b.lines) (blank b.line b.text b.reason b.read b.says b.back h.count b.front 1 h.groups (subst (λ z. Reads IsLineRead (1, z) h.groups (h.count, [])) b.others h.read));
     joined = h.joined;
   }
 
   -- a line that says nothing changes no verdict
   pub silent_line : (content : List ℕ) → (other : List ℕ) → IsBlanked A content other → (number : ℕ) → (directory : List ℕ) → (file : File A) → (blank : File A) → IsFileAt number directory content file → IsFileAt number directory other blank → (front : List (File A)) → (back : List (File A)) → (path : List ℕ) → (is_dir : Bool) → (v : Verdict) → (w : Verdict) → IsVerdict (front ++ file ∷ back) path is_dir v → IsVerdict (front ++ blank ∷ back) path is_dir w → v ≡ w
   silent_line content other b number directory file blank h k front back =
-      let same = (h.number_is ∙ sym k.number_is, (h.directory_is ∙ sym k.directory_is, same_lines content file.lines.items blank.lines.items h.lines (blanked content other b blank.lines.items k.lines))) in
+      let same : SameFile file blank = (h.number_is ∙ sym k.number_is, (h.directory_is ∙ sym k.directory_is, same_lines content file.lines.items blank.lines.items h.lines (blanked content other b blank.lines.items k.lines))) in
       same_verdict (front ++ file ∷ back) (front ++ blank ∷ back) (between SameFile own_file front file blank back same)

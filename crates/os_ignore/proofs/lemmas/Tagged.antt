@@ -1,5 +1,5 @@
 -- The last line that matches, among those that have the tags of a path.
-use Rattle.std.proofs.Common.{◌≡◌, ◌⊎◌, inl, inr, ◌<◌, ◌≤◌, ◌+◌, nat_lt, slice_index, ℕ, Bool, true, false, get_or, Option, Some, None, List, [], ◌∷◌, ◌++◌, length, take, drop, refl, sym, ap, ◌∙◌, subst, arith, take-append-drop, length-drop}
+use Rattle.std.proofs.Common.{◌≡◌, ◌⊎◌, inl, inr, ◌<◌, ◌≤◌, ◌+◌, nat_lt, slice_index, ℕ, Bool, true, false, get_or, Option, Some, None, List, ◌++◌, length, take, drop, refl, sym, ap, ◌∙◌, subst, arith, take-append-drop, length-drop}
 use Rattle.std.specs.Prelude.{MatchOption}
 use Rattle.std.specs.List.{All, HoldsAt}
 use Rattle.std.proofs.lemmas.Bool.Decides.{nat_tests}
@@ -7,7 +7,7 @@ use Rattle.std.proofs.lemmas.List.{drop_more, get_or-drop, get_or-take, length-t
 use Rattle.std.proofs.lemmas.List.Elements.{recursion_from_All}
 use Rattle.memchr.specs.Find.{is_byte3, Passes, Nowhere, NoneAfter}
 use Rattle.os_ignore.specs.declared.line.Line.{Line}
-use Rattle.os_ignore.specs.Components.{IsPlain, IsCut, IsLastComponent}
+use Rattle.os_ignore.specs.Components.{IsLastComponent}
 use Rattle.os_ignore.specs.Matching.{LineMatches}
 use Rattle.os_ignore.specs.Tags as tags
 use Rattle.os_ignore.specs.Tags.{HasTag, AreTags, NoneTagged, IsLastTagged, IsDotTag, IsFirstTag, tag_of}

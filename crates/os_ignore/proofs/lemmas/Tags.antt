@@ -1,6 +1,6 @@
 -- Tags that lines have.
-use Rattle.std.proofs.Common.{◌≡◌, ◌&&◌, nat_eq, nat_le, not, cond, ℕ, Bool, true, false, Option, Some, None, get_or, zero, suc, map, ◌<◌, List, [], ◌∷◌, ◌++◌, length, refl, sym, ap, ◌∙◌, subst, arith, append_assoc, append-nil, eq-eqb}
-use Rattle.std.specs.Prelude.{IfSome}
+use Rattle.std.proofs.Common.{◌≡◌, ◌&&◌, nat_eq, nat_le, not, cond, ℕ, Bool, true, false, Some, None, Result, Ok, Err, zero, suc, map, List, [], ◌∷◌, ◌++◌, length, refl, sym, ap, ◌∙◌, subst, arith, append_assoc, append-nil}
+use Rattle.std.specs.Prelude.{IfOk}
 use Rattle.std.specs.List.{AllByRecursion, join_with_byte}
 use Rattle.std.proofs.lemmas.Bool.Decides.{nat_tests}
 use Rattle.std.proofs.lemmas.List.Elements.{All-head, All-tail}
@@ -18,6 +18,7 @@ use Rattle.os_ignore.specs.declared.letter.Letter.{Letter}
 use Rattle.os_ignore.specs.declared.letter.Kind.{Kind}
 use Rattle.os_ignore.specs.declared.letter.Kind.TheVariants.{Slash, Star, Question, Bracket, Literal}
 use Rattle.os_ignore.specs.declared.line.Line.{Line}
+use Rattle.os_ignore.specs.declared.reason.NoPattern.{NoPattern}
 use Rattle.os_ignore.specs.declared.pattern.After.{After}
 use Rattle.os_ignore.specs.declared.pattern.After.TheVariants as after
 use Rattle.os_ignore.specs.Components.{IsPlain, IsCut, IsLastComponent}
@@ -25,7 +26,7 @@ use Rattle.os_ignore.specs.Files.{list_of}
 use Rattle.os_ignore.specs.Letters.{is_plain, is_simple, kind_of, matches_itself}
 use Rattle.os_ignore.specs.Lines.{literal_prefix, after_literal}
 use Rattle.os_ignore.specs.Matching.{IsTarget, MatchesText, by_slashes}
-use Rattle.os_ignore.specs.PatternText.{PieceAt, IsPiece, IsPart, EndsPart, IsGroup, NextGroup, IsPattern, is_deep, all_stars, is_joined, group, concat_of, left_after, text_of}
+use Rattle.os_ignore.specs.PatternText.{PieceAt, IsPiece, IsPart, EndsPart, NextGroup, IsPattern, is_deep, all_stars, is_joined, group, concat_of, left_after, text_of}
 use Rattle.os_ignore.specs.Reading.{Reads}
 use Rattle.os_ignore.specs.Tags as tags
 use Rattle.os_ignore.specs.Tags.{HasTag, IsTag, IsTagOf, AreTags, IsExtension, tag_of}
@@ -45,7 +46,7 @@ ends_with_last path last k =
     (h.0, sym (join_with_byte-slice_split 0x2F path) ∙ ap (join_with_byte 0x2F) k.1 ∙ h.1)
 
 -- a path of one component is that
-one_part : (path part : List ℕ) → components separators.Slash path ≡ part ∷ [] → path ≡ part
+pub one_part : (path part : List ℕ) → components separators.Slash path ≡ part ∷ [] → path ≡ part
 one_part path part e = sym (join_with_byte-slice_split 0x2F path) ∙ ap (join_with_byte 0x2F) e
 
 -- what the target ends with the path ends with
@@ -53,14 +54,14 @@ path_end : (anchored : Bool) (path target : List ℕ) → IsTarget anchored path
 path_end true path target t = ([], sym t)
 path_end false path target t = ends_with_last path target t
 
-no_slash : (l : Letter) (ls : List Letter) (a : After) → (nat_eq l.byte 0x2F ≡ false) → EndsPart (l ∷ ls) a → ⊥
+pub no_slash : (l : Letter) (ls : List Letter) (a : After) → (nat_eq l.byte 0x2F ≡ false) → EndsPart (l ∷ ls) a → ⊥
 no_slash l ls after.End n e = absurd cc
 no_slash l ls (after.Slash quoted rest) n e =
     let same : l ≡ record { byte = 0x2F; quoted = quoted } = cc in
     let never : false ≡ true = sym n ∙ ap (λ z. nat_eq z.byte 0x2F) same in
     absurd cc
 
-none_end : (a : After) → EndsPart [] a → a ≡ after.End
+pub none_end : (a : After) → EndsPart [] a → a ≡ after.End
 none_end after.End e = refl
 none_end (after.Slash quoted rest) e = absurd cc
 
@@ -76,7 +77,7 @@ both : (a b : Bool) → a && b ≡ true → b ≡ true
 both true b e = e
 both false b e = let never : false ≡ true = e in absurd cc
 
-and_false : (v : Bool) → v && false ≡ false
+pub and_false : (v : Bool) → v && false ≡ false
 and_false true = refl
 and_false false = refl
 
@@ -100,7 +101,7 @@ nil_of_length (x ∷ xs) e = absurd (omega arith)
 
 module _ {A : Type 0} where
   -- a part that is the whole pattern
-  one_group : (text : List Letter) (pattern : List (Piece (Part A))) → IsPattern text pattern → ((pieces : List (Piece (Item A))) (a : After) → IsPart text pieces a → (a ≡ after.End) × (is_deep pieces ≡ false)) → (part : Part A) × (IsPart text part.pieces.items after.End × (pattern ≡ One part ∷ []))
+  pub one_group : (text : List Letter) (pattern : List (Piece (Part A))) → IsPattern text pattern → ((pieces : List (Piece (Item A))) (a : After) → IsPart text pieces a → (a ≡ after.End) × (is_deep pieces ≡ false)) → (part : Part A) × (IsPart text part.pieces.items after.End × (pattern ≡ One part ∷ []))
   one_group text pattern p alone = go p.groups p.read p.joined
     where
       rest : (groups : List (List (Piece (Part A)))) → Reads NextGroup None groups None → groups ≡ []
@@ -134,7 +135,7 @@ module _ {A : Type 0} where
   literal_piece Question l ls p rest e h = let never : false ≡ true = e in absurd cc
   literal_piece Bracket l ls p rest e h = let never : false ≡ true = e in absurd cc
 
-  deep : (x : Piece (Item A)) (more : List (Piece (Item A))) → all_stars (x ∷ more) ≡ false → is_deep (x ∷ more) ≡ false
+  pub deep : (x : Piece (Item A)) (more : List (Piece (Item A))) → all_stars (x ∷ more) ≡ false → is_deep (x ∷ more) ≡ false
   deep x more e = ap (λ v. nat_le 2 (length (x ∷ more)) && v) e ∙ and_false (nat_le 2 (length (x ∷ more)))
 
   literals : (letters : List Letter) (pieces : List (Piece (Item A))) (left : List Letter) (a : After) → after_literal letters ≡ [] → IsPlain 0x2F (literal_prefix letters) → Reads IsPiece letters pieces left → EndsPart left a → AreLiterals letters pieces a
@@ -246,14 +247,14 @@ module _ {A : Type 0} where
   pub no_tag : (anchored : Bool) (literal : List ℕ) (pattern : List (Piece (Part A))) → IsTagOf anchored literal pattern 0
   no_tag anchored literal pattern path target t m none = none (tags.any refl)
 
-  pub more_tags : (lines : List (Line A)) (read : Option (Line A)) (all : List (Line A)) → AllByRecursion (λ line. IsTag line line.tag) lines → IfSome read (λ line. IsTag line line.tag) → all ≡ lines ++ list_of read → AllByRecursion (λ line. IsTag line line.tag) all
+  pub more_tags : (lines : List (Line A)) (read : Result (Line A) NoPattern) (all : List (Line A)) → AllByRecursion (λ line. IsTag line line.tag) lines → IfOk read (λ line. IsTag line line.tag) → all ≡ lines ++ list_of read → AllByRecursion (λ line. IsTag line line.tag) all
   more_tags lines read all h k e = subst (AllByRecursion (λ line. IsTag line line.tag)) (sym e) (go lines read h k)
     where
-      last : (read : Option (Line A)) → IfSome read (λ line. IsTag line line.tag) → AllByRecursion (λ line. IsTag line line.tag) (list_of read)
-      last None k = tt
-      last (Some line) k = (k, tt)
+      last : (read : Result (Line A) NoPattern) → IfOk read (λ line. IsTag line line.tag) → AllByRecursion (λ line. IsTag line line.tag) (list_of read)
+      last (Err reason) k = tt
+      last (Ok line) k = (k, tt)
 
-      go : (lines : List (Line A)) (read : Option (Line A)) → AllByRecursion (λ line. IsTag line line.tag) lines → IfSome read (λ line. IsTag line line.tag) → AllByRecursion (λ line. IsTag line line.tag) (lines ++ list_of read)
+      go : (lines : List (Line A)) (read : Result (Line A) NoPattern) → AllByRecursion (λ line. IsTag line line.tag) lines → IfOk read (λ line. IsTag line line.tag) → AllByRecursion (λ line. IsTag line line.tag) (lines ++ list_of read)
       go [] read h k = last read k
       go (x ∷ xs) read h k = (h.0, go xs read h.1 k)
 

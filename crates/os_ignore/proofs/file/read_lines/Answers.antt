@@ -2,7 +2,6 @@ use Rattle.std.proofs.Common.{◌+◌, sym, ap, subst, refl, ◌∙◌, arith}
 use Rattle.os_ignore.specs.Components.{left_pieces, left_size}
 use Rattle.os_ignore.specs.Files.{IsLineRead, NextLine, list_of}
 use Rattle.os_ignore.proofs.lemmas.Groups.{one_more}
-use Rattle.os_ignore.proofs.lemmas.LineReadings.{says_line}
 use Rattle.os_ignore.proofs.lemmas.Tags.{more_tags}
 use Rattle.os_ignore.proofs.file.read_lines.Goals as goal
 
@@ -13,7 +12,7 @@ loop-left-preserved g c =
       text = c.line_text.result.now;
       read = c.line_text.ensures;
       says = c.in_ok-read.read;
-      text_says = says_line c.line_text.result.now c.loop-left.number c.in_ok-read.read c.in_ok-read.ensures.line;
+      text_says = c.in_ok-read.ensures.line;
       said_is = refl;
       left_is = refl;
     }) in record {

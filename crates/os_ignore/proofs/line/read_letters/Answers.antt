@@ -7,22 +7,22 @@ use Rattle.os_ignore.proofs.lemmas.Rests as rests
 use Rattle.os_ignore.proofs.line.read_letters.Goals as goal
 
 pub returns-in_default-clause-line : goal.returns-in_default-clause-line
-returns-in_default-clause-line g c = quoted_slash c.trim.ensures (subst EndsQuoted (ap (λ p. p.1) c.strip_first-takes_in.ensures) c.in_default.ensures)
+returns-in_default-clause-line g c = quoted_slash c.trim.ensures (subst EndsQuoted (ap (λ p. p.1) c.strip_first-takes_in.ensures) c.in_default.ensures) refl
 
 pub returns-then-is_empty-clause-line : goal.returns-then-is_empty-clause-line
 returns-then-is_empty-clause-line g c =
-    let body = body_is _ _ _ _ _ _ (sym c.is_comment.ensures ∙ c.if-is_comment.false) c.trim.ensures c.strip_first-takes_in.ensures c.in-Some.ensures in
-    empty body (sym (ap (λ p. p.1) c.strip_first.ensures) ∙ rests.empty c.strip_first.result.1.now (sym c.is_empty.ensures ∙ c.if-is_empty.true))
+    let body = body_is _ _ _ _ _ _ c.trim.ensures c.strip_first-takes_in.ensures c.in-Some.ensures in
+    empty body (sym (ap (λ p. p.1) c.strip_first.ensures) ∙ rests.empty c.strip_first.result.1.now (sym c.is_empty.ensures ∙ c.if-is_empty.true)) refl
 
 pub returns-in_default-2-clause-line : goal.returns-in_default-2-clause-line
 returns-in_default-2-clause-line g c =
-    let body = body_is _ _ _ _ _ _ (sym c.is_comment.ensures ∙ c.if-is_comment.false) c.trim.ensures c.strip_first-takes_in.ensures c.in-Some.ensures in
+    let body = body_is _ _ _ _ _ _ c.trim.ensures c.strip_first-takes_in.ensures c.in-Some.ensures in
     let read = rw c.in_default-2.is at c.in_ok-pattern.ensures in
-    broken body (subst (IsBrokenPattern _) (c.in_ok-literal.ensures.1 ∙ ap (λ p. after_literal p.1) c.strip_first.ensures) read)
+    broken body (subst (IsBrokenPattern _) (c.in_ok-literal.ensures.1 ∙ ap (λ p. after_literal p.1) c.strip_first.ensures) read) refl
 
 pub returns-clause-line : goal.returns-clause-line
 returns-clause-line g c =
-    let body = body_is _ _ _ _ _ _ (sym c.is_comment.ensures ∙ c.if-is_comment.false) c.trim.ensures c.strip_first-takes_in.ensures c.in-Some.ensures in
+    let body = body_is _ _ _ _ _ _ c.trim.ensures c.strip_first-takes_in.ensures c.in-Some.ensures in
     let read = rw c.in-Some-2.is at c.in_ok-pattern.ensures in
     let same = ap (λ p. p.1) c.strip_first.ensures in (
       refl,

@@ -1,4 +1,4 @@
-use Rattle.std.proofs.Common.{◌∷◌, [], List, sym, subst}
+use Rattle.std.proofs.Common.{List, sym, subst}
 use Rattle.std.specs.Prelude.{IfOk}
 use Rattle.wildcards.specs.declared.part.Part.{Part}
 use Rattle.wildcards.specs.declared.piece.Piece.{Piece}

@@ -15,6 +15,7 @@ returns-clause-added g c =
       file_is = record {
         number_is = c.in_ok-added.ensures.0 ∙ c.len.ensures ∙ sym (sym (ap length files) ∙ c.deref.ensures.len);
         directory_is = c.in_ok-added.ensures.1.0;
-        lines = c.in_ok-added.ensures.1.1;
+        content_is = c.in_ok-added.ensures.1.1.0;
+        lines = c.in_ok-added.ensures.1.1.1;
       };
     }
