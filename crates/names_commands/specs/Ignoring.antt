@@ -1,5 +1,5 @@
 -- Which names ignore files leave out.
-use Rattle.std.specs.Prelude.{◌≡◌, ◌≢◌, ◌+◌, ℕ, Bool, true, false, nat_eq, ◌&&◌, cond, List, [], ◌∷◌, ◌++◌, map, length}
+use Rattle.std.specs.Prelude.{◌≡◌, ◌≢◌, ◌⊎◌, ◌+◌, ℕ, Bool, true, false, nat_eq, ◌&&◌, cond, List, [], ◌∷◌, ◌++◌, map, length}
 use Rattle.std.specs.List.{AllByRecursion}
 use denote.Ref.{Bor}
 use Rattle.os_ignore.specs.Ignores.{IsAdded}
@@ -7,6 +7,7 @@ use Rattle.os_ignore.specs.Verdicts.{IsVerdict, is_ignored}
 use Rattle.os_ignore.specs.declared.file.File.{File}
 use Rattle.os_ignore.specs.declared.verdict.Verdict.{Verdict}
 use Rattle.program_frame.specs.Files.{KnownFiles}
+use Rattle.program_frame.specs.Items.{IsCutAt, Lacks}
 
 -- the name without one `./` before it
 abbrev pub without_dot : List ℕ → List ℕ
@@ -19,12 +20,31 @@ abbrev pub IsPath : List ℕ → List ℕ → Bool → Type 0
 IsPath name path true = name ≡ path ++ 0x2F ∷ []
 IsPath name path false = (path ≡ name) × ((front : List ℕ) → name ≢ front ++ 0x2F ∷ [])
 
--- a file that was read: its name and its bytes
-abbrev pub FileRead : Type 0
-FileRead = List ℕ × List ℕ
+-- the directory's path in the tree: `.` is its top, and `./` before a path and `/` at its end are left out
+abbrev pub IsDirectory : List ℕ → List ℕ → Type 0
+IsDirectory word directory =
+    ((word ≡ 0x2E ∷ []) × (directory ≡ []))
+    ⊎ ((word ≢ 0x2E ∷ []) × ((is_dir : Bool) × IsPath (without_dot word) directory is_dir))
 
-abbrev pub name_of : FileRead → List ℕ
-name_of read = read.0
+-- a value of `--ignore` states an ignore file and its directory: FILE is at the top of the tree, and DIR=FILE in DIR, which ends at the first `=`
+abbrev pub IsFileIn : List ℕ → List ℕ → List ℕ → Type 0
+IsFileIn value directory name =
+    (Lacks 0x3D value × ((directory ≡ []) × (name ≡ value)))
+    ⊎ ((word : List ℕ) × (IsCutAt 0x3D value word name × IsDirectory word directory))
+
+-- a file that was read: the value that states it, its directory, its name and its bytes
+pub record FileRead : Type 0 where
+  pub value : List ℕ
+  pub directory : List ℕ
+  pub name : List ℕ
+  pub content : List ℕ
+
+abbrev pub value_of : FileRead → List ℕ
+value_of read = read.value
+
+-- the value states the file, which has these bytes
+abbrev pub WasRead : KnownFiles → FileRead → Type 0
+WasRead known read = IsFileIn read.value read.directory read.name × known.has read.name read.content
 
 -- the text of a word
 abbrev pub text_of : Bor (List ℕ) → List ℕ
@@ -40,23 +60,23 @@ module _ {A : Type 0} where
     pub verdict_is : IsVerdict files path is_dir verdict
     pub ignored : is_ignored verdict ≡ true
 
-  -- files were added, one after the other, each at the top of the tree
+  -- files were added, one after the other, each in its directory
   abbrev pub AreAdded : List FileRead → List (File A) → List (File A) → Type 0
   AreAdded [] old new = new ≡ old
-  AreAdded (read ∷ reads) old new = (mid : List (File A)) × IsAdded [] read.1 old mid × AreAdded reads mid new
+  AreAdded (read ∷ reads) old new = (mid : List (File A)) × IsAdded read.directory read.content old mid × AreAdded reads mid new
 
-  -- the files of these names were read, and their lines are those of the files
-  pub record AreRead (known : KnownFiles) (names : List (List ℕ)) (files : List (File A)) : Type 0 where
+  -- the files that these values state were read, and their lines are those of the files
+  pub record AreRead (known : KnownFiles) (values : List (List ℕ)) (files : List (File A)) : Type 0 where
     pub reads : List FileRead
-    pub names_are : names ≡ map name_of reads
-    pub have : AllByRecursion (λ read. known.has read.0 read.1) reads
+    pub values_are : values ≡ map value_of reads
+    pub have : AllByRecursion (WasRead known) reads
     pub added : AreAdded reads [] files
 
--- the first of the names whose file isn't read, and its number, counted from 1
-pub record IsFirstUnread (A : Type 0) (known : KnownFiles) (names : List (List ℕ)) (number : ℕ) (name : List ℕ) : Type 0 where
+-- the first of the values whose file isn't read, and its number, counted from 1
+pub record IsFirstUnread (A : Type 0) (known : KnownFiles) (values : List (List ℕ)) (number : ℕ) (value : List ℕ) : Type 0 where
   pub before : List (List ℕ)
   pub after : List (List ℕ)
-  pub joined : names ≡ before ++ name ∷ after
+  pub joined : values ≡ before ++ value ∷ after
   pub number_is : number ≡ length before + 1
   pub files : List (File A)
   pub read : AreRead known before files

@@ -37,7 +37,7 @@ use Rattle.names_commands.specs.declared.matching.Form.{Form}
 use Rattle.names_commands.specs.declared.matching.Form.TheVariants as form
 use Rattle.names_commands.specs.declared.pick.Pick.{Pick}
 use Rattle.names_commands.specs.declared.plan.Plan.{Plan}
-use Rattle.names_commands.specs.Ignoring.{AreRead, IsFirstUnread}
+use Rattle.names_commands.specs.Ignoring.{AreRead, IsFileIn, IsFirstUnread}
 use Rattle.names_commands.specs.Matching.{picking, AreWrittenOut, IsChosen, IsFirstFault, IsPicked}
 use Rattle.names_commands.specs.Pick.{AreChosen}
 use Rattle.names_commands.specs.declared.command.Request.{Request}
@@ -72,9 +72,13 @@ RunsTask os what max input left old new answer = Runs (rules_of (strings os) (re
 abbrev pub WritesSomeText : Doing
 WritesSomeText input left old new answer = (left ≡ input) × ((text : List ℕ) × WritesText text (OfList (Run Write)) old new answer)
 
--- why the ignore file with this number and this name can't be read
+-- no file has the name that this value of `--ignore` states
+abbrev pub LacksFile : KnownFiles → List ℕ → Type 0
+LacksFile known value = (directory : List ℕ) × (name : List ℕ) × (IsFileIn value directory name × known.lacks name)
+
+-- why the ignore file with this number, which this value states, can't be read
 abbrev pub IsFaultOfOne : KnownFiles → ℕ → List ℕ → Fault → Type 0
-IsFaultOfOne known number name fault = (fault ≡ OfList (Run Memory)) ⊎ (((fault ≡ Words (NoFile number)) × known.lacks name) ⊎ (fault ≡ Words (Unread number)))
+IsFaultOfOne known number value fault = (fault ≡ OfList (Run Memory)) ⊎ (((fault ≡ Words (NoFile number)) × LacksFile known value) ⊎ (fault ≡ Words (Unread number)))
 
 -- where this is known of files, and memory is taken of an allocator of this type:
 module _ (known : KnownFiles) (A : Type 0) where
@@ -83,8 +87,8 @@ module _ (known : KnownFiles) (A : Type 0) where
   IsFileFault names Unreadable = ⊥
   IsFileFault names (Misuse text) = ⊥
   IsFileFault names (Pattern number why) = ⊥
-  IsFileFault names (NoFile number) = (name : List ℕ) × IsFirstUnread A known names number name × known.lacks name
-  IsFileFault names (Unread number) = (name : List ℕ) × IsFirstUnread A known names number name
+  IsFileFault values (NoFile number) = (value : List ℕ) × IsFirstUnread A known values number value × LacksFile known value
+  IsFileFault values (Unread number) = (value : List ℕ) × IsFirstUnread A known values number value
 
   -- why ignore files can't be read: that, or that memory was refused
   abbrev pub IsFaultOf : List (List ℕ) → Fault → Type 0

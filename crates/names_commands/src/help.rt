@@ -21,6 +21,7 @@ PLATFORM is unix, windows or wasm. Options may stand anywhere; -- ends them.
   --glob GLOB      list, filter: pick the names that GLOB matches, beside those of other GLOBs
   --name GLOB      list, filter: pick by the last component, in any folder: --glob '**/GLOB'
   --ignore FILE    list, filter: leave out what the .gitignore file FILE ignores (unix, wasm)
+                   with DIR=FILE, as that of the folder DIR does
   -v, --invert     list, filter: pick the others
   --sh             list, join: words that every POSIX shell reads as the names (unix)
   --sh-line        list, join: words on one line, for bash, zsh, ksh93, mksh and busybox (unix)
@@ -40,9 +41,10 @@ of components; {a,b} is a or b; \\ quotes the character after it. The separator 
 well, in GLOB too, where it quotes nothing. So **/*.rs matches ./src/a.rs, and *.rs doesn't; --name '*.rs' does.
 A GLOB that begins with a dash is written --glob=-x.
 
-FILE is read as git reads a .gitignore at the top of the tree; a later one decides over those before it. Names are
-paths from there, with or without ./ at the start. A name that ends with / is a directory, another isn't: out/
-ignores ./out/ and ./out/a, but not ./out.
+FILE is read as git reads a .gitignore at the top of the tree, or in DIR. That of the deeper folder decides, and a later
+one over those before it. DIR ends at the first =, so a FILE whose name has one is written =FILE. Names are paths from
+the top, with or without ./ at the start. A name that ends with / is a directory, another isn't: out/ ignores ./out/
+and ./out/a, but not ./out.
 
 Status: 0; 1 for an invalid name or line, with its number, from 1; 2 for wrong arguments or an invalid GLOB; 3 if
 out of memory; 4 if a read or write fails, or a FILE can't be read.

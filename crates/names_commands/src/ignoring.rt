@@ -1,14 +1,19 @@
 //! Names that ignore files leave out.
-ghost use Rattle.std.specs.Prelude.{◌≡◌, ◌↔◌, ◌+◌, ◌<◌, ◌∷◌, [], ℕ, List, map, length, drop, IsTrue, IfErr, IfSome, MatchOption, MatchResult, OnOk};
+ghost use Rattle.std.specs.Prelude.{◌≡◌, ◌↔◌, ◌⊎◌, ◌+◌, ◌<◌, ◌∷◌, [], ℕ, List, map, length, drop, IsTrue, IfErr, IfOk, IfSome, MatchOption, MatchResult, OnOk};
 ghost use Rattle.os_ignore.specs.Ignores.{IsAdded, files_of};
-ghost use Rattle.names_commands.specs.Ignoring.{AreRead, IsIgnored, IsPath, text_of, without_dot};
+ghost use Rattle.names_commands.specs.Ignoring.{AreRead, IsDirectory, IsFileIn, IsIgnored, IsPath, text_of, without_dot};
+ghost use Rattle.program_frame.specs.declared.fault.Failure.TheVariants.{Memory};
+ghost use Rattle.program_frame.specs.declared.lists.fault.ListFault.TheVariants.{Run};
+ghost use Rattle.program_frame.specs.declared.lists.program_fault.Fault.TheVariants.{List as OfList, Words};
 ghost use Rattle.names_commands.specs.Program.{IsFaultOf, IsFaultOfOne};
+ghost use Rattle.names_commands.specs.declared.fault.CommandFault.TheVariants.{NoFile, Unread};
 
 use crate::fault::{CommandFault, Fault};
 use os_ignore::Ignore;
 use program_frame::fault::Failure;
 use program_frame::files::{FileFault, Files};
 use program_frame::lists::fault::ListFault;
+use program_frame::lists::items::split_at_end;
 use std::alloc::Allocator;
 
 /// The name without one `./` before it.
@@ -39,18 +44,18 @@ pub fn is_ignored<A: Allocator + Copy>(ignore: &Ignore<A>, name: &[u8]) -> bool
     ignore.matched(path, is_dir).is_ignored()
 }
 
-/// Reads ignore files, each as one at the top of the tree.
+/// Reads the ignore files that values of `--ignore` state.
 pub fn read_ignore<F: Files, A: Allocator + Copy>(
     alloc: A,
     files: &F,
-    names: &[&str],
+    values: &[&str],
 ) -> Result<Ignore<A>, Fault>
     ensures { MatchResult result
-        (λ ignore. AreRead (F.known files.now) (map text_of names.now) (files_of ignore))
-        (λ fault. IsFaultOf (F.known files.now) A (map text_of names.now) fault) }
+        (λ ignore. AreRead (F.known files.now) (map text_of values.now) (files_of ignore))
+        (λ fault. IsFaultOf (F.known files.now) A (map text_of values.now) fault) }
 {
     let mut ignore = Ignore::empty(alloc);
-    match add_files(alloc, files, names, &mut ignore) {
+    match add_files(alloc, files, values, &mut ignore) {
         Ok(()) => Ok(ignore),
         Err(fault) => Err(fault),
     }
@@ -60,18 +65,18 @@ pub fn read_ignore<F: Files, A: Allocator + Copy>(
 fn add_files<F: Files, A: Allocator + Copy>(
     alloc: A,
     files: &F,
-    names: &[&str],
+    values: &[&str],
     ignore: &mut Ignore<A>,
 ) -> Result<(), Fault>
     requires { files_of ignore.old ≡ [] }
-    ensures read { OnOk result (AreRead (F.known files.now) (map text_of names.now)
+    ensures read { OnOk result (AreRead (F.known files.now) (map text_of values.now)
         (files_of ignore.new)) }
     ensures fault { IfErr result (λ fault.
-        IsFaultOf (F.known files.now) A (map text_of names.now) fault) }
+        IsFaultOf (F.known files.now) A (map text_of values.now) fault) }
 {
     let mut added = 0;
-    while let Some(name) = name_after(names, added) {
-        match add_file(alloc, files, added + 1, name, ignore) {
+    while let Some(value) = value_at(values, added) {
+        match add_file(alloc, files, added + 1, value, ignore) {
             Ok(()) => {}
             Err(fault) => return Err(fault),
         }
@@ -80,40 +85,85 @@ fn add_files<F: Files, A: Allocator + Copy>(
     Ok(())
 }
 
-/// The name at `index`, or `None`.
-fn name_after<'a>(names: &[&'a str], index: usize) -> Option<&'a str>
-    ensures first { MatchOption result (drop index (map text_of names.now) ≡ [])
-        (λ name. drop index (map text_of names.now)
-        ≡ name.now ∷ drop (index + 1) (map text_of names.now)) }
-    ensures within { IfSome result (λ _. index < length names.now) }
+/// The value at `index`, or `None`.
+fn value_at<'a>(values: &[&'a str], index: usize) -> Option<&'a str>
+    ensures first { MatchOption result (drop index (map text_of values.now) ≡ [])
+        (λ value. drop index (map text_of values.now)
+        ≡ value.now ∷ drop (index + 1) (map text_of values.now)) }
+    ensures within { IfSome result (λ _. index < length values.now) }
 {
-    if index < names.len() {
-        Some(names[index])
+    if index < values.len() {
+        Some(values[index])
     } else {
         None
     }
 }
 
-/// Reads the ignore file with this number, and adds it to those before it.
+/// The directory and the name of the ignore file that a value of `--ignore` states.
+fn file_in(value: &[u8]) -> (&[u8], &[u8])
+    ensures { IsFileIn value.now result.0.now result.1.now }
+{
+    match split_at_end(b'=', value) {
+        Some((directory, name)) => (directory_of(directory), name),
+        None => (b"", value),
+    }
+}
+
+/// The path of a directory in the tree.
+fn directory_of(word: &[u8]) -> &[u8]
+    ensures { IsDirectory word.now result.now }
+{
+    if word == b".".as_slice() {
+        return b"";
+    }
+    let (path, _) = path_of(without_dot(word));
+    path
+}
+
+/// Reads the ignore file with this number, which a value states, and adds it to those before it.
 fn add_file<F: Files, A: Allocator + Copy>(
     alloc: A,
     files: &F,
     number: usize,
-    name: &str,
+    value: &str,
     ignore: &mut Ignore<A>,
 ) -> Result<(), Fault>
-    ensures added { OnOk result ((bytes : List ℕ) × ((F.known files.now).has name.now bytes
-        × IsAdded [] bytes (files_of ignore.old) (files_of ignore.new))) }
-    ensures fault { IfErr result (λ fault. IsFaultOfOne (F.known files.now) number name.now fault) }
+    ensures added { OnOk result ((directory : List ℕ) × (name : List ℕ) × (bytes : List ℕ)
+        × (IsFileIn value.now directory name × ((F.known files.now).has name bytes
+        × IsAdded directory bytes (files_of ignore.old) (files_of ignore.new)))) }
+    ensures fault { IfErr result (λ fault.
+        IsFaultOfOne (F.known files.now) number value.now fault) }
 {
-    let bytes = match files.read(alloc, name) {
+    let (directory, name) = file_in(value.as_bytes());
+    let bytes = match read_file(alloc, files, number, name) {
         Ok(bytes) => bytes,
-        Err(FileFault::NoFile) => return Err(Fault::Words(CommandFault::NoFile(number))),
-        Err(FileFault::Read) => return Err(Fault::Words(CommandFault::Unread(number))),
-        Err(FileFault::Memory) => return Err(Fault::List(ListFault::Run(Failure::Memory))),
+        Err(fault) => return Err(fault),
     };
-    match ignore.add(alloc, b"", &bytes) {
+    match ignore.add(alloc, directory, &bytes) {
         Ok(()) => Ok(()),
         Err(_) => Err(Fault::List(ListFault::Run(Failure::Memory))),
+    }
+}
+
+/// Reads the ignore file of this name, which is a text, since it is the end of a value behind a `=`.
+fn read_file<F: Files, A: Allocator + Copy>(
+    alloc: A,
+    files: &F,
+    number: usize,
+    name: &[u8],
+) -> Result<Vec<u8, A>, Fault>
+    ensures bytes { IfOk result (λ bytes. (F.known files.now).has name.now bytes.items) }
+    ensures fault { IfErr result (λ fault. (fault ≡ OfList (Run Memory))
+        ⊎ (((fault ≡ Words (NoFile number)) × (F.known files.now).lacks name.now)
+        ⊎ (fault ≡ Words (Unread number)))) }
+{
+    let Ok(name) = str::from_utf8(name) else {
+        return Err(Fault::Words(CommandFault::Unread(number)));
+    };
+    match files.read(alloc, name) {
+        Ok(bytes) => Ok(bytes),
+        Err(FileFault::NoFile) => Err(Fault::Words(CommandFault::NoFile(number))),
+        Err(FileFault::Read) => Err(Fault::Words(CommandFault::Unread(number))),
+        Err(FileFault::Memory) => Err(Fault::List(ListFault::Run(Failure::Memory))),
     }
 }

@@ -27,7 +27,7 @@ pub enum NamesOption {
     Glob,
     /// `--name GLOB`: picks the names whose last component a pattern matches, as `--glob '**/GLOB'`.
     Name,
-    /// `--ignore FILE`: leaves out the names that an ignore file ignores.
+    /// `--ignore FILE` or `--ignore DIR=FILE`: leaves out the names that an ignore file ignores.
     Ignore,
     /// `-v`, `--invert`: picks the names that would be left out, and leaves out the others.
     Invert,

@@ -9,7 +9,8 @@ use Rattle.os_ignore.specs.Ignores.{IsAdded, IsFileAt, IsOnly}
 use Rattle.os_ignore.specs.declared.file.File.{File}
 use Rattle.program_frame.specs.Ended.{status_after}
 use Rattle.program_frame.specs.Files.{KnownFiles}
-use Rattle.program_frame.specs.Items.{Lacks}
+use Rattle.program_frame.proofs.lemmas.lists.Items.{has_end}
+use Rattle.program_frame.specs.Items.{IsCutAt, Lacks}
 use Rattle.program_frame.specs.Os.{os_word}
 use Rattle.program_frame.specs.ListRun.{IsRun, answer_of}
 use Rattle.program_frame.specs.ProgramFault.{status_of}
@@ -22,7 +23,7 @@ use Rattle.program_frame.specs.declared.os.Os.{Os}
 use Rattle.program_frame.specs.declared.os.Os.TheVariants.{Unix, Windows, Wasm}
 use Rattle.names_commands.specs.Command.{AsksFor, HasOperands, IsMax, IsPick, Line, MakesUp, name_word, options_of}
 use Rattle.names_commands.specs.Fault.{words_status}
-use Rattle.names_commands.specs.Ignoring.{AreAdded, AreRead, FileRead, IsFirstUnread, IsIgnored, name_of}
+use Rattle.names_commands.specs.Ignoring.{AreAdded, AreRead, FileRead, IsDirectory, IsFileIn, IsFirstUnread, IsIgnored, WasRead, value_of}
 use Rattle.names_commands.specs.Matching.{IsChosen, IsPicked, picking}
 use Rattle.names_commands.specs.Options.{has_value, spelled}
 use Rattle.names_commands.specs.Pick.{glob_words, in_any_folder}
@@ -255,36 +256,41 @@ filters one_word one_value known A file words input left old new answer are runs
     by (inr (inl refused)) = absurd (no_fault_of one_word one_value file (fault_of refused.0) refused.2.0.0)
     by (inr (inr does)) = line does.0 does.1.0 does.1.1
 
+-- a value without `=` is the name of a file at the top
+at_top : (value directory name : List ℕ) → Lacks 0x3D value → IsFileIn value directory name → (directory ≡ []) × (name ≡ value)
+at_top value directory name lacks (inl plain) = plain.1
+at_top value directory name lacks (inr placed) = absurd (has_end 0x3D value placed.0 name placed.1.0 lacks)
+
 -- the file that was read is the only one
 module _ {A : Type 0} (name bytes : List ℕ) where
-  only_read : (files : List (File A)) → AreRead (only name bytes) (name ∷ []) files → IsOnly bytes files
-  only_read files r = by r.reads r.names_are r.have r.added
+  only_read : (files : List (File A)) → Lacks 0x3D name → AreRead (only name bytes) (name ∷ []) files → IsOnly bytes files
+  only_read files plain r = by r.reads r.values_are r.have r.added
     where
-      one : (content : List ℕ) → content ≡ bytes → (mid : List (File A)) → IsAdded [] content [] mid → files ≡ mid → IsOnly bytes files
-      one content same mid a e =
+      one : (directory content : List ℕ) → directory ≡ [] → content ≡ bytes → (mid : List (File A)) → IsAdded directory content [] mid → files ≡ mid → IsOnly bytes files
+      one directory content top same mid a e =
           let before : a.before ≡ [] = nil_left a.before a.place.after a.place.joined in
           let after : [] ≡ a.place.after = a.place.joined ∙ ap (λ x. x ++ a.place.after) before in
           record {
             file = a.file;
             files_are = e ∙ a.joined ∙ ap (λ x. x ++ a.file ∷ a.place.after) before ∙ ap (λ x. a.file ∷ x) (sym after);
-            file_is = subst (λ c. IsFileAt 0 [] c a.file) same a.file_is;
+            file_is = subst (λ c. IsFileAt 0 [] c a.file) same (subst (λ d. IsFileAt 0 d content a.file) top a.file_is);
           }
 
-      by : (reads : List FileRead) → name ∷ [] ≡ map name_of reads → AllByRecursion (λ read. (read.0 ≡ name) × (read.1 ≡ bytes)) reads → AreAdded reads [] files → IsOnly bytes files
+      by : (reads : List FileRead) → name ∷ [] ≡ map value_of reads → AllByRecursion (WasRead (only name bytes)) reads → AreAdded reads [] files → IsOnly bytes files
       by [] e h a = absurd (cc)
-      by (read ∷ []) e h a = one read.1 h.0.1 a.0 a.1 a.2
-      by (read ∷ more ∷ reads) e h a = let never : [] ≡ more.0 ∷ map name_of reads = later e in absurd (cc)
+      by (read ∷ []) e h a = one read.directory read.content (at_top read.value read.directory read.name (subst (Lacks 0x3D) (first e) plain) h.0.0).0 h.0.1.1 a.0 a.1 a.2
+      by (read ∷ more ∷ reads) e h a = let never : [] ≡ more.value ∷ map value_of reads = later e in absurd (cc)
 
   -- another file isn't read
-  not_read : (other : List ℕ) (files : List (File A)) → other ≢ name → AreRead (only name bytes) (other ∷ []) files → ⊥
-  not_read other files differs r = by r.reads r.names_are r.have
+  not_read : (other : List ℕ) (files : List (File A)) → Lacks 0x3D other → other ≢ name → AreRead (only name bytes) (other ∷ []) files → ⊥
+  not_read other files plain differs r = by r.reads r.values_are r.have
     where
-      by : (reads : List FileRead) → other ∷ [] ≡ map name_of reads → AllByRecursion (λ read. (read.0 ≡ name) × (read.1 ≡ bytes)) reads → ⊥
+      by : (reads : List FileRead) → other ∷ [] ≡ map value_of reads → AllByRecursion (WasRead (only name bytes)) reads → ⊥
       by [] e h = cc
-      by (read ∷ reads) e h = differs (first e ∙ h.0.0)
+      by (read ∷ reads) e h = differs (first e ∙ sym (at_top read.value read.directory read.name (subst (Lacks 0x3D) (first e) plain) h.0.0).1 ∙ h.0.1.0)
 
 -- what is written for one name
-module _ (A : Type 0) (file bytes name : List ℕ) (whole : Lacks 0 name) (some : name ≢ []) (left old new : Option (List ℕ)) where
+module _ (A : Type 0) (file bytes name : List ℕ) (plain : Lacks 0x3D file) (whole : Lacks 0 name) (some : name ≢ []) (left old new : Option (List ℕ)) where
   abbrev pub Written : Result ⊤ Fault → Type 0
   Written answer = OnOk answer ((text : List ℕ) × (IsFilteredBy A bytes name text × Appends old new text))
 
@@ -296,7 +302,7 @@ module _ (A : Type 0) (file bytes name : List ℕ) (whole : Lacks 0 name) (some 
   run_written files read (Ok done) is =
       let w = is.written in
       let said = known_filtered (strings Unix) (IsPicked false (IsChosen (strings Unix) (options_of Unix) []) files) 1048576 name w.0 whole some w.1.0 in
-      (w.0, (record { files = files; only = only_read file bytes files read; ignored = λ i. left_out i said; kept = λ n. kept n said }, w.1.1))
+      (w.0, (record { files = files; only = only_read file bytes files plain read; ignored = λ i. left_out i said; kept = λ n. kept n said }, w.1.1))
     where
       left_out : {text : List ℕ} → IsIgnored files name → ((Unit {0} × (¬ (IsIgnored files name))) × (text ≡ name ++ 0 ∷ [])) ⊎ ((¬ (Unit {0} × (¬ (IsIgnored files name)))) × (text ≡ [])) → text ≡ []
       left_out i (inl seen) = absurd (seen.0.1 i)
@@ -318,7 +324,7 @@ pub record EndsUnread (input left old new : Option (List ℕ)) (answer : Result 
   pub nothing : new ≡ old
 
 -- what the program does where there is no such file
-module _ (A : Type 0) (file bytes other : List ℕ) (differs : other ≢ file) (input left old new : Option (List ℕ)) (answer : Result ⊤ Fault) where
+module _ (A : Type 0) (file bytes other : List ℕ) (plain : Lacks 0x3D other) (differs : other ≢ file) (input left old new : Option (List ℕ)) (answer : Result ⊤ Fault) where
   number_one : (number : ℕ) (name : List ℕ) → IsFirstUnread A (only file bytes) (other ∷ []) number name → number ≡ 1
   number_one number name u = u.number_is ∙ ap (λ b. length b + 1) (one_before other name u.before u.after u.joined)
 
@@ -332,13 +338,13 @@ module _ (A : Type 0) (file bytes other : List ℕ) (differs : other ≢ file) (
   pub ends_unread : Filters (only file bytes) A other input left old new answer → EndsUnread input left old new answer
   ends_unread (inl memory) = record { fault = inr memory.0; kept = memory.1.0; nothing = memory.1.1 }
   ends_unread (inr (inl unread)) = by_fault unread.0 unread.1 unread.2
-  ends_unread (inr (inr ran)) = absurd (not_read file bytes other ran.0 differs ran.1)
+  ends_unread (inr (inr ran)) = absurd (not_read file bytes other ran.0 plain differs ran.1)
 
 -- what the whole program writes for one name, unless memory is refused before it runs
-module _ (one_word : OneWord) (one_value : OneValue) (A : Type 0) (file bytes name : List ℕ) (whole : Lacks 0 name) (some : name ≢ []) (words : List (List ℕ)) (words_are : words ≡ filtering file) (left old new : Option (List ℕ)) where
+module _ (one_word : OneWord) (one_value : OneValue) (A : Type 0) (file bytes name : List ℕ) (plain : Lacks 0x3D file) (whole : Lacks 0 name) (some : name ≢ []) (words : List (List ℕ)) (words_are : words ≡ filtering file) (left old new : Option (List ℕ)) where
   pub program_written : {X : Type 0} (outcome answer : Result ⊤ Fault) → answer ≡ outcome → ((outcome ≡ Err (OfList (Run Memory))) × X) ⊎ RunsTo (only file bytes) A words (Some name) left old new outcome → OnOk answer ((text : List ℕ) × (IsFilteredBy A bytes name text × Appends old new text))
-  program_written outcome answer e (inl memory) = err_written A file bytes name whole some left old new answer _ (e ∙ memory.0)
-  program_written outcome answer e (inr runs) = subst (Written A file bytes name whole some left old new) (sym e) (written A file bytes name whole some left old new outcome (filters one_word one_value (only file bytes) A file words (Some name) left old new outcome words_are runs))
+  program_written outcome answer e (inl memory) = err_written A file bytes name plain whole some left old new answer _ (e ∙ memory.0)
+  program_written outcome answer e (inr runs) = subst (Written A file bytes name plain whole some left old new) (sym e) (written A file bytes name plain whole some left old new outcome (filters one_word one_value (only file bytes) A file words (Some name) left old new outcome words_are runs))
 
 -- the status where the file can't be read
 pub status_unread : (outcome answer : Result ⊤ Fault) (status : ℕ) → answer ≡ outcome → status ≡ status_after (status_of words_status) outcome
@@ -348,8 +354,8 @@ status_unread outcome answer status e s (inl (inr failed)) = inl (inr (e ∙ fai
 status_unread outcome answer status e s (inr memory) = inr (e ∙ memory, s ∙ ap (status_after (status_of words_status)) memory)
 
 -- how the whole program ends then: memory may be refused before it runs
-pub end_of : OneWord → OneValue → (A : Type 0) (file bytes other : List ℕ) → other ≢ file → (words : List (List ℕ)) → words ≡ filtering other → {R W : Type 0} (reads : R → Option (List ℕ)) (writes : W → Option (List ℕ)) (reader read : R) (writer wrote : W) (outcome : Result ⊤ Fault)
+pub end_of : OneWord → OneValue → (A : Type 0) (file bytes other : List ℕ) → Lacks 0x3D other → other ≢ file → (words : List (List ℕ)) → words ≡ filtering other → {R W : Type 0} (reads : R → Option (List ℕ)) (writes : W → Option (List ℕ)) (reader read : R) (writer wrote : W) (outcome : Result ⊤ Fault)
     → ((outcome ≡ Err (OfList (Run Memory))) × ((read ≡ reader) × (wrote ≡ writer))) ⊎ RunsTo (only file bytes) A words (reads reader) (reads read) (writes writer) (writes wrote) outcome
     → EndsUnread (reads reader) (reads read) (writes writer) (writes wrote) outcome
-end_of one_word one_value A file bytes other differs words are reads writes reader read writer wrote outcome (inl memory) = record { fault = inr memory.0; kept = ap reads memory.1.0; nothing = ap writes memory.1.1 }
-end_of one_word one_value A file bytes other differs words are reads writes reader read writer wrote outcome (inr runs) = ends_unread A file bytes other differs (reads reader) (reads read) (writes writer) (writes wrote) outcome (filters one_word one_value (only file bytes) A other words (reads reader) (reads read) (writes writer) (writes wrote) outcome are runs)
+end_of one_word one_value A file bytes other plain differs words are reads writes reader read writer wrote outcome (inl memory) = record { fault = inr memory.0; kept = ap reads memory.1.0; nothing = ap writes memory.1.1 }
+end_of one_word one_value A file bytes other plain differs words are reads writes reader read writer wrote outcome (inr runs) = ends_unread A file bytes other plain differs (reads reader) (reads read) (writes writer) (writes wrote) outcome (filters one_word one_value (only file bytes) A other words (reads reader) (reads read) (writes writer) (writes wrote) outcome are runs)

@@ -55,6 +55,7 @@ pub fn left_out<A: Allocator + Copy, W: Output, E: Messages>(
     errors: &mut E,
 ) -> Result<(), Fault>
     requires words { words_after_name arguments ≡ filtering file.name.now }
+    requires plain { Lacks 0x3D file.name.now }
     requires whole { Lacks 0 name.now }
     requires some { name.now ≢ [] }
     requires unmarked { has_failed writer.old ≡ false }
@@ -81,6 +82,7 @@ pub fn unread<P: Eprint, A: Allocator + Copy, R: Read, W: Output, E: Messages>(
     errors: &mut E,
 ) -> (Result<(), Fault>, ExitCode)
     requires words { words_after_name arguments ≡ filtering other.now }
+    requires plain { Lacks 0x3D other.now }
     requires another { other.now ≢ file.name.now }
     requires reader_unmarked { has_failed reader.old ≡ false }
     requires writer_unmarked { has_failed writer.old ≡ false }

@@ -8,7 +8,7 @@ use Rattle.os_ignore.specs.declared.file.File.{File}
 use Rattle.os_ignore.specs.declared.verdict.Verdict.{Verdict}
 use Rattle.os_ignore.proofs.lemmas.OneVerdict.{one_verdict}
 use Rattle.program_frame.specs.Files.{KnownFiles}
-use Rattle.names_commands.specs.Ignoring.{AreAdded, AreRead, FileRead, IsFirstUnread, IsIgnored, IsPath, name_of, without_dot}
+use Rattle.names_commands.specs.Ignoring.{AreAdded, AreRead, FileRead, IsFileIn, IsFirstUnread, IsIgnored, IsPath, WasRead, value_of, without_dot}
 use Rattle.names_commands.specs.Program.{Fault, IsFaultOf, IsFaultOfOne}
 use Rattle.names_commands.specs.declared.fault.CommandFault.TheVariants.{NoFile, Unread}
 use Rattle.names_commands.proofs.lemmas.Picks.{pushed}
@@ -20,7 +20,7 @@ one_path name p q true false a b = absurd (b.1 p a)
 one_path name p q false true a b = absurd (a.1 q b)
 one_path name p q false false a b = (a.0 ∙ sym b.0, refl)
 
-one_has : (known : KnownFiles) (reads : List FileRead) (read : FileRead) → AllByRecursion (λ r. known.has r.0 r.1) reads → known.has read.0 read.1 → AllByRecursion (λ r. known.has r.0 r.1) (reads ++ read ∷ [])
+one_has : (known : KnownFiles) (reads : List FileRead) (read : FileRead) → AllByRecursion (WasRead known) reads → WasRead known read → AllByRecursion (WasRead known) (reads ++ read ∷ [])
 one_has known [] read a h = (h, tt)
 one_has known (x ∷ reads) read a h = (a.0, one_has known reads read a.1 h)
 
@@ -31,8 +31,8 @@ module _ {A : Type 0} where
       let here = subst (λ p. IsVerdict files p is_dir i.verdict) same.0 (subst (λ d. IsVerdict files i.path d i.verdict) same.1 i.verdict_is) in
       ap is_ignored (one_verdict files path is_dir verdict i.verdict verdict_is here) ∙ i.ignored
 
-  one_added : (reads : List FileRead) (read : FileRead) (old mid new : List (File A)) → AreAdded reads old mid → IsAdded [] read.1 mid new → AreAdded (reads ++ read ∷ []) old new
-  one_added [] read old mid new a i = (new, subst (λ x. IsAdded [] read.1 x new) a i, refl)
+  one_added : (reads : List FileRead) (read : FileRead) (old mid new : List (File A)) → AreAdded reads old mid → IsAdded read.directory read.content mid new → AreAdded (reads ++ read ∷ []) old new
+  one_added [] read old mid new a i = (new, subst (λ x. IsAdded read.directory read.content x new) a i, refl)
   one_added (x ∷ reads) read old mid new a i = (a.0, a.1, one_added reads read a.0 mid new a.2 i)
 
   -- so many of the files were read, and the names of the others are left
@@ -43,18 +43,18 @@ module _ {A : Type 0} where
     pub read : AreRead known before files
 
   pub none_read : (known : KnownFiles) (names : List (List ℕ)) (files : List (File A)) → files ≡ [] → AreReadSoFar known names names 0 files
-  none_read known names files none = record { before = []; joined = refl; number_is = refl; read = record { reads = []; names_are = refl; have = tt; added = none } }
+  none_read known names files none = record { before = []; joined = refl; number_is = refl; read = record { reads = []; values_are = refl; have = tt; added = none } }
 
-  pub one_read : (known : KnownFiles) (names left : List (List ℕ)) (number : ℕ) (name bytes : List ℕ) (old new : List (File A)) → AreReadSoFar known names (name ∷ left) number old → known.has name bytes → IsAdded [] bytes old new → AreReadSoFar known names left (number + 1) new
-  one_read known names left number name bytes old new s has added = record {
-    before = s.before ++ name ∷ [];
-    joined = s.joined ∙ sym (append_assoc s.before (name ∷ []) left);
-    number_is = ap (λ n. n + 1) s.number_is ∙ sym (length-append s.before (name ∷ []));
+  pub one_read : (known : KnownFiles) (values left : List (List ℕ)) (number : ℕ) (read : FileRead) (old new : List (File A)) → AreReadSoFar known values (read.value ∷ left) number old → WasRead known read → IsAdded read.directory read.content old new → AreReadSoFar known values left (number + 1) new
+  one_read known values left number read old new s was added = record {
+    before = s.before ++ read.value ∷ [];
+    joined = s.joined ∙ sym (append_assoc s.before (read.value ∷ []) left);
+    number_is = ap (λ n. n + 1) s.number_is ∙ sym (length-append s.before (read.value ∷ []));
     read = record {
-      reads = s.read.reads ++ (name, bytes) ∷ [];
-      names_are = ap (λ x. x ++ name ∷ []) s.read.names_are ∙ sym (pushed name_of s.read.reads (name, bytes));
-      have = one_has known s.read.reads (name, bytes) s.read.have has;
-      added = one_added s.read.reads (name, bytes) [] old new s.read.added added;
+      reads = s.read.reads ++ read ∷ [];
+      values_are = ap (λ x. x ++ read.value ∷ []) s.read.values_are ∙ sym (pushed value_of s.read.reads read);
+      have = one_has known s.read.reads read s.read.have was;
+      added = one_added s.read.reads read [] old new s.read.added added;
     };
   }
 
