@@ -45,7 +45,7 @@ module _ {A : Type 0} where
   list_of (Err reason) = []
   list_of (Ok line) = line ∷ []
 
-  -- the text is this line, of this number, or says nothing for this reason
+  -- the text is this line, of this number, or is no pattern for this reason
   abbrev pub SaysLine : ℕ → List ℕ → Result (Line A) NoPattern → Type 0
   SaysLine number text (Err reason) = SaysNothing A text reason
   SaysLine number text (Ok line) = (line.number ≡ number) × IsLine text line

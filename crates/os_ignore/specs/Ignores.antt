@@ -63,7 +63,7 @@ module _ {A : Type 0} where
     pub file_is : IsFileAt number directory content file
     pub other_is : IsFileAt number directory content other
 
--- the other text has an empty line in place of one that says nothing
+-- the other text has an empty line in place of one that is no pattern
 pub record IsBlanked (A : Type 0) (content other : List ℕ) : Type 0 where
   pub front : List (List ℕ)
   pub back : List (List ℕ)

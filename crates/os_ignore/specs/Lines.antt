@@ -83,7 +83,7 @@ pub data LettersSayNothing (A : Type 0) (letters : List Letter) (reason : NoPatt
   empty : {takes_in directories : Bool} {body : List Letter} → IsBody letters takes_in directories body → (strip_first 0x2F body).1 ≡ [] → reason ≡ Empty → LettersSayNothing A letters reason
   broken : {takes_in directories : Bool} {body : List Letter} → IsBody letters takes_in directories body → IsBrokenPattern A (after_literal (strip_first 0x2F body).1) → reason ≡ Class → LettersSayNothing A letters reason
 
--- why the text says nothing: it is a comment, its last backslash quotes nothing, or its letters are no pattern
+-- why the text is no pattern: it is a comment, its last backslash quotes nothing, or its letters are no pattern
 pub data SaysNothing (A : Type 0) (text : List ℕ) (reason : NoPattern) : Type 0 where
   comment : is_comment text ≡ true → reason ≡ Comment → SaysNothing A text reason
   dangling : is_comment text ≡ false → IsDangling text → reason ≡ Backslash → SaysNothing A text reason

@@ -42,7 +42,7 @@ pub fn taken_in_again<A: Allocator>()
         → LineMatches line path is_dir ↔ LineMatches again path is_dir) }
 {}
 
-/// A text that is a line isn't one that says nothing.
+/// A text that is a line has no reason why it is none.
 pub fn never_both<A: Allocator>()
     ensures { (text : List ℕ) → (line : Line A) → (reason : NoPattern)
         → IsLine text line → SaysNothing A text reason → ⊥ }
@@ -63,7 +63,7 @@ pub fn by_text<A: Allocator>()
         → IsVerdict files path is_dir v → IsVerdict others path is_dir w → v ≡ w }
 {}
 
-/// A line that says nothing changes no verdict: it may as well be empty.
+/// A line that is no pattern changes no verdict: it may as well be empty.
 pub fn silent_line<A: Allocator>()
     ensures { (content : List ℕ) → (other : List ℕ) → IsBlanked A content other → (number : ℕ)
         → (directory : List ℕ) → (file : File A) → (blank : File A)

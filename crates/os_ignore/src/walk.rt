@@ -71,7 +71,7 @@ impl<'i, A: Allocator + Copy> Walk<'i, A> {
     ///
     /// # Errors
     ///
-    /// [`AllocError`], where memory for the directory of the path was refused. The walk can go on.
+    /// [`AllocError`] if the allocation for the directory of the path fails. The walk can go on.
     ///
     /// ```
     /// use os_ignore::{Ignore, Walk};
