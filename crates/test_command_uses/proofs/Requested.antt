@@ -1,6 +1,10 @@
--- The program `paths` with arguments that request a command.
-use Rattle.std.proofs.Common.{inl, inr, ℕ, List, Option, Result}
-use Rattle.std.specs.Prelude.{⊤}
+-- Arguments that request something, for the programs `names` and `paths`.
+use Rattle.std.proofs.Common.{inl, inr, ℕ, List, Option, Result, Ok, Err, refl}
+use Rattle.std.specs.Prelude.{⊤, IfErr}
+use Rattle.std.specs.Result.{IsOk}
+use Rattle.names_commands.specs.Command.{AsksFor, IsRejected, Line}
+use Rattle.names_commands.specs.declared.command.Request.{Request}
+use Rattle.program_frame.specs.declared.misuse.Misuse.{Misuse}
 use Rattle.paths_commands.specs.Program.{Fault, RunsTo}
 use Rattle.test_command_uses.specs.Requests.{RequestsSome, RunsSome}
 
@@ -9,3 +13,8 @@ pub requested : (words : List (List ℕ)) (input left old new : Option (List ℕ
 requested words input left old new answer some (inl memory) = inl memory.0
 requested words input left old new answer some (inr (inl rejects)) = absurd (rejects.0 some.0 some.1.0 some.1.1.0 some.1.1.1)
 requested words input left old new answer some (inr (inr runs)) = inr runs
+
+-- neither are those that make up a request of `names`
+pub never_rejected : (given : Line) (answer : Result Request Misuse) → IfErr answer (IsRejected given) → (request : Request) → AsksFor given request → IsOk answer
+never_rejected given (Ok found) misuse request asks = refl
+never_rejected given (Err fault) misuse request asks = absurd (misuse.no_request request asks)

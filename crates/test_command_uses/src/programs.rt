@@ -143,7 +143,7 @@ pub fn names_without_arguments<
     requires reader_unmarked { has_failed reader.old ≡ false }
     requires writer_unmarked { has_failed writer.old ≡ false }
     ensures told { result.0 ≡ true → Appends (E.contents errors.old) (E.contents errors.new)
-        (codes "names: usage: names [--max N] list|filter|join|check unix|windows|wasm [GLOB|OPTIONS], list|join --sh unix; names --help tells more\n") }
+        (codes "names: an argument isn't valid UTF-8\n") }
     ensures status { exit_status result.1 ≡ 2 }
     ensures unread { reader.new ≡ reader.old }
     ensures kept { writer.new ≡ writer.old }
