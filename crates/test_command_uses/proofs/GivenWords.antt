@@ -1,8 +1,11 @@
 -- How the arguments that filter names by one ignore file are read, and that they are read in no other way.
-use Rattle.std.proofs.Common.{◌≡◌, ◌≢◌, ◌⊎◌, inl, inr, ℕ, ◌+◌, Bool, true, false, List, [], ◌∷◌, ◌++◌, length, get_or, refl, sym, ap, ◌∙◌, subst, arith, Option, Some, None, Result, Ok, Err}
+use Rattle.std.proofs.Common.{◌≡◌, ◌≢◌, ◌⊎◌, inl, inr, ℕ, ◌+◌, ◌<◌, Bool, true, false, List, [], ◌∷◌, ◌++◌, length, get_or, refl, sym, ap, ◌∙◌, subst, arith, Option, Some, None, Result, Ok, Err}
 use Rattle.std.specs.Prelude.{codes}
 use Rattle.std.specs.Str.{IsUtf8}
-use Rattle.std.proofs.lemmas.Str.{IsUtf8-from_is_utf8}
+use Rattle.std.specs.List.{AllByRecursion}
+use Rattle.std.proofs.lemmas.List.Elements.{All-from_recursion}
+use Rattle.std.proofs.lemmas.Str.{IsUtf8-from_ascii}
+use Rattle.std.proofs.lemmas.Str.Ascii.{IsAscii-from_all}
 use denote.Ref.{Bor}
 use Rattle.wtf8_core.specs.Occurrence.{IsPrefix, OccursAt, OccursNowhere}
 use Rattle.os_args.specs.Word.{Kind, Long, LongBytes, Short, ShortBytes, Value, dash, dashes, equals}
@@ -15,6 +18,9 @@ use Rattle.names_commands.specs.Options.{has_value, name_of, spelled}
 use Rattle.names_commands.specs.declared.option.NamesOption.{NamesOption}
 use Rattle.names_commands.specs.declared.option.NamesOption.TheVariants as option
 use Rattle.test_command_uses.specs.OneFile.{filtering}
+
+ascii_text : (s : List ℕ) → AllByRecursion (λ b. b < 0x80) s → IsUtf8 s
+ascii_text s h = IsUtf8-from_ascii s (IsAscii-from_all s (All-from_recursion (λ b. b < 0x80) s h))
 
 head_is : {X : Type 0} {x y : X} {xs ys : List X} → x ∷ xs ≡ y ∷ ys → x ≡ y
 head_is e = cc
@@ -119,7 +125,7 @@ module _ (file : List ℕ) where
       text = codes "ignore";
       joined = refl;
       some = λ e. nil_is (sym e);
-      named = (IsUtf8-from_is_utf8 (codes "ignore") refl, record { joined = refl; no_equals = no_equals; end = inl refl });
+      named = (ascii_text (codes "ignore") (omega arith, (omega arith, (omega arith, (omega arith, (omega arith, (omega arith, tt)))))), record { joined = refl; no_equals = no_equals; end = inl refl });
     });
     same = refl;
   })

@@ -1,5 +1,5 @@
 -- What the program does for the words that filter names by one ignore file.
-use Rattle.std.proofs.Common.{◌≡◌, ◌≢◌, ◌⊎◌, inl, inr, ℕ, List, [], ◌∷◌, ◌++◌, ◌+◌, Bool, true, false, ◌↔◌, length, map, get_or, refl, sym, ap, ◌∙◌, subst, arith, Option, Some, Result, Ok, Err}
+use Rattle.std.proofs.Common.{◌≡◌, ◌≢◌, ◌⊎◌, inl, inr, ℕ, List, [], ◌∷◌, ◌++◌, ◌+◌, Bool, true, false, ◌↔◌, length, map, get_or, refl, sym, ap, ◌∙◌, subst, arith, Option, Some, None, Result, Ok, Err}
 use Rattle.std.specs.Prelude.{codes, IsTrue, OnOk, ⊤}
 use Rattle.std.specs.List.{AllByRecursion}
 use Rattle.std.specs.Io.KnownBytes.{Appends}
@@ -235,7 +235,7 @@ module _ (known : KnownFiles) (A : Type 0) (file : List ℕ) (input left old new
     asked : (request : Request) × AsksFor given request
     asked = (record { command = Filter Unix (record { glob = None; inverted = false }); max = 1048576 }, inr (no_help command platform value, inr (no_version command platform value, (inl (no_limit command platform value, refl), ([], (operands, ((tt, (tt, (tt, tt))), record { glob = refl; some = inr (inr (inl (inr (inr (inl refl))))); ignores = λ h. tt; inverted = (λ e. let never : false ≡ true = e in absurd (cc), λ h. absurd (no_invert command platform value h)) })))))))
 
-    not_rejected : RejectsLine given input left old new answer → ⊥
+    not_rejected : RejectsLine known A given input left old new answer → ⊥
     not_rejected r = r.2.0.0.no_request asked.0 asked.1
 
     of_line : RunsLine known A given input left old new answer → Filters

@@ -45,7 +45,6 @@ pub fn limit_of_two(command: &str, platform: &str) -> Option<usize>
 }
 
 /// The request that options and operands make up.
-#[tactic(auto, using(crate::proofs::Requested::never_rejected))]
 pub fn known_request<'a>(given: Line<'_, 'a>) -> Result<Request<'a>, Misuse<'a>>
     ensures { (request : RequestOf) → AsksFor given.entry.now request → IsOk result }
 {

@@ -207,7 +207,6 @@ pub fn paths_refused<P: Eprint, A: Allocator + Copy, R: Read, W: Output, E: Mess
 
 /// The program for paths with arguments that request a command: it runs such a command, unless
 /// an allocation fails.
-#[tactic(auto, using(crate::proofs::Requested::requested))]
 pub fn paths_requested<P: Eprint, A: Allocator + Copy, R: Read, W: Output, E: Messages>(
     rt: &P,
     alloc: A,
