@@ -460,7 +460,8 @@ typedef enum osb_join_reason {
  * them the names of the path, in which `.` and `..` are resolved. OSB_OK, OSB_NO_ROOM, OSB_NO_MEMORY,
  * OSB_BAD_PLATFORM, and OSB_BAD_PATH, with which `*reason` is why there is none, as OSB_JOIN_LEAVES;
  * `reason` may be null.
- * It looks at the path alone: links of the file system, 8.3 names and aliases may still lead elsewhere. */
+ * It looks at the path alone, by the rules of `platform`: links, mounts and 8.3 names may still lead
+ * elsewhere. */
 OSB_NODISCARD osb_status osb_path_join_checked(osb_platform platform, const char *base,
                                                size_t base_len, const char *at, size_t len,
                                                char *out, size_t room, size_t *count,
@@ -635,7 +636,8 @@ size_t osb_shell_bound(size_t len);
  * NUL; `index` may be null. The word is for an argument: first on a line `if` or `time` is a reserved word,
  * which osb_shell_join quotes. The shell's locale may be C or of UTF-8, GBK, Big5, Shift-JIS, an EUC or a
  * charset of one byte. In GB18030 bash with the GNU C library misreads a quote after a byte from 81 (hex)
- * on and a digit that begin no character. */
+ * on and a digit that begin no character. Aliases, functions and options that a user has set may change
+ * what a word means. */
 OSB_NODISCARD osb_status osb_shell_quote(const char *at, size_t len, char *out, size_t room,
                                          size_t *count, size_t *index);
 /* Writes a name of Unix as a word on one line, for a terminal, of the shells that read $'..'
