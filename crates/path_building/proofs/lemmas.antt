@@ -31,3 +31,4 @@ pub mod MainSeparators
 pub mod InlineTexts
 pub mod NulFree
 pub mod FullPaths
+pub mod CommonBases

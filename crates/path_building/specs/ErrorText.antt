@@ -2,6 +2,8 @@
 use Rattle.std.specs.Prelude.{ℕ, List, ◌++◌, codes, decimal}
 use Rattle.path_building.specs.declared.checked.JoinError.{JoinError}
 use Rattle.path_building.specs.declared.checked.JoinError.TheVariants as join
+use Rattle.path_building.specs.declared.common_bases.CommonBaseError.{CommonBaseError}
+use Rattle.path_building.specs.declared.common_bases.CommonBaseError.TheVariants as common
 use Rattle.path_building.specs.declared.full_paths.AbsoluteError.{AbsoluteError}
 use Rattle.path_building.specs.declared.full_paths.AbsoluteError.TheVariants as absolute
 use Rattle.path_building.specs.declared.normal.NormalizeError.{NormalizeError}
@@ -43,3 +45,13 @@ absolute_error_text absolute.Reserved = codes "the path has a reserved name"
 absolute_error_text absolute.Directory = codes "the directory isn't a full path"
 absolute_error_text absolute.Drive = codes "the directory is on another drive"
 absolute_error_text absolute.Memory = codes "out of memory"
+
+-- a part of the path at an index isn't that of the first path
+abbrev pub unlike_first : List ℕ → ℕ → List ℕ
+unlike_first what index = what ++ (codes " of path " ++ (decimal index ++ codes " isn't that of path 0"))
+
+-- why paths have no common base
+abbrev pub common_base_error_text : CommonBaseError → List ℕ
+common_base_error_text common.NoPath = codes "there are no paths"
+common_base_error_text (common.Prefix index) = unlike_first (codes "the prefix") index
+common_base_error_text (common.Root index) = unlike_first (codes "the root") index

@@ -15,5 +15,6 @@ pub mod Restyled
 pub mod Trailing
 pub mod CheckedEnd
 pub mod Collected
+pub mod CommonBase
 pub mod FullPath
 pub mod MainSeparators

@@ -21,6 +21,7 @@ mod base;
 mod checked;
 mod checked_ends;
 mod collected;
+mod common_bases;
 mod error_text;
 mod file_names;
 mod file_stems;
@@ -37,6 +38,7 @@ mod writing;
 pub use checked::{JoinError, join_checked};
 pub use checked_ends::join_checked_keeping_sep;
 pub use collected::from_components;
+pub use common_bases::{CommonBaseError, common_base};
 pub use file_names::{
     add_extension, set_extension, set_file_name, with_added_extension, with_extension,
     with_file_name,

@@ -8,6 +8,7 @@
 pub mod changed;
 pub mod checked;
 pub mod collected;
+pub mod common_bases;
 pub mod comparisons;
 pub mod form;
 pub mod full_paths;

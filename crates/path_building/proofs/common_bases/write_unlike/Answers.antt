@@ -1,0 +1,11 @@
+use Rattle.std.proofs.Common.{true, refl}
+use Rattle.std.proofs.Output.{has_written_styled_append}
+use Rattle.path_building.proofs.common_bases.write_unlike.Goals as goal
+
+pub returns : goal.returns
+returns g c = λ flush ok.
+    let what = c.in_ok-write_str.ensures.styled flush (refl {a = true}) in
+    let middle = c.in_ok-write_str-2.ensures.styled what.flush (refl {a = true}) in
+    let index = c.in_ok-write_number.ensures middle.flush (refl {a = true}) in
+    let end = c.write_str-3.ensures.styled index.flush ok in
+    has_written_styled_append _ _ _ _ _ _ what (has_written_styled_append _ _ _ _ _ _ middle (has_written_styled_append _ _ _ _ _ _ index end))
