@@ -53,11 +53,7 @@ impl fmt::Display for CommonBaseError {
 }
 
 /// Writes that a part of the path at an index isn't that of the first path.
-fn write_unlike<W: fmt::Write>(
-    what: &str,
-    index: usize,
-    f: &mut fmt::Formatter<W>,
-) -> fmt::Result
+fn write_unlike<W: fmt::Write>(what: &str, index: usize, f: &mut fmt::Formatter<W>) -> fmt::Result
     ensures { WritesStyledOnOk W.write_str_gives f.old result (unlike_first what.now index) f.new }
 {
     f.write_str(what)?;
@@ -75,8 +71,9 @@ impl Error for CommonBaseError {}
 /// component. It is empty if relative paths have no component in common. `..` is a component like
 /// any other, and so is a `.` at the start of a path.
 ///
-/// It takes time in proportion to the bytes of all paths. A prefix is read again for each path, and
-/// for each component that is left out.
+/// It takes time in proportion to the bytes of all paths. Separators of the first path that follow
+/// each other are read again for each path. So is a prefix, and also for each component that is
+/// left out.
 ///
 /// # Errors
 ///

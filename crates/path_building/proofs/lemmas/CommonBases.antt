@@ -481,6 +481,7 @@ root_is head s = cases head.prefix.now
   where
     cs : List Item
     cs = components_in head.rules head.body.now
+
     b : AllByRecursion IsBelow cs
     b = all_below head.rules cs s
 

@@ -17,6 +17,6 @@ loop-left-preserved c =
     let left = c.loop-left.left.now in
     let long = c.in-len1-up.len_at_least in (
       step c.args.style bytes_of c.args.first.now (map bytes_of c.args.others.now) _ c.loop-left.index c.loop-left.base.now left long c.loop-left.invariant.0
-      (c.have_one_prefix.ensures.0 c.if-not-have_one_prefix.false, c.have_one_root.ensures.0 c.if-not-have_one_root.false) c.shared-base.result.now c.shared-base.ensures,
+          (c.have_one_prefix.ensures.0 c.if-not-have_one_prefix.false, c.have_one_root.ensures.0 c.if-not-have_one_root.false) c.shared-base.result.now c.shared-base.ensures,
       shorter c.loop-left.index (length c.args.others.now + 1) left long c.loop-left.invariant.1,
     )
