@@ -61,7 +61,8 @@ impl fmt::Display for QuoteError {
 
 impl Error for QuoteError {}
 
-/// Writes the decimal digits of a number, and ignores the formatter's width.
+/// Writes the decimal digits of a number, and ignores the formatter's width. Crates whose errors
+/// print an index have a copy each, since sharing these lines would take a public call.
 fn write_number<W: fmt::Write>(number: usize, f: &mut fmt::Formatter<W>) -> fmt::Result
     ensures { WritesStyledOnOk W.write_str_gives f.old result (decimal number) f.new }
 {

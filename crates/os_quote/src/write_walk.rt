@@ -14,7 +14,9 @@ use os_str_bytes::{OsStr, Platform};
 use std::fmt;
 
 /// A sink, which takes an escape piece by piece: a formatter, a buffer, or a text to compare with
-/// it.
+/// it. A piece is a `str`, since an escape is text and a formatter takes nothing else. So this
+/// sink can't take the words of a shell, which may hold a name that isn't UTF-8, and
+/// `os_command_line` has a sink of bytes.
 pub(crate) trait Sink {
     ghost rules: { SinkRules Self };
 

@@ -52,7 +52,8 @@ fn are_ends_same<const N: usize>(a: &[u8], b: &[u8]) -> bool
     has_same_prefix && has_same_suffix
 }
 
-/// Whether the N bytes from index `at` on are the same.
+/// Whether the N bytes from index `at` on are the same. The lanes are made here, since
+/// `wtf8_core::vectors::lanes::load` states each byte of them and this compares lists.
 #[inline(always)]
 fn are_same_at<const N: usize>(a: &[u8], b: &[u8], at: usize) -> bool
     requires a { at + N ≤ length a.now }

@@ -206,6 +206,9 @@ fn is_verbatim(style: Style, path: &[u8]) -> bool
     }
 }
 
+/// Whether a Windows path begins with a prefix after which only `\` separates. It reads the prefix,
+/// as the definition of a join does. `path_rules::parts::is_verbatim` compares the four bytes that
+/// each such prefix begins with.
 fn is_windows_verbatim(path: &[u8]) -> bool
     ensures { IsTrue result ↔ IsVerbatimPath whose.Windows path.now }
 {
@@ -215,6 +218,7 @@ fn is_windows_verbatim(path: &[u8]) -> bool
     }
 }
 
+/// Whether only `\` separates.
 pub(crate) fn is_verbatim_rule(rules: Rules) -> bool
     ensures { IsTrue result ↔ (rules ≡ rule.Verbatim) }
 {

@@ -24,7 +24,8 @@ fn after_fault<E: Platform>(bytes: &[u8], valid: usize, error_len: Option<u8>) -
 }
 
 /// The text at the start of a string's bytes, and the bytes after the part that follows it and is
-/// replaced by one U+FFFD; `None` if all the bytes are a text.
+/// replaced by one U+FFFD; `None` if all the bytes are a text. A formatter, which may fail, and a
+/// buffer, which counts, have a loop over it each.
 #[inline(always)]
 pub(crate) fn first_text<E: Platform>(bytes: &[u8]) -> Option<(&str, &[u8])>
     requires { E.well_formed bytes.now }
@@ -75,7 +76,8 @@ fn text_room(bytes: &[u8]) -> usize {
     bytes.len().saturating_add(REPLACEMENT.len() - 1)
 }
 
-/// The bytes of the lossy text of a string whose first fault is known, in new memory.
+/// The bytes of the lossy text of a string whose first fault is known, in new memory. It has a loop
+/// of its own, since one over [`first_text`] would search for that fault again.
 pub(crate) fn text_bytes<E: Platform, A: Allocator>(
     alloc: A,
     bytes: &[u8],
