@@ -16,3 +16,4 @@ pub mod StemParts
 pub mod EndedParts
 pub mod Collects
 pub mod FullParts
+pub mod BaseParts

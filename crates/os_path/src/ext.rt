@@ -770,7 +770,8 @@ pub trait PathExt<'a>: Sized + Copy {
     ///
     /// The components that both begin with are left out. Each other component of the base becomes a
     /// `..`, except a `.` at its start, and the remaining components of the path follow. A path
-    /// with another prefix or another root than the base's is returned whole.
+    /// with another prefix or another root than the base's is returned whole, written with the main
+    /// separator. If it begins with `\\?\`, its `.` and `..` are resolved.
     ///
     /// Returns `None` if the base is absolute and the path isn't, or if the base goes up by a `..`
     /// where the path doesn't. It also returns `None` if the base joined with the result would lead

@@ -10,6 +10,8 @@
 //! surrogate pair is ever joined to another. Calls that build a path take an allocator and return a
 //! `Result`; [`from_components`] builds one of components. [`push`], [`pop`], [`set_file_name`],
 //! [`set_extension`] and [`add_extension`] change an owned path in place. No other call allocates.
+//! [`common_base`] takes several paths and returns a part of the first.
+//!
 //! An extension that is set has no separator (`path_rules::is_extension_text` tests it); no other
 //! call has a precondition. A path may have a NUL, at which a system would end it;
 //! [`PathExt::join_checked`] and [`PathExt::join_checked_keeping_sep`] alone reject it.
@@ -22,6 +24,7 @@ mod by_components;
 mod changed;
 mod checked;
 mod collected;
+mod common_bases;
 mod compared;
 mod component_ext;
 mod components;
@@ -44,12 +47,13 @@ pub use ancestors::Ancestors;
 pub use buf::{add_extension, pop, push, set_extension, set_file_name};
 pub use by_components::ByComponents;
 pub use collected::from_components;
+pub use common_bases::common_base;
 pub use component_ext::ComponentExt;
 pub use components::Components;
 pub use ext::PathExt;
 pub use iter::Iter;
 pub use literal::path;
-pub use path_building::{AbsoluteError, JoinError, NormalizeError};
+pub use path_building::{AbsoluteError, CommonBaseError, JoinError, NormalizeError};
 pub use path_rules::{Component, Prefix, Style};
 pub use reserved::is_reserved;
 pub use style::PathStyle;

@@ -21,3 +21,4 @@ pub mod OneFile
 pub mod PrefixEnds
 pub mod PathStrings
 pub mod FullPaths
+pub mod Bases
