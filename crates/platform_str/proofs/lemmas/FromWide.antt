@@ -73,6 +73,11 @@ pub first_gives : (us : List ℕ) (v : ℕ) → 0 < length us → v ≡ get_or u
 first_gives [] v h e = absurd (omega (arith, h))
 first_gives (u ∷ us) v h e = ap (λ after. bytes_by_neighbours 0 u after ++ bytes_after_first (u ∷ us)) (sym e)
 
+-- and so does the next one
+pub next_gives : (w : List ℕ) (v : ℕ) → 1 < length w → v ≡ get_or w 2 0 → bytes_after_first w ≡ bytes_by_neighbours (get_or w 0 0) (get_or w 1 0) v ++ bytes_after_first (drop 1 w)
+next_gives (a ∷ b ∷ bs) v h e = ap (λ after. bytes_by_neighbours a b after ++ bytes_after_first (b ∷ bs)) (sym e)
+next_gives w v h e = absurd (omega (arith, h))
+
 -- nothing comes after one unit
 pub none_after : (w : List ℕ) → length w ≤ 1 → bytes_after_first w ≡ []
 none_after (a ∷ b ∷ bs) h = absurd (omega (arith, h))

@@ -1,10 +1,11 @@
 -- Vectors of 16 lanes, lane by lane.
-use Rattle.std.proofs.Common.{◌≡◌, ℕ, ◌+◌, ◌*◌, ◌/◌, ◌%◌, ◌^◌, ◌≤◌, ◌<◌, Bool, false, cond, eqb, not, List, map, length, take, drop, get_or, replicate, sym, ap, ◌∙◌, arith}
+use Rattle.std.proofs.Common.{◌≡◌, ℕ, ◌+◌, ◌*◌, ◌/◌, ◌%◌, ◌^◌, ◌≤◌, ◌<◌, Bool, false, cond, eqb, not, List, [], ◌∷◌, map, length, take, drop, get_or, replicate, sym, ap, ◌∙◌, arith}
 use Rattle.platform_str.proofs.{Common.nat_tests, Common.common_steps, Common.mask_l, Common.zip2, Common.top, Common.length-map, lemmas.Choices.bit_kept}
 use Rattle.std.proofs.lemmas.{List.get_or-map, List.get_or-take, Simd.length-chunk, Simd.get_or-chunk, Simd.get_or-zip2, Simd.get_or-replicate, Simd.length-replicate, Simd.length-zip2, Simd.tops_compared, Simd.length-sel_l, Simd.get_or-sel_l, Simd.bitmask_splat, Simd.bit_mask_l, Nat.one_shl}
 use Rattle.platform_str.specs.Lanes.{HasLanes}
-use lib.Lanes.{sel_l}
-use mir.Syntax.{w16}
+use lib.Lanes.{sel_l, Each1}
+use mir.Syntax.{w16, w32}
+use mir.Val.{Fits}
 
 -- those of a list, from its first item on
 pub from_first : {lanes : List ℕ} (xs : List ℕ) → HasLanes lanes (λ i. get_or xs (0 + i) 0) → HasLanes lanes (λ i. get_or xs i 0)
@@ -20,6 +21,12 @@ loaded_first xs h = record { many = length-chunk 0 16 xs h; each = λ i l. get_o
 -- a cast to a wider type
 pub widened : {xs : List ℕ} {f : ℕ → ℕ} → HasLanes xs f → HasLanes (map (λ x. x) xs) f
 widened {xs} {f} a = record { many = length-map xs (λ x. x) ∙ a.many; each = λ i h. get_or-map (λ x. x) xs i 0 0 (omega (arith, a.many, h)) ∙ a.each i h }
+
+-- a sum of 16 bits fits in 32
+pub sums_fit : (xs ys : List ℕ) → Each1 (Fits w32) (zip2 (λ a b. (a + b) % 2 ^ 16) xs ys)
+sums_fit [] ys = tt
+sums_fit (x ∷ xs) [] = tt
+sums_fit (x ∷ xs) (y ∷ ys) = (omega arith, sums_fit xs ys)
 
 pub splat : (y : ℕ) → HasLanes (replicate 16 y) (λ _. y)
 splat y = record { many = length-replicate 16 y; each = λ i h. get_or-replicate 16 i y 0 h }

@@ -1,7 +1,20 @@
 use Rattle.std.proofs.Common.{ℕ, ◌+◌, ◌*◌, ◌/◌, ◌%◌, ◌^◌, ltb, leb, eqb, get_or, ap, ◌∙◌, arith}
+use Rattle.std.proofs.lemmas.Simd.{Each1-all, Each2-splat}
 use Rattle.platform_str.specs.FromWide.{word_bytes}
-use Rattle.platform_str.proofs.lemmas.{SixteenLanes.loaded, SixteenLanes.loaded_first, SixteenLanes.widened, SixteenLanes.splat, SixteenLanes.both, SixteenLanes.choice, FromWideLanes.six_bits, FromWideLanes.lane_given}
+use Rattle.platform_str.proofs.lemmas.{SixteenLanes.loaded, SixteenLanes.loaded_first, SixteenLanes.widened, SixteenLanes.splat, SixteenLanes.sums_fit, SixteenLanes.both, SixteenLanes.choice, FromWideLanes.six_bits, FromWideLanes.lane_given}
 use Rattle.platform_str.proofs.from_wide.unit_words.Goals as goal
+
+pub nonzero_rem-middle : goal.nonzero_rem-middle
+nonzero_rem-middle c = Each2-splat _ _ 16 0x40 (Each1-all _ (λ _. omega arith) _)
+
+pub nonzero_rem-last : goal.nonzero_rem-last
+nonzero_rem-last c = Each2-splat _ _ 16 0x40 (Each1-all _ (λ _. omega arith) _)
+
+pub overflow_cast-result : goal.overflow_cast-result
+overflow_cast-result c = sums_fit _ _
+
+pub overflow_cast-result-2 : goal.overflow_cast-result-2
+overflow_cast-result-2 c = sums_fit _ _
 
 pub returns : goal.returns
 returns c i h =

@@ -1,7 +1,7 @@
 use Rattle.std.proofs.lemmas.{List.map-id, Simd.Each1-from_get_or, Simd.length-put_chunk, Simd.take_more_put_chunk}
 use Rattle.platform_str.proofs.Common.{rules, ◌≡◌, ◌+◌, ◌≤◌, ℕ, map, put_chunk, ◌++◌, ◌<◌, length, length-append, length-take-le, length-drop, take, drop, slice_index, ap, ◌∙◌, sym, arith, take_all, append-nil, recursion_from_All, nat_tests, common_steps}
 use Rattle.platform_str.specs.FromWide.{bytes_by_neighbours, bytes_after_first}
-use Rattle.platform_str.proofs.lemmas.{ToWide.appended, FromWide.are_units, FromWide.string_given, FromWide.first_gives, FromWide.block_ascii, FromWide.none_after}
+use Rattle.platform_str.proofs.lemmas.{ToWide.appended, FromWide.are_units, FromWide.string_given, FromWide.first_gives, FromWide.block_ascii, FromWide.next_gives, FromWide.none_after}
 use Rattle.platform_str.proofs.from_wide.write_wtf8.Goals as goal
 
 pub put_unit-end-requires : goal.put_unit-end-requires
@@ -47,6 +47,41 @@ loop-rest-preserved-then-goes_on_in_ascii c =
       omega (arith, room, c.split_at.ensures.back_len),
       appended _ (take end bytes) block _ _ written gives ∙ c.loop-rest.invariant.1,
       omega (arith, c.loop-rest.invariant.2, length-put_chunk end bytes (map (λ (u : ℕ). u) block), ap length gives, length-append block (bytes_after_first c.split_at.result.1.now), size),
+    )
+
+pub overflow_add-end : goal.overflow_add-end
+overflow_add-end c = omega (arith, c.loop-rest.invariant.2)
+
+pub put_block-end-requires-clause-room : goal.put_block-end-requires-clause-room
+put_block-end-requires-clause-room c = omega (arith, c.loop-rest.invariant.2)
+
+pub loop-rest-preserved-then-rest-gt20 : goal.loop-rest-preserved-then-rest-gt20
+loop-rest-preserved-then-rest-gt20 c =
+    let put = c.put_block-end.ensures in
+    let split = c.split_at-then-rest-gt20.ensures in (
+      omega (arith, split.back_len, c.if-rest-gt20.true),
+      ap (λ r. take c.put_block-end.result c.put_block-end.new.bytes ++ bytes_after_first r) split.back ∙ put.written ∙ c.loop-rest.invariant.1,
+      omega (arith, put.end, put.len, ap (λ r. length (bytes_after_first r)) split.back, c.loop-rest.invariant.2),
+    )
+
+pub put_unit-end-requires-else-rest-gt20 : goal.put_unit-end-requires-else-rest-gt20
+put_unit-end-requires-else-rest-gt20 c =
+    let rest = c.loop-rest.rest.now in
+    let after = c.unit_or_zero-else-rest-gt20 in
+    let gives = next_gives rest after.result c.loop-rest-test.true after.ensures in
+    omega (arith, c.loop-rest.invariant.2, ap length gives, length-append (bytes_by_neighbours (slice_index rest 0) (slice_index rest 1) after.result) (bytes_after_first (drop 1 rest)))
+
+pub loop-rest-preserved : goal.loop-rest-preserved
+loop-rest-preserved c =
+    let rest = c.loop-rest.rest.now in
+    let after = c.unit_or_zero-else-rest-gt20 in
+    let put = c.put_unit-end-else-rest-gt20.ensures in
+    let split = c.split_at-else-rest-gt20.ensures in
+    let unit = bytes_by_neighbours (slice_index rest 0) (slice_index rest 1) after.result in
+    let gives = next_gives rest after.result c.loop-rest-test.true after.ensures ∙ ap (λ r. unit ++ bytes_after_first r) (sym split.back) in (
+      omega (arith, split.back_len, c.loop-rest-test.true),
+      appended _ (take c.loop-rest.end c.loop-rest.bytes) unit _ _ put.written gives ∙ c.loop-rest.invariant.1,
+      omega (arith, c.loop-rest.invariant.2, put.end, put.len, ap length gives, length-append unit (bytes_after_first c.split_at-else-rest-gt20.result.1.now)),
     )
 
 pub returns : goal.returns
