@@ -1,5 +1,5 @@
 -- What follows of common bases.
-use Rattle.std.proofs.Common.{◌≡◌, ◌⊎◌, inl, inr, ◌+◌, ℕ, List, [], ◌∷◌, ◌++◌, length, sym, ap, ◌∙◌, subst}
+use Rattle.std.proofs.Common.{◌≡◌, ◌⊎◌, inl, inr, ◌+◌, ℕ, List, [], ◌∷◌, ◌++◌, length, sym, ap, ◌∙◌, subst, arith}
 use Rattle.std.specs.List.{AllByRecursion}
 use Rattle.path_rules.specs.declared.rules.Style.{Style}
 use Rattle.path_building.specs.CommonBase.{HaveOnePrefix, HaveOneRoot, BeginAlike, IsApart, IsFirstApart}
@@ -28,7 +28,7 @@ apart_of_three w path second third fault h same = cases h.before h.path h.after 
   where
     cases : (before : List (List ℕ)) (found : List ℕ) (after : List (List ℕ)) → second ∷ third ∷ [] ≡ before ++ found ∷ after → AllByRecursion (BeginAlike w path) before
         → IsApart w path found (length before + 1) (error.Prefix 2) → HaveOnePrefix w path second × ¬ (HaveOnePrefix w path third)
-    cases [] found after e b a = let never : 2 ≡ 1 = a.0 in cc
+    cases [] found after e b a = absurd (omega (arith, a.0))
     cases (x ∷ []) found after e b a =
         let first : second ≡ x = cc in
         let last : third ≡ found = cc in

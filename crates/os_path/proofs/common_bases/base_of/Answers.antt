@@ -25,6 +25,6 @@ loop-left-preserved g c =
     let long = c.in-len1-up.len_at_least in
     let path = c.as_os_str.ensures ∙ ap path_bytes c.path-item.is in (
       step w path_bytes (bytes c.args.first) (map path_bytes c.args.others.now) _ c.loop-left.index base left long c.loop-left.invariant.0 (bytes c.in-Ok.shared)
-      (subst (λ s. IsBaseOf w base (s ∷ []) (bytes c.in-Ok.shared)) path c.in-Ok.ensures.ok),
+          (subst (λ s. IsBaseOf w base (s ∷ []) (bytes c.in-Ok.shared)) path c.in-Ok.ensures.ok),
       shorter c.loop-left.index (length c.args.others.now + 1) left long c.loop-left.invariant.1,
     )

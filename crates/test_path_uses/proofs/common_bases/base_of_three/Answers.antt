@@ -13,7 +13,7 @@ pub returns-clause-third : goal.returns-clause-third
 returns-clause-third g c = with_ok c.common_base.result c.common_base.ensures.ok (λ base h. h.common.1.0)
 
 pub returns-clause-longest : goal.returns-clause-longest
-returns-clause-longest g c = with_ok c.common_base.result c.common_base.ensures.ok (λ base h front a b d. h.longest front a (b, d, tt))
+returns-clause-longest g c = with_ok c.common_base.result c.common_base.ensures.ok (λ base h front a b d. h.longest front a (b, (d, tt)))
 
 pub returns-clause-apart : goal.returns-clause-apart
 returns-clause-apart g c =
