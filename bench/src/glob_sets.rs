@@ -47,6 +47,7 @@ pub fn time(bench: &mut Bench) {
         }
     }
     grown(bench);
+    hostile(bench);
 }
 
 /// The longest path of a line, and how many bytes all its paths have, which are the same.
@@ -86,6 +87,39 @@ fn grown(bench: &mut Bench) {
         let mut random = Random(u64::from(count));
         let path: String = (0..times).map(|_| random.char(0x4E00, 100 * count as usize)).collect();
         one(bench, &format!("`*[..]b*` of {count} ranges on {times} random letters"), &pattern, &path);
+    }
+}
+
+/// Sets of few patterns that stand for many, of many patterns that share their names, and of patterns that
+/// all match: at once, twice and four times the size.
+fn hostile(bench: &mut Bench) {
+    bench.table("Hard sets beside globset, made", "a set");
+    for times in [1, 2, 4] {
+        let classes = "[aceg\u{10FFFF}]".repeat(10 * times);
+        let pattern = format!("{}{classes}", "{a,b}".repeat(10));
+        new(bench, &format!("`{{a,b}}^10[..]^{}`", 10 * times), &pattern);
+    }
+    for times in [1, 2, 4] {
+        let letters = "x".repeat(12 * times);
+        new(bench, &format!("`{{a,b}}^10x^{}`", 12 * times), &format!("{}{letters}", "{a,b}".repeat(10)));
+    }
+    for times in [1, 2, 4] {
+        let names = "[:".repeat(20_000 * times);
+        new(bench, &format!("`[[:^{}x]`", 20_000 * times), &format!("[{names}x]"));
+    }
+    bench.table("Hard sets beside globset", "a path");
+    for count in [6, 7, 8] {
+        let pattern = format!("**/x/**/{}?/**", "{a,b}".repeat(count));
+        matched(bench, &format!("`**/x/**/{{a,b}}^{count}?/**` on (x/)^100"), &[pattern], &"x/".repeat(100));
+    }
+    for times in [200, 400, 800] {
+        let patterns: Vec<_> = (0..100).map(|index| format!("**/x/**/y{index}?/**")).collect();
+        matched(bench, &format!("100 of `**/x/**/yN?/**` on (x/)^{times}"), &patterns, &"x/".repeat(times));
+    }
+    for count in [1000, 2000, 4000] {
+        let patterns: Vec<_> =
+            (0..count).map(|index| if index % 2 == 0 { "a".to_owned() } else { "**".to_owned() }).collect();
+        matched(bench, &format!("{count} that all match a name of one letter"), &patterns, "a");
     }
 }
 
@@ -145,6 +179,49 @@ fn set(bench: &mut Bench, input: &str, patterns: &[String], theirs: &GlobSet, ti
             Some(&mut || ours(black_box(&all), &lens, paths, path_lens, times) as u64),
             Some(&mut || {
                 (0..times).flat_map(|_| cut(ended, path_lens)).filter(|path| theirs.is_match(path)).count() as u64
+            }),
+            None,
+        ],
+    );
+}
+
+/// A set of one pattern, which is compiled and dropped.
+fn new(bench: &mut Bench, input: &str, pattern: &str) {
+    let ours = black_box(ours::set_new as fn(&str, &[usize]) -> bool);
+    bench.line(
+        "new",
+        input,
+        1,
+        [
+            Some(&mut || u64::from(ours(black_box(pattern), &[pattern.len()]))),
+            Some(&mut || u64::from(!black_box(compiled(&[black_box(pattern).to_owned()])).is_empty())),
+            None,
+        ],
+    );
+}
+
+/// The patterns of a set that match a path, which is repeated so often that making ours weighs little.
+fn matched(bench: &mut Bench, input: &str, patterns: &[String], path: &str) {
+    if !bench.wants("matches", input) {
+        return;
+    }
+    let (all, lens) = (patterns.concat(), patterns.iter().map(String::len).collect::<Vec<_>>());
+    let paths = vec![path.len(); ((1 << 18) / path.len() / patterns.len()).max(20)];
+    let texts = path.repeat(paths.len());
+    let theirs = compiled(patterns);
+    let mut found = Vec::new();
+    let ours = black_box(ours::set_matches as fn(&str, &[usize], &str, &[usize], usize) -> usize);
+    bench.line(
+        "matches",
+        input,
+        paths.len(),
+        [
+            Some(&mut || ours(black_box(&all), &lens, &texts, &paths, 1) as u64),
+            Some(&mut || {
+                paths.iter().fold(0, |sum, _| {
+                    theirs.matches_into(black_box(path), &mut found);
+                    sum + found.len() as u64
+                })
             }),
             None,
         ],
