@@ -4,7 +4,8 @@ Each tree has directories and files three levels deep, a .gitignore at the top, 
 everything that git's document names: blanks and tabs at a line's end, `\\ `, `#`, `!`, slashes in all positions, `*`,
 `**`, `?`, classes, backslashes, carriage returns, NULs, a byte order mark, bytes that aren't text. Many lines are made
 of names in the tree, so that they match. `git check-ignore -v -n --no-index` runs on each path of a tree, with no other
-ignore file: 5,000 paths.
+ignore file: 5,000 paths. A second file has what git prints with `core.ignorecase`, for
+5,000 paths too. There each letter of a name or a line is small or capital by chance, and more classes have letters.
 """
 
 from __future__ import annotations
@@ -20,36 +21,46 @@ from typing import Iterator
 from left_out import leave_out
 
 PATHS = 5000
+KINDS = {False: "ignore_trees", True: "ignore_cases"}
 NAMES = [b"a", b"b", b"c", b"ab", b"abc", b"a.c", b"b.c", b".a", b"-", b"a b", b"x[y", b"a]", b"#a", b"!a", b"\xff", b"\xc3\xa9", b"a\\", b"A"]
 CLASSES = [b"[ab]", b"[!a]", b"[^b]", b"[a-c]", b"[c-a]", b"[]a]", b"[!]]", b"[[:alpha:]]", b"[[:punct:]x]", b"[[:foo:]]", b"[a", b"[\\]a]", b"[a/b]", b"[-a]", b"[a-]", b"[\\a-\\c]", b"[[:a]", b"[a-b-c]", b"[[:space:]]"]
 PARTS = [b"*", b"**", b"***", b"?", b"*.c", b"a*", b"*b", b"a**", b"**b", b"\\a", b"\\*", b"\\", b"?b", b"*a*c", b"a?c"]
+CASED = [b"[A]", b"[!A]", b"[^a]", b"[A-C]", b"[a-c]", b"[Z-a]", b"[@-B]", b"[a-Z]", b"[\\A]", b"[\\A-\\Z]", b"[b-z]", b"[B-z]", b"[[:upper:]]", b"[[:lower:]]", b"[![:upper:]]", b"[[:xdigit:]]", b"[[:alnum:]]", b"[[:punct:]A]", b"[!A-Z]", b"[a-]", b"[A-[:upper:]]", b"\\A", b"\\a", b"*A", b"*\\A", b"*.C", b"?B"]
 PREFIXES = [b"", b"", b"", b"", b"/", b"/", b"!", b"!", b"!/", b"\\!", b"#", b"\\#", b" ", b"//"]
 SUFFIXES = [b"", b"", b"", b"", b"/", b"/", b"/**", b"/*", b" ", b"\\ ", b"\t", b"  ", b"/ ", b"\\ \\ ", b"\r", b" \r", b"\0x", b"\\/"]
 ENDS = [b"\n", b"\n", b"\n", b"\r\n", b"\n\n"]
 
 
-def line(names: list[bytes]) -> bytes:
+def mixed(text: bytes, folds: bool) -> bytes:
+    """Returns the text; if case doesn't matter, each letter is small or capital by chance."""
+    return bytes(random.choice((text[at : at + 1].swapcase(), text[at : at + 1]))[0] for at in range(len(text))) if folds else text
+
+
+def line(names: list[bytes], folds: bool) -> bytes:
     """Returns a line, most often of names that a tree has."""
     def part() -> bytes:
-        return random.choice(random.choices([names, PARTS, CLASSES, NAMES], [9, 3, 1, 1])[0])
+        if folds and random.random() < 0.2:
+            return random.choice(CASED)
+        kind = random.choices([names, PARTS, CLASSES, NAMES], [9, 3, 1, 1])[0]
+        return random.choice(kind) if kind is CLASSES else mixed(random.choice(kind), folds)
 
     parts = [part() + (part() if random.random() < 0.2 else b"") for _ in range(random.choice([1, 1, 1, 2, 2, 3]))]
     return random.choice(PREFIXES) + random.choice([b"/", b"/", b"/", b"\\/", b"/**/"]).join(parts) + random.choice(SUFFIXES)
 
 
-def ignore_file(names: list[bytes]) -> bytes:
-    lines = b"".join(line(names) + random.choice(ENDS) for _ in range(random.randrange(2, 16)))
+def ignore_file(names: list[bytes], folds: bool) -> bytes:
+    lines = b"".join(line(names, folds) + random.choice(ENDS) for _ in range(random.randrange(2, 16)))
     lines = lines[:-1] if random.random() < 0.3 else lines
     return random.choice([b"", b"", b"", b"\xef\xbb\xbf"]) + lines
 
 
-def make_tree(top: bytes, depth: int) -> None:
+def make_tree(top: bytes, depth: int, folds: bool) -> None:
     for name in random.sample(NAMES, random.randrange(1, 5)):
-        path = os.path.join(top, name)
+        path = os.path.join(top, mixed(name, folds))
         if depth and random.random() < 0.6:
-            os.mkdir(path)
-            make_tree(path, depth - 1)
-        else:
+            os.makedirs(path, exist_ok=True)
+            make_tree(path, depth - 1, folds)
+        elif not os.path.exists(path):
             open(path, "wb").close()
 
 
@@ -60,9 +71,9 @@ def paths_of(top: bytes) -> Iterator[tuple[bytes, bool]]:
             yield os.path.relpath(path, top), os.path.isdir(path)
 
 
-def ask_git(top: bytes, paths: list[bytes]) -> Iterator[tuple[bytes, str]]:
+def ask_git(top: bytes, paths: list[bytes], folds: bool) -> Iterator[tuple[bytes, str]]:
     """Yields for each path the ignore file that decides it, if one does, and what git prints for it."""
-    words = ["git", "-c", "core.ignorecase=false", "-c", "core.excludesFile=/dev/null"]
+    words = ["git", "-c", f"core.ignorecase={str(folds).lower()}", "-c", "core.excludesFile=/dev/null"]
     words += ["check-ignore", "-v", "-n", "-z", "--stdin", "--no-index"]
     given = b"".join(path + b"\0" for path in paths)
     env = {**os.environ, "GIT_DIR": os.fsdecode(top) + ".git", "GIT_WORK_TREE": os.fsdecode(top)}
@@ -74,39 +85,44 @@ def ask_git(top: bytes, paths: list[bytes]) -> Iterator[tuple[bytes, str]]:
         yield source, ("w" if pattern.startswith(b"!") else "i") + number.decode()
 
 
-def rows_of(room: Path, number: int) -> Iterator[str]:
+def rows_of(room: Path, number: int, folds: bool) -> Iterator[str]:
     """Yields a row of a result file for each path of a tree."""
     top = os.fsencode(room / f"tree{number}")
     os.mkdir(top)
-    make_tree(top, 3)
+    make_tree(top, 3, folds)
     paths = list(paths_of(top))
     names = [os.path.basename(path) for path, _ in paths]
     directories = [b""] + [path for path, is_dir in paths if is_dir and random.random() < 0.4]
     random.shuffle(directories)
-    files = [(directory, ignore_file(names)) for directory in directories]
+    files = [(directory, ignore_file(names, folds)) for directory in directories]
     for directory, content in files:
         with open(os.path.join(top, directory, b".gitignore"), "wb") as file:
             file.write(content)
     subprocess.run(["git", "init", "-q", "--template=", "--bare", top + b".git"], check=True)
     sources = {os.path.join(directory, b".gitignore"): index for index, (directory, _) in enumerate(files)}
     given = ",".join(f"{directory.hex() or '-'}:{content.hex() or '-'}" for directory, content in files)
-    for (path, is_dir), (source, said) in zip(paths, ask_git(top, [path for path, _ in paths])):
+    for (path, is_dir), (source, said) in zip(paths, ask_git(top, [path for path, _ in paths], folds)):
         answer = f"{sources[source]}:{said}" if source else "-"
         yield "\t".join([given, path.hex(), "01"[is_dir], answer])
 
 
-def answer_file(seed: str, room: Path) -> Path:
+def answer_file(seed: str, room: Path, folds: bool) -> Path:
     """Writes a row for each path of trees into a result file in a folder."""
     random.seed(seed)
     rows: list[str] = []
     with tempfile.TemporaryDirectory(prefix="ignored-") as name:
         while len(rows) < PATHS:
-            rows += rows_of(Path(name), len(rows))
+            rows += rows_of(Path(name), len(rows), folds)
     decided = sum(not row.endswith("-") for row in rows)
-    print(f"git: {len(rows)} paths, {decided} of them decided by a line of an ignore file")
-    made = room / "ignore_trees.tsv"
+    print(f"git: {len(rows)} paths, {decided} of them decided by a line of an ignore file, core.ignorecase {str(folds).lower()}")
+    made = room / f"{KINDS[folds]}.tsv"
     made.write_text("\n".join([f"# {made.name} (git); rows: {len(rows)}; seed: {seed}", *rows, ""]), encoding="utf-8")
     return made
+
+
+def answer_files(seed: str, room: Path) -> list[Path]:
+    """Writes a result file of trees in which case matters, and one of trees in which it doesn't."""
+    return [answer_file(seed, room, folds) for folds in KINDS]
 
 
 def has_git() -> bool:

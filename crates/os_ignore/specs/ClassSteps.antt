@@ -1,5 +1,5 @@
 -- What the reader of a class returns, and the ranges that it compiles members to: only private contracts name this.
-use Rattle.std.specs.Prelude.{◌≡◌, ℕ, ◌<◌, ◌≤◌, false, nat_eq, cond, length, List, [], ◌∷◌, ◌++◌}
+use Rattle.std.specs.Prelude.{◌≡◌, ℕ, ◌<◌, ◌≤◌, ◌+◌, ◌-◌, max, min, Bool, true, false, nat_eq, cond, length, List, [], ◌∷◌, ◌++◌}
 use Rattle.wildcards.specs.declared.range.Range.{Range}
 use Rattle.os_ignore.specs.declared.class.Name.{Name}
 use Rattle.os_ignore.specs.declared.class.Name.TheVariants.{Alnum, Alpha, Blank, Cntrl, Digit, Graph, Lower, Print, Punct, Space, Upper, Xdigit}
@@ -8,6 +8,7 @@ use Rattle.os_ignore.specs.declared.class.Member.TheVariants as written
 use Rattle.os_ignore.specs.declared.letter.Letter.{Letter}
 use Rattle.os_ignore.specs.declared.class_text.Next.{Next}
 use Rattle.os_ignore.specs.declared.class_text.Next.TheVariants as next
+use Rattle.os_ignore.specs.Class.{is_upper}
 use Rattle.os_ignore.specs.ClassText.{Reading, broken, closed, member, ends_name}
 
 -- the result as the definitions have it
@@ -65,7 +66,31 @@ name_ranges Upper = capitals ∷ []
 name_ranges Xdigit = digits ∷ range 0x41 0x46 ∷ range 0x61 0x66 ∷ []
 
 -- those of a member
-abbrev pub member_ranges : Member → List Range
-member_ranges (written.Single b) = range b b ∷ []
-member_ranges (written.Range from to) = range from to ∷ []
-member_ranges (written.Named name) = name_ranges name
+abbrev pub exact_ranges : Member → List Range
+exact_ranges (written.Single b) = range b b ∷ []
+exact_ranges (written.Range from to) = range from to ∷ []
+exact_ranges (written.Named name) = name_ranges name
+
+-- the small letters whose capitals are in a range
+abbrev pub small_range : ℕ → ℕ → Range
+small_range from to = range (max from 0x41 + 0x20) (min to 0x5A + 0x20)
+
+-- those whose capitals are in a member
+abbrev pub small_ranges : Member → List Range
+small_ranges (written.Single b) = []
+small_ranges (written.Range from to) = small_range from to ∷ []
+small_ranges (written.Named name) = cond (is_upper name) (smalls ∷ []) []
+
+-- the letters of a member, without regard to case if the file folds
+abbrev pub member_ranges : Bool → Member → List Range
+member_ranges false m = exact_ranges m
+member_ranges true m = exact_ranges m ++ small_ranges m
+
+-- the letters whose small letters are in a range
+abbrev pub both_cases : Range → List Range
+both_cases r = range r.first (min r.last 0x40) ∷ range (max r.first 0x5B) r.last ∷ range (max r.first 0x61 - 0x20) (max (min r.last 0x7A) 0x20 - 0x20) ∷ []
+
+-- and in one of several
+abbrev pub all_cases : List Range → List Range
+all_cases [] = []
+all_cases (r ∷ rs) = both_cases r ++ all_cases rs

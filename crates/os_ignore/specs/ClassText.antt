@@ -116,11 +116,11 @@ pub record IsBrokenClass (text : List Letter) : Type 0 where
   pub read : AreMembers text members left
   pub stops : member_at left.0 left.1 ≡ broken
 
-module _ {A : Type 0} where
+module _ {A : Type 0} (folds : Bool) where
   -- a class is written in the text, which comes after a `[`, and this comes after it; the compiled class permits what its members permit
   pub record IsClass (text : List Letter) (class : Class A) (rest : List Letter) : Type 0 where
     pub members : List Member
     pub left : Before × List Letter
     pub read : AreMembers text members left
     pub ends : member_at left.0 left.1 ≡ closed rest
-    pub compiled : (b : ℕ) → permitted class b ≡ permits (negation text).0 members b
+    pub compiled : (b : ℕ) → permitted class b ≡ permits folds (negation text).0 members b

@@ -1,5 +1,5 @@
 -- The lines of an ignore file (gitignore, and git's dir.c where it says more).
-use Rattle.std.specs.Prelude.{◌≡◌, ◌⊎◌, ◌+◌, ℕ, nat_eq, ◌&&◌, cond, List, [], ◌∷◌, ◌++◌, Option, Some, None, Result, Ok, Err}
+use Rattle.std.specs.Prelude.{◌≡◌, ◌⊎◌, ◌+◌, ℕ, nat_eq, ◌&&◌, cond, Bool, false, List, [], ◌∷◌, ◌++◌, Option, Some, None, Result, Ok, Err}
 use Rattle.std.specs.List.{slice_get}
 use Rattle.os_ignore.specs.declared.letter.Letter.{Letter}
 use Rattle.os_ignore.specs.declared.line.Line.{Line}
@@ -45,15 +45,16 @@ module _ {A : Type 0} where
   list_of (Err reason) = []
   list_of (Ok line) = line ∷ []
 
+module _ {A : Type 0} (folds : Bool) where
   -- the text is this line, of this number, or is no pattern for this reason
   abbrev pub SaysLine : ℕ → List ℕ → Result (Line A) NoPattern → Type 0
-  SaysLine number text (Err reason) = SaysNothing A text reason
-  SaysLine number text (Ok line) = (line.number ≡ number) × IsLine text line
+  SaysLine number text (Err reason) = SaysNothing folds A text reason
+  SaysLine number text (Ok line) = (line.number ≡ number) × IsLine folds text line
 
   -- likewise of the letters
   abbrev pub LettersSayLine : ℕ → List Letter → Result (Line A) NoPattern → Type 0
-  LettersSayLine number letters (Err reason) = LettersSayNothing A letters reason
-  LettersSayLine number letters (Ok line) = (line.number ≡ number) × IsLineOf letters line
+  LettersSayLine number letters (Err reason) = LettersSayNothing folds A letters reason
+  LettersSayLine number letters (Ok line) = (line.number ≡ number) × IsLineOf folds letters line
 
   -- a line is read, and what it says
   pub record IsNextLine (number : ℕ) (line : List ℕ) (lines : List (List ℕ)) (said : List (Line A)) (left : ℕ × List (List ℕ)) : Type 0 where
@@ -87,5 +88,5 @@ reason_of (Ok line) = None
 module _ (A : Type 0) where
   -- why the line is no pattern, and no reason where it is one
   abbrev pub HasReason : List ℕ → Option NoPattern → Type 0
-  HasReason line None = (text : List ℕ) × IsLineText line text × (pattern : Line A) × IsLine text pattern
-  HasReason line (Some reason) = (text : List ℕ) × IsLineText line text × SaysNothing A text reason
+  HasReason line None = (text : List ℕ) × IsLineText line text × (pattern : Line A) × IsLine false text pattern
+  HasReason line (Some reason) = (text : List ℕ) × IsLineText line text × SaysNothing false A text reason

@@ -1,9 +1,20 @@
 -- The letters of a line: its bytes, where a backslash quotes the next byte (gitignore, "PATTERN FORMAT").
 use Rattle.std.specs.Prelude.{◌≡◌, ℕ, Bool, true, false, not, nat_eq, ◌&&◌, cond, List, [], ◌∷◌}
+use Rattle.std.specs.Char.{to_ascii_lowercase}
 use Rattle.os_ignore.specs.declared.letter.Letter.{Letter}
 use Rattle.os_ignore.specs.declared.letter.Kind.{Kind}
 use Rattle.os_ignore.specs.declared.letter.Kind.TheVariants.{Slash, Star, Question, Bracket, Literal}
 use Rattle.os_ignore.specs.Reading.{Reads}
+
+-- a byte as a file compares it. A file that folds is read without regard to case (git's core.ignorecase): it compares a capital of ASCII as its small letter
+abbrev pub folded : Bool → ℕ → ℕ
+folded false b = b
+folded true b = to_ascii_lowercase b
+
+-- the byte that a letter matches. A capital that is quoted stays as it is, so that it matches no byte in a file that folds
+abbrev pub own_byte : Bool → Letter → ℕ
+own_byte false l = l.byte
+own_byte true l = cond l.quoted l.byte (to_ascii_lowercase l.byte)
 
 -- the letter is the byte, and no backslash quotes it
 abbrev pub is_plain : Letter → ℕ → Bool

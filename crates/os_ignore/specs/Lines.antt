@@ -6,7 +6,7 @@ use Rattle.os_ignore.specs.declared.letter.Letter.{Letter}
 use Rattle.os_ignore.specs.declared.line.Line.{Line}
 use Rattle.os_ignore.specs.declared.reason.NoPattern.{NoPattern}
 use Rattle.os_ignore.specs.declared.reason.NoPattern.TheVariants.{Comment, Empty, Backslash, QuotedSlash, Class}
-use Rattle.os_ignore.specs.Letters.{is_plain, is_simple, AreLetters, IsDangling}
+use Rattle.os_ignore.specs.Letters.{is_plain, is_simple, own_byte, AreLetters, IsDangling}
 use Rattle.os_ignore.specs.PatternText.{IsPattern, IsBrokenPattern}
 
 -- the text begins with a `#`, so the line is a comment
@@ -45,9 +45,9 @@ has_slash [] = false
 has_slash (l ∷ ls) = nat_eq l.byte 0x2F || has_slash ls
 
 -- the bytes before the first letter that is quoted or a wildcard, and what comes after them
-abbrev pub literal_prefix : List Letter → List ℕ
-literal_prefix [] = []
-literal_prefix (l ∷ ls) = cond (is_simple l) (l.byte ∷ literal_prefix ls) []
+abbrev pub literal_prefix : Bool → List Letter → List ℕ
+literal_prefix folds [] = []
+literal_prefix folds (l ∷ ls) = cond (is_simple l) (own_byte folds l ∷ literal_prefix folds ls) []
 
 abbrev pub after_literal : List Letter → List Letter
 after_literal [] = []
@@ -60,15 +60,16 @@ pub record IsBody (letters : List Letter) (takes_in directories : Bool) (body : 
   pub taken : takes_in ≡ (strip_first 0x21 trimmed).0
   pub stripped : IsStripped (strip_first 0x21 trimmed).1 directories body
 
-module _ {A : Type 0} where
-  -- the line that the letters are
+module _ {A : Type 0} (folds : Bool) where
+  -- the line that the letters are, in a file that folds or doesn't
   pub record IsLineOf (letters : List Letter) (line : Line A) : Type 0 where
     pub body : List Letter
     pub read : IsBody letters line.takes_in line.directories body
+    pub folds_is : line.folds ≡ folds
     pub anchored : line.anchored ≡ has_slash body
     pub some : (strip_first 0x2F body).1 ≡ [] → ⊥
-    pub literal : line.literal.items ≡ literal_prefix (strip_first 0x2F body).1
-    pub pattern : IsPattern (after_literal (strip_first 0x2F body).1) line.pattern.items
+    pub literal : line.literal.items ≡ literal_prefix folds (strip_first 0x2F body).1
+    pub pattern : IsPattern folds (after_literal (strip_first 0x2F body).1) line.pattern.items
 
   -- the line that the text is
   pub record IsLine (text : List ℕ) (line : Line A) : Type 0 where
@@ -78,13 +79,13 @@ module _ {A : Type 0} where
     pub line_of : IsLineOf letters line
 
 -- why the letters are no pattern: they end with a slash that is quoted, nothing is left of them, or a class in them isn't one
-pub data LettersSayNothing (A : Type 0) (letters : List Letter) (reason : NoPattern) : Type 0 where
-  quoted_slash : {trimmed : List Letter} → IsTrimmed letters trimmed → EndsQuoted (strip_first 0x21 trimmed).1 → reason ≡ QuotedSlash → LettersSayNothing A letters reason
-  empty : {takes_in directories : Bool} {body : List Letter} → IsBody letters takes_in directories body → (strip_first 0x2F body).1 ≡ [] → reason ≡ Empty → LettersSayNothing A letters reason
-  broken : {takes_in directories : Bool} {body : List Letter} → IsBody letters takes_in directories body → IsBrokenPattern A (after_literal (strip_first 0x2F body).1) → reason ≡ Class → LettersSayNothing A letters reason
+pub data LettersSayNothing (folds : Bool) (A : Type 0) (letters : List Letter) (reason : NoPattern) : Type 0 where
+  quoted_slash : {trimmed : List Letter} → IsTrimmed letters trimmed → EndsQuoted (strip_first 0x21 trimmed).1 → reason ≡ QuotedSlash → LettersSayNothing folds A letters reason
+  empty : {takes_in directories : Bool} {body : List Letter} → IsBody letters takes_in directories body → (strip_first 0x2F body).1 ≡ [] → reason ≡ Empty → LettersSayNothing folds A letters reason
+  broken : {takes_in directories : Bool} {body : List Letter} → IsBody letters takes_in directories body → IsBrokenPattern folds A (after_literal (strip_first 0x2F body).1) → reason ≡ Class → LettersSayNothing folds A letters reason
 
 -- why the text is no pattern: it is a comment, its last backslash quotes nothing, or its letters are no pattern
-pub data SaysNothing (A : Type 0) (text : List ℕ) (reason : NoPattern) : Type 0 where
-  comment : is_comment text ≡ true → reason ≡ Comment → SaysNothing A text reason
-  dangling : is_comment text ≡ false → IsDangling text → reason ≡ Backslash → SaysNothing A text reason
-  letters : {letters : List Letter} → is_comment text ≡ false → AreLetters text letters → LettersSayNothing A letters reason → SaysNothing A text reason
+pub data SaysNothing (folds : Bool) (A : Type 0) (text : List ℕ) (reason : NoPattern) : Type 0 where
+  comment : is_comment text ≡ true → reason ≡ Comment → SaysNothing folds A text reason
+  dangling : is_comment text ≡ false → IsDangling text → reason ≡ Backslash → SaysNothing folds A text reason
+  letters : {letters : List Letter} → is_comment text ≡ false → AreLetters text letters → LettersSayNothing folds A letters reason → SaysNothing folds A text reason

@@ -1,5 +1,6 @@
 -- Which paths a line matches (gitignore, "PATTERN FORMAT").
-use Rattle.std.specs.Prelude.{◌≡◌, ℕ, Bool, true, false, List, ◌++◌}
+use Rattle.std.specs.Prelude.{◌≡◌, ℕ, Bool, true, false, map, List, ◌++◌}
+use Rattle.std.specs.Char.{to_ascii_lowercase}
 use Rattle.wildcards.specs.declared.options.Options.{Options}
 use Rattle.wildcards.specs.declared.part.Part.{Part}
 use Rattle.wildcards.specs.declared.piece.Piece.{Piece}
@@ -17,11 +18,16 @@ IsTarget false path target = IsLastComponent path target
 abbrev pub by_slashes : Options
 by_slashes = record { separators = Slash; literal_leading_dot = false }
 
+-- the text begins with the literal, without regard to case if the file folds, and this is the rest
+abbrev pub IsAfter : Bool → List ℕ → List ℕ → List ℕ → Type 0
+IsAfter false literal text rest = text ≡ literal ++ rest
+IsAfter true literal text rest = (front : List ℕ) × (text ≡ front ++ rest) × (map to_ascii_lowercase front ≡ literal)
+
 module _ {A : Type 0} where
   -- the text is a literal start, and a rest that the pattern matches
-  pub record MatchesText (literal : List ℕ) (pattern : List (Piece (Part A))) (text : List ℕ) : Type 0 where
+  pub record MatchesText (folds : Bool) (literal : List ℕ) (pattern : List (Piece (Part A))) (text : List ℕ) : Type 0 where
     pub rest : List ℕ
-    pub joined : text ≡ literal ++ rest
+    pub joined : IsAfter folds literal text rest
     pub matches : Matches by_slashes pattern rest
 
   -- the line matches the path, which may be a directory
@@ -29,4 +35,4 @@ module _ {A : Type 0} where
     pub directories : line.directories ≡ true → is_dir ≡ true
     pub target : List ℕ
     pub target_is : IsTarget line.anchored path target
-    pub matches : MatchesText line.literal.items line.pattern.items target
+    pub matches : MatchesText line.folds line.literal.items line.pattern.items target

@@ -1,5 +1,6 @@
 -- How a pattern is written: parts between slashes, of `*`, `?`, classes and literal bytes (gitignore, "PATTERN FORMAT").
-use Rattle.std.specs.Prelude.{◌≡◌, Bool, true, false, not, nat_le, ◌&&◌, List, [], ◌∷◌, ◌++◌, length, Option, Some, None}
+use Rattle.std.specs.Prelude.{◌≡◌, ℕ, Bool, true, false, not, nat_le, ◌&&◌, List, [], ◌∷◌, ◌++◌, length, Option, Some, None}
+use Rattle.std.specs.Char.{to_ascii_lowercase}
 use denote.Ref.{Bor}
 use Rattle.wildcards.specs.declared.class.Class.{Class}
 use Rattle.wildcards.specs.declared.part.Part.{Part}
@@ -8,13 +9,14 @@ use Rattle.wildcards.specs.declared.piece.Item.TheVariants.{Any, OneOf}
 use Rattle.wildcards.specs.declared.piece.Item.TheVariants as item
 use Rattle.wildcards.specs.declared.piece.Piece.{Piece}
 use Rattle.wildcards.specs.declared.piece.Piece.TheVariants.{Many, One}
+use Rattle.wildcards.specs.Match.{Fits}
 use Rattle.os_ignore.specs.declared.letter.Letter.{Letter}
 use Rattle.os_ignore.specs.declared.letter.Kind.{Kind}
 use Rattle.os_ignore.specs.declared.letter.Kind.TheVariants.{Slash, Star, Question, Bracket, Literal}
 use Rattle.os_ignore.specs.declared.pattern.After.{After}
 use Rattle.os_ignore.specs.declared.pattern.After.TheVariants as after
 use Rattle.os_ignore.specs.ClassText.{IsClass, IsBrokenClass}
-use Rattle.os_ignore.specs.Letters.{kind_of}
+use Rattle.os_ignore.specs.Letters.{kind_of, own_byte}
 use Rattle.os_ignore.specs.Reading.{Reads}
 
 -- the letter and what comes after it begin a class, but not one that is written right
@@ -52,24 +54,14 @@ concat_of [] = []
 concat_of (x ∷ xs) = x ++ concat_of xs
 
 module _ {A : Type 0} where
-  -- a letter, by its kind, and what comes after it are a piece, and what comes after that
-  abbrev pub PieceAt : Kind → Letter → List Letter → Piece (Item A) → List Letter → Type 0
-  PieceAt Slash l ls piece rest = (piece ≡ One (item.Literal l.byte)) × (rest ≡ ls)
-  PieceAt Star l ls piece rest = (piece ≡ Many) × (rest ≡ ls)
-  PieceAt Question l ls piece rest = (piece ≡ One Any) × (rest ≡ ls)
-  PieceAt Literal l ls piece rest = (piece ≡ One (item.Literal l.byte)) × (rest ≡ ls)
-  PieceAt Bracket l ls piece rest = (class : Class A) × (piece ≡ One (OneOf class)) × IsClass ls class rest
+  -- the item fits the bytes whose small letter is this one
+  abbrev pub FitsCases : ℕ → Item A → Type 0
+  FitsCases own item = (b : ℕ) → (Fits item b → to_ascii_lowercase b ≡ own) × (to_ascii_lowercase b ≡ own → Fits item b)
 
-  -- the text begins with the piece, and not with a slash
-  abbrev pub IsPiece : List Letter → Piece (Item A) → List Letter → Type 0
-  IsPiece [] piece rest = ⊥
-  IsPiece (l ∷ ls) piece rest = (l.byte ≡ 0x2F → ⊥) × PieceAt (kind_of l) l ls piece rest
-
-  -- the text begins with a part of these pieces, and what comes after it
-  pub record IsPart (text : List Letter) (pieces : List (Piece (Item A))) (after : After) : Type 0 where
-    pub left : List Letter
-    pub read : Reads IsPiece text pieces left
-    pub ends : EndsPart left after
+  -- the piece matches the letter alone, without regard to case if the file folds
+  abbrev pub IsLiteral : Bool → Letter → Piece (Item A) → Type 0
+  IsLiteral false l piece = piece ≡ One (item.Literal l.byte)
+  IsLiteral true l piece = (item : Item A) × (piece ≡ One item) × FitsCases (own_byte true l) item
 
   -- each piece is a star
   abbrev pub all_stars : List (Piece (Item A)) → Bool
@@ -86,6 +78,26 @@ module _ {A : Type 0} where
   group false joined part = One part ∷ []
   group true true part = Many ∷ []
   group true false part = Many ∷ One part ∷ []
+
+module _ {A : Type 0} (folds : Bool) where
+  -- a letter, by its kind, and what comes after it are a piece, and what comes after that
+  abbrev pub PieceAt : Kind → Letter → List Letter → Piece (Item A) → List Letter → Type 0
+  PieceAt Slash l ls piece rest = IsLiteral folds l piece × (rest ≡ ls)
+  PieceAt Star l ls piece rest = (piece ≡ Many) × (rest ≡ ls)
+  PieceAt Question l ls piece rest = (piece ≡ One Any) × (rest ≡ ls)
+  PieceAt Literal l ls piece rest = IsLiteral folds l piece × (rest ≡ ls)
+  PieceAt Bracket l ls piece rest = (class : Class A) × (piece ≡ One (OneOf class)) × IsClass folds ls class rest
+
+  -- the text begins with the piece, and not with a slash
+  abbrev pub IsPiece : List Letter → Piece (Item A) → List Letter → Type 0
+  IsPiece [] piece rest = ⊥
+  IsPiece (l ∷ ls) piece rest = (l.byte ≡ 0x2F → ⊥) × PieceAt (kind_of l) l ls piece rest
+
+  -- the text begins with a part of these pieces, and what comes after it
+  pub record IsPart (text : List Letter) (pieces : List (Piece (Item A))) (after : After) : Type 0 where
+    pub left : List Letter
+    pub read : Reads IsPiece text pieces left
+    pub ends : EndsPart left after
 
   -- a part is read, and what it is in the pattern
   pub record IsGroup (text : List Letter) (pieces : List (Piece (Part A))) (left : Option (List Letter)) : Type 0 where
@@ -106,17 +118,17 @@ module _ {A : Type 0} where
     pub read : Reads NextGroup (Some text) groups None
     pub joined : pattern ≡ concat_of groups
 
-module _ (A : Type 0) where
+module _ (folds : Bool) (A : Type 0) where
   -- a class in the first part isn't written right
   pub record IsBrokenPart (text : List Letter) : Type 0 where
     pub pieces : List (Piece (Item A))
     pub left : List Letter
-    pub read : Reads IsPiece text pieces left
+    pub read : Reads (IsPiece folds) text pieces left
     pub broken : IsBrokenHere left
 
   -- a class in a part isn't written right
   pub record IsBrokenPattern (text : List Letter) : Type 0 where
     pub groups : List (List (Piece (Part A)))
     pub left : List Letter
-    pub read : Reads NextGroup (Some text) groups (Some left)
+    pub read : Reads (NextGroup folds) (Some text) groups (Some left)
     pub broken : IsBrokenPart left

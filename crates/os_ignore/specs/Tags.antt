@@ -36,12 +36,12 @@ pub record IsExtension (text extension : List ℕ) : Type 0 where
 
 module _ {A : Type 0} where
   -- a line with this literal and pattern matches no path that lacks the tag
-  abbrev pub IsTagOf : Bool → List ℕ → List (Piece (Part A)) → ℕ → Type 0
-  IsTagOf anchored literal pattern tag = (path target : List ℕ) → IsTarget anchored path target → MatchesText literal pattern target → (HasTag path tag → ⊥) → ⊥
+  abbrev pub IsTagOf : Bool → Bool → List ℕ → List (Piece (Part A)) → ℕ → Type 0
+  IsTagOf folds anchored literal pattern tag = (path target : List ℕ) → IsTarget anchored path target → MatchesText folds literal pattern target → (HasTag path tag → ⊥) → ⊥
 
   -- the line matches none
   abbrev pub IsTag : Line A → ℕ → Type 0
-  IsTag line tag = IsTagOf line.anchored line.literal.items line.pattern.items tag
+  IsTag line tag = IsTagOf line.folds line.anchored line.literal.items line.pattern.items tag
 
   -- the tags are those of the lines
   abbrev pub AreTags : List (Line A) → List ℕ → Type 0

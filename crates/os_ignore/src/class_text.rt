@@ -3,7 +3,7 @@ ghost use Rattle.std.specs.Prelude.{◌≡◌, ◌∷◌, ◌<◌, ◌≤◌, fa
 ghost use Rattle.os_ignore.specs.ClassText.{all_names, name_text, after_text, known_name, ends_name, named_text, closes, range_at, member_at, negation, IsClass, IsBrokenClass};
 ghost use Rattle.os_ignore.specs.ClassSteps.{from_bracket, AreNameless, AreNamelessWithin, reading_of, LeavesLess};
 
-use crate::class::{Member, Name};
+use crate::class::{Member, Name, class_of};
 use crate::letter::Letter;
 use std::alloc::{AllocError, Allocator};
 use wildcards::Class;
@@ -234,10 +234,11 @@ fn negation(text: &[Letter]) -> (bool, &[Letter])
 /// Reads the class that comes after a `[`, and what comes after it; `None` where it is none.
 pub(crate) fn read_class<'a, A: Allocator + Copy>(
     alloc: A,
+    folds: bool,
     text: &'a [Letter],
 ) -> Result<Option<(Class<A>, &'a [Letter])>, AllocError>
     ensures class { IfOk result (λ read. MatchOption read (IsBrokenClass text.now)
-        (λ p. IsClass text.now p.0 p.1.now)) }
+        (λ p. IsClass folds text.now p.0 p.1.now)) }
     ensures shorter { IfOk result (λ read. IfSome read (λ p. length p.1.now < length text.now)) }
 {
     let (negated, body) = negation(text);
@@ -248,9 +249,12 @@ pub(crate) fn read_class<'a, A: Allocator + Copy>(
     loop {
         match next_member(before, left, &mut nameless) {
             Next::Broken => return Ok(None),
-            Next::Closed(rest) => return Ok(Some((Class::new(alloc, negated, ranges)?, rest))),
+            Next::Closed(rest) => {
+                let class = class_of(alloc, folds, negated, ranges)?;
+                return Ok(Some((class, rest)));
+            }
             Next::Member(member, after, rest) => {
-                member.push_to(&mut ranges)?;
+                member.push_to(folds, &mut ranges)?;
                 before = after;
                 left = rest;
             }

@@ -72,12 +72,13 @@ fn push_line<A: Allocator>(
     }
 }
 
-/// Reads the lines of a file that are patterns.
+/// Reads the lines of a file that are patterns, without regard to case if it folds.
 pub(crate) fn read_lines<A: Allocator + Copy>(
     alloc: A,
+    folds: bool,
     file: &[u8],
 ) -> Result<Vec<Line<A>, A>, AllocError>
-    ensures lines { IfOk result (λ lines. AreLines file.now lines.items) }
+    ensures lines { IfOk result (λ lines. AreLines folds file.now lines.items) }
     ensures tags { IfOk result (λ lines. AllByRecursion (λ line. IsTag line line.tag) lines.items) }
 {
     let mut lines = Vec::new(alloc);
@@ -85,7 +86,7 @@ pub(crate) fn read_lines<A: Allocator + Copy>(
     let mut left = Some(without_mark(file));
     while let Some(text) = left {
         let (line, rest) = split_piece(b'\n', text);
-        let read = read_line(alloc, number, line_text(line))?;
+        let read = read_line(alloc, folds, number, line_text(line))?;
         push_line(&mut lines, read)?;
         number += 1;
         left = rest;
@@ -109,14 +110,15 @@ fn line_tags<A: Allocator + Copy>(alloc: A, lines: &[Line<A>]) -> Result<Vec<u8,
 /// The file in a directory that has these lines.
 pub(crate) fn new_file<A: Allocator + Copy>(
     alloc: A,
+    folds: bool,
     number: usize,
     directory: &[u8],
     content: &[u8],
 ) -> Result<File<A>, AllocError>
     ensures { IfOk result (λ file. (file.number ≡ number) × ((file.directory.items ≡ directory.now)
-        × ((file.content.items ≡ content.now) × AreLines content.now file.lines.items))) }
+        × ((file.content.items ≡ content.now) × AreLines folds content.now file.lines.items))) }
 {
-    let lines = read_lines(alloc, content)?;
+    let lines = read_lines(alloc, folds, content)?;
     let tags = line_tags(alloc, &lines)?;
     Ok(File {
         number,

@@ -8,6 +8,13 @@ use crate::file::{File, new_file};
 use crate::verdict::{Verdict, decide};
 use std::alloc::{AllocError, Allocator, Global};
 
+/// How the lines of a file are read.
+#[derive(Clone, Copy, PartialEq, Eq, Debug)]
+pub struct IgnoreOptions {
+    /// Whether letters of ASCII that differ in case alone are one, as with git's `core.ignorecase`.
+    pub case_insensitive: bool,
+}
+
 /// The lines of the ignore files of one tree, compiled.
 #[derive(Drop)]
 pub struct Ignore<A: Allocator = Global> {
@@ -15,7 +22,7 @@ pub struct Ignore<A: Allocator = Global> {
 }
 
 impl<A: Allocator + Copy> Ignore<A> {
-    ghost use Rattle.os_ignore.specs.Ignores.{files_of, IsAdded, IsOnly};
+    ghost use Rattle.os_ignore.specs.Ignores.{files_of, IsAdded, IsAddedTo, IsOnly};
 
     /// No files: their verdict on each path is [`Verdict::Neither`]. It doesn't allocate.
     ///
@@ -79,7 +86,49 @@ impl<A: Allocator + Copy> Ignore<A> {
             (files_of self.new)) }
         ensures unchanged { OnErr result (files_of self.new ≡ files_of self.old) }
     {
-        let added = new_file(alloc, self.files.len(), directory, file)?;
+        let options = IgnoreOptions {
+            case_insensitive: false,
+        };
+        self.add_with(alloc, options, directory, file)
+    }
+
+    /// Adds the lines of a file as [`Ignore::add`] does, with options. Without regard to case, it reads them
+    /// as git 2.39 does with `core.ignorecase`.
+    ///
+    /// A letter of ASCII then matches both its cases, and a range such as `[A-Z]` has `a`. As in git, a
+    /// capital that a backslash quotes matches nothing, nor does a capital alone in a class: `[A]` has
+    /// neither `a` nor `A`, and `[a]` has both. The directory of the file is compared exactly.
+    ///
+    /// In such a file each letter after the first wildcard of a line takes about 300 bytes, and each path
+    /// is tried with each line.
+    ///
+    /// # Errors
+    ///
+    /// [`AllocError`] if an allocation fails; the files are then unchanged.
+    ///
+    /// ```
+    /// use os_ignore::{Ignore, IgnoreOptions, Verdict};
+    ///
+    /// let mut ignore = Ignore::empty(alloc);
+    /// let options = IgnoreOptions { case_insensitive: true };
+    /// ignore.add_with(alloc, options, b"", b"Thumbs.db\n*.o\n!Keep.o\n")?;
+    /// assert_eq!(rt; ignore.matched(b"a/THUMBS.DB", false), Verdict::Ignored { file: 0, line: 1 });
+    /// assert_eq!(rt; ignore.matched(b"A.O", false), Verdict::Ignored { file: 0, line: 2 });
+    /// assert_eq!(rt; ignore.matched(b"keep.o", false), Verdict::TakenIn { file: 0, line: 3 });
+    /// ```
+    pub fn add_with(
+        &mut self,
+        alloc: A,
+        options: IgnoreOptions,
+        directory: &[u8],
+        file: &[u8],
+    ) -> Result<(), AllocError>
+        ensures added { OnOk result (IsAddedTo options.case_insensitive directory.now file.now
+            (files_of self.old) (files_of self.new)) }
+        ensures unchanged { OnErr result (files_of self.new ≡ files_of self.old) }
+    {
+        let folds = options.case_insensitive;
+        let added = new_file(alloc, folds, self.files.len(), directory, file)?;
         let index = files_before(&self.files, directory).len();
         self.files.insert(index, added)?;
         Ok(())

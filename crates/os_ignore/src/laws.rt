@@ -27,47 +27,52 @@ pub fn walked_verdict<A: Allocator>()
         → v ≡ w }
 {}
 
-/// A text has one meaning: two lines that are read from it match the same paths.
+/// A text has one meaning, with regard to case or without: two lines that are read from it match the
+/// same paths.
 pub fn one_meaning<A: Allocator>()
-    ensures { (text : List ℕ) → (a : Line A) → (b : Line A) → IsLine text a → IsLine text b
+    ensures { (folds : Bool) → (text : List ℕ) → (a : Line A) → (b : Line A)
+        → IsLine folds text a → IsLine folds text b
         → (a.takes_in ≡ b.takes_in) × ((path : List ℕ) → (is_dir : Bool)
         → LineMatches a path is_dir → LineMatches b path is_dir) }
 {}
 
-/// A `!` before a line takes in again exactly what the line matches.
+/// A `!` before a line takes in again exactly what the line matches, with regard to case or without.
 pub fn taken_in_again<A: Allocator>()
-    ensures { (text : List ℕ) → (line : Line A) → (again : Line A) → IsLine text line
-        → IsLine (0x21 ∷ text) again → line.takes_in ≡ false → (again.takes_in ≡ true)
+    ensures { (folds : Bool) → (text : List ℕ) → (line : Line A) → (again : Line A)
+        → IsLine folds text line → IsLine folds (0x21 ∷ text) again → line.takes_in ≡ false → (again.takes_in ≡ true)
         × ((path : List ℕ) → (is_dir : Bool)
         → LineMatches line path is_dir ↔ LineMatches again path is_dir) }
 {}
 
-/// A text that is a line has no reason why it is none.
+/// A text that is a line has no reason why it is none, with regard to case or without.
 pub fn never_both<A: Allocator>()
-    ensures { (text : List ℕ) → (line : Line A) → (reason : NoPattern)
-        → IsLine text line → SaysNothing A text reason → ⊥ }
+    ensures { (folds : Bool) → (text : List ℕ) → (line : Line A) → (reason : NoPattern)
+        → IsLine folds text line → SaysNothing folds A text reason → ⊥ }
 {}
 
 /// The line of a name whose bytes are all quoted matches the paths with this last component, and no
-/// other.
+/// other. It is read with regard to case: without, `\a` also matches `A`, and `\A` nothing.
 pub fn escaped_alone<A: Allocator>()
     ensures { (name : List ℕ) → (line : Line A) → 0 < length name → IsPlain 0x2F name
-        → IsLine (escaped name) line → (line.takes_in ≡ false) × ((path : List ℕ)
+        → IsLine false (escaped name) line → (line.takes_in ≡ false) × ((path : List ℕ)
         → (is_dir : Bool) → LineMatches line path is_dir ↔ IsLastComponent path name) }
 {}
 
-/// The verdict depends on the texts of the files alone.
+/// The verdict depends on the texts of the files alone, and on which of them regard case.
 pub fn by_text<A: Allocator>()
     ensures { (files : List (File A)) → (others : List (File A)) → AllZip AreOfOneText files others
         → (path : List ℕ) → (is_dir : Bool) → (v : Verdict) → (w : Verdict)
         → IsVerdict files path is_dir v → IsVerdict others path is_dir w → v ≡ w }
 {}
 
-/// A line that is no pattern changes no verdict: it may as well be empty.
+/// A line that is no pattern changes no verdict, with regard to case or without: it may as well be
+/// empty.
 pub fn silent_line<A: Allocator>()
-    ensures { (content : List ℕ) → (other : List ℕ) → IsBlanked A content other → (number : ℕ)
+    ensures { (folds : Bool) → (content : List ℕ) → (other : List ℕ)
+        → IsBlanked folds A content other → (number : ℕ)
         → (directory : List ℕ) → (file : File A) → (blank : File A)
-        → IsFileAt number directory content file → IsFileAt number directory other blank
+        → IsFileAt folds number directory content file
+        → IsFileAt folds number directory other blank
         → (front : List (File A)) → (back : List (File A)) → (path : List ℕ) → (is_dir : Bool)
         → (v : Verdict) → (w : Verdict) → IsVerdict (front ++ file ∷ back) path is_dir v
         → IsVerdict (front ++ blank ∷ back) path is_dir w → v ≡ w }

@@ -1,6 +1,6 @@
 //! The letters of a line: its bytes, where a backslash quotes the next byte.
 ghost use Rattle.std.specs.Prelude.{◌≡◌, ◌∷◌, ◌<◌, ◌+◌, [], length, MatchOption, IfOk, IfSome};
-ghost use Rattle.os_ignore.specs.Letters.{is_plain, is_simple, kind_of, IsLetter, AreLetters, IsDangling};
+ghost use Rattle.os_ignore.specs.Letters.{is_plain, is_simple, kind_of, own_byte, IsLetter, AreLetters, IsDangling};
 
 use std::alloc::{AllocError, Allocator};
 
@@ -44,6 +44,17 @@ impl Letter {
         match self.kind() {
             Kind::Slash | Kind::Literal => true,
             Kind::Star | Kind::Question | Kind::Bracket => false,
+        }
+    }
+
+    /// The byte that it matches: the small letter of a capital that isn't quoted, if the file folds.
+    pub fn own_byte(self, folds: bool) -> u8
+        ensures { result ≡ own_byte folds self }
+    {
+        if folds && !self.quoted {
+            self.byte.to_ascii_lowercase()
+        } else {
+            self.byte
         }
     }
 

@@ -39,7 +39,7 @@ mod tag;
 mod verdict;
 mod walk;
 
-pub use ignore::Ignore;
+pub use ignore::{Ignore, IgnoreOptions};
 pub use reason::{NoPattern, no_pattern};
 pub use verdict::Verdict;
 pub use walk::Walk;

@@ -22,11 +22,13 @@ pub struct Line<A: Allocator = Global> {
     pub directories: bool,
     /// It matches paths from its file's directory (a `/` elsewhere), and else names at any depth.
     pub anchored: bool,
+    /// It matches without regard to case.
+    pub folds: bool,
     /// What the path or the name begins with.
     pub literal: Vec<u8, A>,
     /// What matches the rest.
     pub pattern: Vec<Piece<Part<A>>, A>,
-    /// A tag that each path has which it matches.
+    /// A tag that each path has which it matches; 0, which each path has, if it folds.
     pub tag: u8,
 }
 
@@ -95,9 +97,10 @@ fn has_slash(letters: &[Letter]) -> bool
 /// The bytes before the first letter that is quoted or a wildcard, and what comes after them.
 pub(crate) fn read_literal<A: Allocator>(
     alloc: A,
+    folds: bool,
     letters: &[Letter],
 ) -> Result<(Vec<u8, A>, &[Letter]), AllocError>
-    ensures { IfOk result (λ p. (p.0.items ≡ literal_prefix letters.entry.now)
+    ensures { IfOk result (λ p. (p.0.items ≡ literal_prefix folds letters.entry.now)
         × (p.1.now ≡ after_literal letters.entry.now)) }
 {
     let mut literal = Vec::new(alloc);
@@ -106,7 +109,7 @@ pub(crate) fn read_literal<A: Allocator>(
         if !first.is_simple() {
             return Ok((literal, left));
         }
-        literal.push(first.byte)?;
+        literal.push(first.own_byte(folds))?;
         left = rest;
     }
     Ok((literal, left))
@@ -125,10 +128,11 @@ fn is_comment(text: &[u8]) -> bool
 /// Reads the letters of a line that is no comment, or returns why they are no pattern.
 fn read_letters<A: Allocator + Copy>(
     alloc: A,
+    folds: bool,
     number: usize,
     letters: &[Letter],
 ) -> Result<Result<Line<A>, NoPattern>, AllocError>
-    ensures line { IfOk result (λ read. LettersSayLine number letters.now read) }
+    ensures line { IfOk result (λ read. LettersSayLine folds number letters.now read) }
     ensures tag { IfOk result (λ read. IfOk read (λ line. IsTag line line.tag)) }
 {
     let (takes_in, named) = strip_first(b'!', trim(letters));
@@ -140,16 +144,17 @@ fn read_letters<A: Allocator + Copy>(
     if body.is_empty() {
         return Ok(Err(NoPattern::Empty));
     }
-    let (literal, rest) = read_literal(alloc, body)?;
-    let Some(pattern) = read_pattern(alloc, rest)? else {
+    let (literal, rest) = read_literal(alloc, folds, body)?;
+    let Some(pattern) = read_pattern(alloc, folds, rest)? else {
         return Ok(Err(NoPattern::Class));
     };
-    let tag = line_tag(alloc, anchored, &literal, rest)?;
+    let tag = line_tag(alloc, folds, anchored, &literal, rest)?;
     Ok(Ok(Line {
         number,
         takes_in,
         directories,
         anchored,
+        folds,
         literal,
         pattern,
         tag,
@@ -159,10 +164,11 @@ fn read_letters<A: Allocator + Copy>(
 /// Reads the text of a line, or returns why it is no pattern.
 pub(crate) fn read_line<A: Allocator + Copy>(
     alloc: A,
+    folds: bool,
     number: usize,
     text: &[u8],
 ) -> Result<Result<Line<A>, NoPattern>, AllocError>
-    ensures line { IfOk result (λ read. SaysLine number text.now read) }
+    ensures line { IfOk result (λ read. SaysLine folds number text.now read) }
     ensures tag { IfOk result (λ read. IfOk read (λ line. IsTag line line.tag)) }
 {
     if is_comment(text) {
@@ -171,5 +177,5 @@ pub(crate) fn read_line<A: Allocator + Copy>(
     let Some(letters) = letters(alloc, text)? else {
         return Ok(Err(NoPattern::Backslash));
     };
-    read_letters(alloc, number, &letters)
+    read_letters(alloc, folds, number, &letters)
 }

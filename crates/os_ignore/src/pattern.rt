@@ -1,9 +1,11 @@
 //! Patterns as they are written in a line, part by part.
 ghost use Rattle.std.specs.Prelude.{◌≡◌, ◌++◌, ◌<◌, ◌≤◌, ◌+◌, length, Some, MatchOption, IfOk, IfSome};
+ghost use Rattle.wildcards.specs.declared.piece.Piece.TheVariants.{One};
 ghost use Rattle.os_ignore.specs.Components.{left_size};
 ghost use Rattle.os_ignore.specs.Letters.{kind_of};
-ghost use Rattle.os_ignore.specs.PatternText.{PieceAt, IsBrokenPiece, IsPart, IsBrokenPart, is_deep, all_stars, group, is_joined, IsPattern, IsBrokenPattern, left_after};
+ghost use Rattle.os_ignore.specs.PatternText.{PieceAt, IsLiteral, IsBrokenPiece, IsPart, IsBrokenPart, is_deep, all_stars, group, is_joined, IsPattern, IsBrokenPattern, left_after};
 
+use crate::class::either_case;
 use crate::class_text::read_class;
 use crate::letter::{Kind, Letter};
 use std::alloc::{AllocError, Allocator};
@@ -40,28 +42,44 @@ impl<'a> After<'a> {
     }
 }
 
+/// The item that matches a letter alone, without regard to case if the file folds.
+fn literal<A: Allocator + Copy>(
+    alloc: A,
+    folds: bool,
+    letter: Letter,
+) -> Result<Item<A>, AllocError>
+    ensures { IfOk result (λ item. IsLiteral folds letter (One item)) }
+{
+    if folds {
+        either_case(alloc, letter.own_byte(true))
+    } else {
+        Ok(Item::Literal(u32::from(letter.byte)))
+    }
+}
+
 /// Reads the piece that begins with `first`, which is no slash; `None` where it is a class that isn't one.
 fn read_piece<'a, A: Allocator + Copy>(
     alloc: A,
+    folds: bool,
     first: Letter,
     rest: &'a [Letter],
 ) -> Result<Option<(Piece<Item<A>>, &'a [Letter])>, AllocError>
     ensures piece { IfOk result (λ read. MatchOption read (IsBrokenPiece first rest.now)
-        (λ p. PieceAt (kind_of first) first rest.now p.0 p.1.now)) }
+        (λ p. PieceAt folds (kind_of first) first rest.now p.0 p.1.now)) }
     ensures shorter { IfOk result (λ read. IfSome read (λ p. length p.1.now ≤ length rest.now)) }
 {
     match first.kind() {
         Kind::Star => Ok(Some((Piece::Many, rest))),
         Kind::Question => Ok(Some((Piece::One(Item::Any), rest))),
         Kind::Bracket => {
-            let Some((class, after)) = read_class(alloc, rest)? else {
+            let Some((class, after)) = read_class(alloc, folds, rest)? else {
                 return Ok(None);
             };
             Ok(Some((Piece::One(Item::OneOf(class)), after)))
         }
         Kind::Literal | Kind::Slash => {
-            let letter = u32::from(first.byte);
-            Ok(Some((Piece::One(Item::Literal(letter)), rest)))
+            let item = literal(alloc, folds, first)?;
+            Ok(Some((Piece::One(item), rest)))
         }
     }
 }
@@ -69,10 +87,11 @@ fn read_piece<'a, A: Allocator + Copy>(
 /// Reads the pieces of a part, and what comes after it; `None` where a class in it isn't one.
 fn read_part<A: Allocator + Copy>(
     alloc: A,
+    folds: bool,
     text: &[Letter],
 ) -> Result<Option<(Vec<Piece<Item<A>>, A>, After<'_>)>, AllocError>
-    ensures part { IfOk result (λ read. MatchOption read (IsBrokenPart A text.entry.now)
-        (λ p. IsPart text.entry.now p.0.items p.1)) }
+    ensures part { IfOk result (λ read. MatchOption read (IsBrokenPart folds A text.entry.now)
+        (λ p. IsPart folds text.entry.now p.0.items p.1)) }
     ensures shorter { IfOk result (λ read. IfSome read
         (λ p. left_size (left_after p.1) < length text.entry.now + 1)) }
 {
@@ -82,7 +101,7 @@ fn read_part<A: Allocator + Copy>(
         if first.byte == b'/' {
             return Ok(Some((pieces, After::Slash(first.quoted, rest))));
         }
-        let Some((piece, after)) = read_piece(alloc, *first, rest)? else {
+        let Some((piece, after)) = read_piece(alloc, folds, *first, rest)? else {
             return Ok(None);
         };
         pieces.push(piece)?;
@@ -138,15 +157,16 @@ fn push_group<A: Allocator>(
 /// Reads a pattern; `None` where a class in it isn't one.
 pub(crate) fn read_pattern<A: Allocator + Copy>(
     alloc: A,
+    folds: bool,
     text: &[Letter],
 ) -> Result<Option<Vec<Piece<Part<A>>, A>>, AllocError>
-    ensures { IfOk result (λ read. MatchOption read (IsBrokenPattern A text.now)
-        (λ pattern. IsPattern text.now pattern.items)) }
+    ensures { IfOk result (λ read. MatchOption read (IsBrokenPattern folds A text.now)
+        (λ pattern. IsPattern folds text.now pattern.items)) }
 {
     let mut pattern = Vec::new(alloc);
     let mut left = Some(text);
     while let Some(text) = left {
-        let Some((pieces, after)) = read_part(alloc, text)? else {
+        let Some((pieces, after)) = read_part(alloc, folds, text)? else {
             return Ok(None);
         };
         let deep = is_deep(&pieces);

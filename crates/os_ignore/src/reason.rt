@@ -46,7 +46,7 @@ pub fn no_pattern<A: Allocator + Copy>(
 ) -> Result<Option<NoPattern>, AllocError>
     ensures { IfOk result (HasReason A line.now) }
 {
-    let read = read_line(alloc, 1, line_text(line))?;
+    let read = read_line(alloc, false, 1, line_text(line))?;
     Ok(reason_of(read))
 }
 

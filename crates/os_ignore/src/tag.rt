@@ -1,5 +1,5 @@
 //! Tags of lines and of paths. A line is matched only with paths that have its tag.
-ghost use Rattle.std.specs.Prelude.{◌≡◌, ◌∷◌, List, [], IfOk, IfSome};
+ghost use Rattle.std.specs.Prelude.{◌≡◌, ◌∷◌, false, List, [], IfOk, IfSome};
 ghost use Rattle.wildcards.specs.declared.part.Part.{Part};
 ghost use Rattle.wildcards.specs.declared.piece.Piece.{Piece};
 ghost use Rattle.os_ignore.specs.PatternText.{IsPattern};
@@ -56,8 +56,8 @@ fn extension(text: &[u8]) -> Option<&[u8]>
 
 /// The tag of a line that matches its literal alone.
 fn whole_tag<A: Allocator>(anchored: bool, literal: &[u8]) -> u8
-    ensures { (pattern : List (Piece (Part A))) → IsPattern [] pattern
-        → IsTagOf anchored literal.now pattern result }
+    ensures { (pattern : List (Piece (Part A))) → IsPattern false [] pattern
+        → IsTagOf false anchored literal.now pattern result }
 {
     if anchored {
         tag_of(last_component(literal))
@@ -76,10 +76,10 @@ fn suffix_tag<A: Allocator + Copy>(
     star: Letter,
     rest: &[Letter],
 ) -> Result<u8, AllocError>
-    ensures { IfOk result (λ tag. (pattern : List (Piece (Part A))) → IsPattern (star ∷ rest.now) pattern
-        → IsTagOf anchored literal.now pattern tag) }
+    ensures { IfOk result (λ tag. (pattern : List (Piece (Part A))) → IsPattern false (star ∷ rest.now) pattern
+        → IsTagOf false anchored literal.now pattern tag) }
 {
-    let (suffix, left) = read_literal(alloc, rest)?;
+    let (suffix, left) = read_literal(alloc, false, rest)?;
     if !star.is_plain(b'*') || !left.is_empty() {
         return Ok(0);
     }
@@ -89,15 +89,15 @@ fn suffix_tag<A: Allocator + Copy>(
     }
 }
 
-/// The tag of a line, by its literal and the letters that come after that.
-pub fn line_tag<A: Allocator + Copy>(
+/// The tag of a line in which case matters, by its literal and the letters that come after that.
+fn exact_tag<A: Allocator + Copy>(
     alloc: A,
     anchored: bool,
     literal: &[u8],
     rest: &[Letter],
 ) -> Result<u8, AllocError>
-    ensures { IfOk result (λ tag. (pattern : List (Piece (Part A))) → IsPattern rest.now pattern
-        → IsTagOf anchored literal.now pattern tag) }
+    ensures { IfOk result (λ tag. (pattern : List (Piece (Part A))) → IsPattern false rest.now pattern
+        → IsTagOf false anchored literal.now pattern tag) }
 {
     if anchored {
         if let Some((text, _)) = split_first(b'/', literal) {
@@ -107,5 +107,23 @@ pub fn line_tag<A: Allocator + Copy>(
     match rest.split_first() {
         Some((star, more)) => suffix_tag(alloc, anchored, literal, *star, more),
         None => Ok(whole_tag::<A>(anchored, literal)),
+    }
+}
+
+/// The tag of a line; 0, which each path has, if the file folds.
+pub fn line_tag<A: Allocator + Copy>(
+    alloc: A,
+    folds: bool,
+    anchored: bool,
+    literal: &[u8],
+    rest: &[Letter],
+) -> Result<u8, AllocError>
+    ensures { IfOk result (λ tag. (pattern : List (Piece (Part A)))
+        → IsPattern folds rest.now pattern → IsTagOf folds anchored literal.now pattern tag) }
+{
+    if folds {
+        Ok(0)
+    } else {
+        exact_tag(alloc, anchored, literal, rest)
     }
 }

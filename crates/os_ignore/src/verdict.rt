@@ -4,7 +4,7 @@ ghost use Rattle.std.specs.List.{HoldsAt};
 ghost use Rattle.memchr.specs.Find.{is_byte3};
 ghost use Rattle.wildcards.specs.Match.{Matches};
 ghost use Rattle.os_ignore.specs.Components.{IsLastComponent};
-ghost use Rattle.os_ignore.specs.Matching.{by_slashes, LineMatches, MatchesText};
+ghost use Rattle.os_ignore.specs.Matching.{by_slashes, IsAfter, LineMatches, MatchesText};
 ghost use Rattle.os_ignore.specs.Tags.{AreTags, NoneTagged, IsLastTagged};
 ghost use Rattle.os_ignore.specs.Verdicts.{IsBelow, IsLastMatch, NoneMatches, FileDecides, FileIsSilent, IsOwn, IsVerdict, is_ignored};
 
@@ -68,11 +68,49 @@ fn matches_rest<A: Allocator>(pattern: &[Piece<Part<A>>], text: &[u8]) -> bool
     matches::<Bytes, A>(options, pattern, text)
 }
 
-/// Whether a text is a literal start, and a rest that a pattern matches.
-fn matches_text<A: Allocator>(literal: &[u8], pattern: &[Piece<Part<A>>], text: &[u8]) -> bool
-    ensures { IsTrue result ↔ MatchesText literal.now pattern.now text.now }
+/// What comes after bytes whose small letters are these.
+fn after_folded<'a>(small: &[u8], text: &'a [u8]) -> Option<&'a [u8]>
+    ensures { MatchOption result
+        ((rest : List ℕ) → IsAfter true small.entry.now text.entry.now rest → ⊥)
+        (λ rest. IsAfter true small.entry.now text.entry.now rest.now) }
 {
-    match after_bytes(literal, text) {
+    let mut wanted = small;
+    let mut left = text;
+    while let Some((byte, more)) = wanted.split_first() {
+        let Some((first, rest)) = left.split_first() else {
+            return None;
+        };
+        if first.to_ascii_lowercase() != *byte {
+            return None;
+        }
+        wanted = more;
+        left = rest;
+    }
+    Some(left)
+}
+
+/// What comes after a literal start, without regard to case if the file folds.
+fn after_literal<'a>(folds: bool, literal: &[u8], text: &'a [u8]) -> Option<&'a [u8]>
+    ensures { MatchOption result ((rest : List ℕ) → IsAfter folds literal.now text.now rest → ⊥)
+        (λ rest. IsAfter folds literal.now text.now rest.now) }
+{
+    if folds {
+        after_folded(literal, text)
+    } else {
+        after_bytes(literal, text)
+    }
+}
+
+/// Whether a text is a literal start, and a rest that a pattern matches.
+fn matches_text<A: Allocator>(
+    folds: bool,
+    literal: &[u8],
+    pattern: &[Piece<Part<A>>],
+    text: &[u8],
+) -> bool
+    ensures { IsTrue result ↔ MatchesText folds literal.now pattern.now text.now }
+{
+    match after_literal(folds, literal, text) {
         Some(rest) => matches_rest(pattern, rest),
         None => false,
     }
@@ -105,6 +143,7 @@ impl<A: Allocator> Line<A> {
             return false;
         }
         matches_text(
+            self.folds,
             &self.literal,
             &self.pattern,
             if self.anchored { path } else { name },

@@ -273,7 +273,7 @@ module _ {A : Type 0} (name bytes : List ℕ) where
           record {
             file = a.file;
             files_are = e ∙ a.joined ∙ ap (λ x. x ++ a.file ∷ a.place.after) before ∙ ap (λ x. a.file ∷ x) (sym after);
-            file_is = subst (λ c. IsFileAt 0 [] c a.file) same (subst (λ d. IsFileAt 0 d content a.file) top a.file_is);
+            file_is = subst (λ c. IsFileAt false 0 [] c a.file) same (subst (λ d. IsFileAt false 0 d content a.file) top a.file_is);
           }
 
       by : (reads : List FileRead) → name ∷ [] ≡ map value_of reads → AllByRecursion (WasRead (only name bytes)) reads → AreAdded reads [] files → IsOnly bytes files

@@ -1,9 +1,9 @@
 -- What the one file of a tree decides.
-use Rattle.std.proofs.Common.{◌≡◌, ℕ, Bool, List, [], ◌∷◌, ◌++◌, refl, sym, ◌∙◌, subst}
+use Rattle.std.proofs.Common.{◌≡◌, ℕ, Bool, List, [], ◌∷◌, ◌++◌, length, refl, sym, ap, ◌∙◌, subst}
 use Rattle.std.specs.List.{AllByRecursion}
 use Rattle.os_ignore.specs.declared.file.File.{File}
 use Rattle.os_ignore.specs.Files.{IsTextAt}
-use Rattle.os_ignore.specs.Ignores.{HasText}
+use Rattle.os_ignore.specs.Ignores.{HasText, IsAddedTo, IsFileAt}
 use Rattle.os_ignore.specs.Verdicts.{Decides}
 
 -- what holds of each element holds of the one between others
@@ -21,3 +21,15 @@ pub its_text : {A : Type 0} (file : File A) (content : List ℕ) (number line : 
 its_text file content number line text e h =
     let own = between (λ z. z.content.items ≡ content) h.front h.file h.back (subst (AllByRecursion (λ z. z.content.items ≡ content)) h.joined (e, tt)) in
     subst (λ z. IsTextAt z line text) own h.has.1
+
+-- the first file that is added is the only one
+alone : {X : Type 0} (xs ys : List X) (x : X) → [] ≡ xs ++ ys → xs ++ x ∷ ys ≡ x ∷ []
+alone [] [] x e = refl
+alone [] (y ∷ ys) x e = let never : [] ≡ y ∷ ys = e in absurd cc
+alone (z ∷ xs) ys x e = let never : [] ≡ z ∷ (xs ++ ys) = e in absurd cc
+
+pub first_added : {A : Type 0} (folds : Bool) (content : List ℕ) (old new : List (File A)) → old ≡ [] → IsAddedTo folds [] content old new → (file : File A) × ((new ≡ file ∷ []) × IsFileAt folds 0 [] content file)
+first_added folds content old new e a = (
+  a.file,
+  (a.joined ∙ alone a.before a.place.after a.file (sym e ∙ a.place.joined), subst (λ z. IsFileAt folds z [] content a.file) (ap length e) a.file_is),
+)

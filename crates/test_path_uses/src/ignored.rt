@@ -13,7 +13,7 @@ ghost use Rattle.os_ignore.specs.Matching.{LineMatches};
 ghost use Rattle.os_ignore.specs.Verdicts.{IsVerdict, is_ignored};
 ghost use Rattle.os_ignore.specs.Walks.{files_of_walk};
 
-use os_ignore::{Ignore, NoPattern, Verdict, Walk, laws, no_pattern};
+use os_ignore::{Ignore, IgnoreOptions, NoPattern, Verdict, Walk, laws, no_pattern};
 use std::alloc::{AllocError, Allocator};
 
 /// The verdict of one file of a tree on a path: that of its lines, as they are written.
@@ -23,10 +23,28 @@ pub fn matched_by_text<A: Allocator + Copy>(
     path: &[u8],
     is_dir: bool,
 ) -> Result<Verdict, AllocError>
-    ensures { IfOk result (λ said. (file : File A) × (IsFileAt 0 [] content.now file
+    ensures { IfOk result (λ said. (file : File A) × (IsFileAt false 0 [] content.now file
         × IsVerdict (file ∷ []) path.now is_dir said)) }
 {
     let ignore = Ignore::new(alloc, content)?;
+    Ok(ignore.matched(path, is_dir))
+}
+
+/// The verdict of one file of a tree on a path: that of its lines, without regard to case.
+pub fn matched_without_case<A: Allocator + Copy>(
+    alloc: A,
+    content: &[u8],
+    path: &[u8],
+    is_dir: bool,
+) -> Result<Verdict, AllocError>
+    ensures { IfOk result (λ said. (file : File A) × (IsFileAt true 0 [] content.now file
+        × IsVerdict (file ∷ []) path.now is_dir said)) }
+{
+    let options = IgnoreOptions {
+        case_insensitive: true,
+    };
+    let mut ignore = Ignore::empty(alloc);
+    ignore.add_with(alloc, options, b"", content)?;
     Ok(ignore.matched(path, is_dir))
 }
 
@@ -142,7 +160,7 @@ pub fn without_a_silent_line<A: Allocator + Copy>(
     path: &[u8],
     is_dir: bool,
 ) -> Result<(Verdict, Verdict), AllocError>
-    requires { IsBlanked A content.now other.now }
+    requires { IsBlanked false A content.now other.now }
     ensures { IfOk result (λ said. said.0 ≡ said.1) }
 {
     laws::silent_line::<A>();
@@ -155,7 +173,8 @@ pub fn without_a_silent_line<A: Allocator + Copy>(
 /// it takes them in again.
 pub fn escaped_name<A: Allocator>()
     ensures { (name : List ℕ) → (line : Line A) → (again : Line A) → 0 < length name
-        → IsPlain 0x2F name → IsLine (escaped name) line → IsLine (0x21 ∷ escaped name) again
+        → IsPlain 0x2F name → IsLine false (escaped name) line
+        → IsLine false (0x21 ∷ escaped name) again
         → (again.takes_in ≡ true) × ((path : List ℕ) → (is_dir : Bool)
         → IsLastComponent path name → LineMatches again path is_dir) }
 {
@@ -163,10 +182,12 @@ pub fn escaped_name<A: Allocator>()
     laws::taken_in_again::<A>();
 }
 
-/// Two lines of one text both match a path, or neither does; and their text says something.
+/// Two lines of one text both match a path, or neither does; and their text says something. It is so
+/// with regard to case and without.
 pub fn lines_of_a_text<A: Allocator>()
-    ensures { (text : List ℕ) → (a : Line A) → (b : Line A) → IsLine text a → IsLine text b
-        → ((reason : NoPattern) → SaysNothing A text reason → ⊥) × ((path : List ℕ)
+    ensures { (folds : Bool) → (text : List ℕ) → (a : Line A) → (b : Line A)
+        → IsLine folds text a → IsLine folds text b
+        → ((reason : NoPattern) → SaysNothing folds A text reason → ⊥) × ((path : List ℕ)
         → (is_dir : Bool) → (LineMatches b path is_dir → ⊥) → LineMatches a path is_dir → ⊥) }
 {
     laws::one_meaning::<A>();

@@ -8,7 +8,7 @@ use Rattle.os_ignore.specs.declared.reason.NoPattern.{NoPattern}
 use Rattle.os_ignore.specs.Letters.{AreLetters, is_plain}
 use Rattle.os_ignore.specs.Lines as lines
 use Rattle.os_ignore.specs.Lines.{IsTrimmed, strip_first, EndsQuoted, IsStripped, has_slash, literal_prefix, after_literal, IsBody, IsLineOf, IsLine, LettersSayNothing, SaysNothing}
-use Rattle.os_ignore.specs.Matching.{IsTarget, LineMatches}
+use Rattle.os_ignore.specs.Matching.{IsTarget, IsAfter, LineMatches}
 use Rattle.os_ignore.specs.PatternText.{IsPattern}
 use Rattle.os_ignore.proofs.lemmas.OneReading.{same_letters, not_dangling, matches_too, not_broken_pattern}
 
@@ -75,35 +75,35 @@ not_taken (l ∷ ls) e = go (is_plain l 0x21) e
     go true e = let never : true ≡ false = e in absurd cc
     go false e = refl
 
-module _ {A : Type 0} where
+module _ {A : Type 0} (folds : Bool) where
   -- lines of one body match the same paths
-  body_matches : (a b : Line A) (body : List Letter) → a.directories ≡ b.directories → a.anchored ≡ has_slash body → b.anchored ≡ has_slash body → a.literal.items ≡ literal_prefix (strip_first 0x2F body).1 → b.literal.items ≡ literal_prefix (strip_first 0x2F body).1 → IsPattern (after_literal (strip_first 0x2F body).1) a.pattern.items → IsPattern (after_literal (strip_first 0x2F body).1) b.pattern.items → (path : List ℕ) (is_dir : Bool) → LineMatches a path is_dir → LineMatches b path is_dir
-  body_matches a b body d s t l m p q path is_dir h = record {
+  body_matches : (a b : Line A) (body : List Letter) → a.directories ≡ b.directories → a.folds ≡ b.folds → a.anchored ≡ has_slash body → b.anchored ≡ has_slash body → a.literal.items ≡ literal_prefix folds (strip_first 0x2F body).1 → b.literal.items ≡ literal_prefix folds (strip_first 0x2F body).1 → IsPattern folds (after_literal (strip_first 0x2F body).1) a.pattern.items → IsPattern folds (after_literal (strip_first 0x2F body).1) b.pattern.items → (path : List ℕ) (is_dir : Bool) → LineMatches a path is_dir → LineMatches b path is_dir
+  body_matches a b body d f s t l m p q path is_dir h = record {
     directories = λ e. h.directories (d ∙ e);
     target = h.target;
     target_is = subst (λ z. IsTarget z path h.target) (s ∙ sym t) h.target_is;
     matches = record {
       rest = h.matches.rest;
-      joined = h.matches.joined ∙ ap (λ z. z ++ h.matches.rest) (l ∙ sym m);
-      matches = matches_too (after_literal (strip_first 0x2F body).1) a.pattern.items b.pattern.items p q h.matches.rest h.matches.matches;
+      joined = subst (λ z. IsAfter z b.literal.items h.target h.matches.rest) f (subst (λ z. IsAfter a.folds z h.target h.matches.rest) (l ∙ sym m) h.matches.joined);
+      matches = matches_too folds (after_literal (strip_first 0x2F body).1) a.pattern.items b.pattern.items p q h.matches.rest h.matches.matches;
     };
   }
 
-  letters_match : (letters : List Letter) (a b : Line A) → IsLineOf letters a → IsLineOf letters b → (a.takes_in ≡ b.takes_in) × ((path : List ℕ) (is_dir : Bool) → LineMatches a path is_dir → LineMatches b path is_dir)
+  letters_match : (letters : List Letter) (a b : Line A) → IsLineOf folds letters a → IsLineOf folds letters b → (a.takes_in ≡ b.takes_in) × ((path : List ℕ) (is_dir : Bool) → LineMatches a path is_dir → LineMatches b path is_dir)
   letters_match letters a b h k =
       let same = same_body letters a.takes_in a.directories b.takes_in b.directories h.body k.body h.read k.read in
       let body = same.1.1 in (
         same.0,
-        body_matches a b k.body same.1.0 (h.anchored ∙ ap has_slash body) k.anchored
-            (h.literal ∙ ap (λ z. literal_prefix (strip_first 0x2F z).1) body) k.literal
-            (subst (λ z. IsPattern (after_literal (strip_first 0x2F z).1) a.pattern.items) body h.pattern) k.pattern,
+        body_matches a b k.body same.1.0 (h.folds_is ∙ sym k.folds_is) (h.anchored ∙ ap has_slash body) k.anchored
+            (h.literal ∙ ap (λ z. literal_prefix folds (strip_first 0x2F z).1) body) k.literal
+            (subst (λ z. IsPattern folds (after_literal (strip_first 0x2F z).1) a.pattern.items) body h.pattern) k.pattern,
       )
 
   -- a text has one meaning
-  pub one_meaning : (text : List ℕ) (a b : Line A) → IsLine text a → IsLine text b → (a.takes_in ≡ b.takes_in) × ((path : List ℕ) (is_dir : Bool) → LineMatches a path is_dir → LineMatches b path is_dir)
-  one_meaning text a b h k = letters_match k.letters a b (subst (λ z. IsLineOf z a) (same_letters text h.letters k.letters h.read k.read) h.line_of) k.line_of
+  pub one_meaning : (text : List ℕ) (a b : Line A) → IsLine folds text a → IsLine folds text b → (a.takes_in ≡ b.takes_in) × ((path : List ℕ) (is_dir : Bool) → LineMatches a path is_dir → LineMatches b path is_dir)
+  one_meaning text a b h k = letters_match k.letters a b (subst (λ z. IsLineOf folds z a) (same_letters text h.letters k.letters h.read k.read) h.line_of) k.line_of
 
-  letters_say : (letters : List Letter) (line : Line A) (reason : NoPattern) → IsLineOf letters line → LettersSayNothing A letters reason → ⊥
+  letters_say : (letters : List Letter) (line : Line A) (reason : NoPattern) → IsLineOf folds letters line → LettersSayNothing folds A letters reason → ⊥
   letters_say letters line reason h (lines.quoted_slash {trimmed} t q r) =
       not_quoted (strip_first 0x21 h.read.trimmed).1 line.directories h.body h.read.stripped (subst (λ z. EndsQuoted (strip_first 0x21 z).1) (same_trimmed letters trimmed h.read.trimmed t h.read.without_blanks) q)
   letters_say letters line reason h (lines.empty {takes_in} {directories} {body} b e r) =
@@ -111,30 +111,30 @@ module _ {A : Type 0} where
       h.some (ap (λ z. (strip_first 0x2F z).1) same.1.1 ∙ e)
   letters_say letters line reason h (lines.broken {takes_in} {directories} {body} b e r) =
       let same = same_body letters line.takes_in line.directories takes_in directories h.body body h.read b in
-      not_broken_pattern (after_literal (strip_first 0x2F body).1) line.pattern.items (subst (λ z. IsPattern (after_literal (strip_first 0x2F z).1) line.pattern.items) same.1.1 h.pattern) e
+      not_broken_pattern folds (after_literal (strip_first 0x2F body).1) line.pattern.items (subst (λ z. IsPattern folds (after_literal (strip_first 0x2F z).1) line.pattern.items) same.1.1 h.pattern) e
 
   -- a text that says nothing is no line
-  pub not_both : (text : List ℕ) (line : Line A) (reason : NoPattern) → IsLine text line → SaysNothing A text reason → ⊥
+  pub not_both : (text : List ℕ) (line : Line A) (reason : NoPattern) → IsLine folds text line → SaysNothing folds A text reason → ⊥
   not_both text line reason h (lines.comment c r) = let never : true ≡ false = sym c ∙ h.no_comment in absurd cc
   not_both text line reason h (lines.dangling n d r) = not_dangling text h.letters h.read d
-  not_both text line reason h (lines.letters {letters} n r s) = letters_say letters line reason (subst (λ z. IsLineOf z line) (same_letters text h.letters letters h.read r) h.line_of) s
+  not_both text line reason h (lines.letters {letters} n r s) = letters_say letters line reason (subst (λ z. IsLineOf folds z line) (same_letters text h.letters letters h.read r) h.line_of) s
 
   -- `!` before a line that doesn't begin with it takes in again what the line matches
-  pub taken_again : (text : List ℕ) (a b : Line A) → IsLine text a → IsLine (0x21 ∷ text) b → a.takes_in ≡ false → (b.takes_in ≡ true) × ((path : List ℕ) (is_dir : Bool) → (LineMatches a path is_dir → LineMatches b path is_dir) × (LineMatches b path is_dir → LineMatches a path is_dir))
+  pub taken_again : (text : List ℕ) (a b : Line A) → IsLine folds text a → IsLine folds (0x21 ∷ text) b → a.takes_in ≡ false → (b.takes_in ≡ true) × ((path : List ℕ) (is_dir : Bool) → (LineMatches a path is_dir → LineMatches b path is_dir) × (LineMatches b path is_dir → LineMatches a path is_dir))
   taken_again text a b h k n =
       let both : AreLetters (0x21 ∷ text) (bang ∷ h.letters) = (text, (refl, refl), h.read) in
-      let of_b : IsLineOf (bang ∷ h.letters) b = subst (λ z. IsLineOf z b) (same_letters (0x21 ∷ text) k.letters (bang ∷ h.letters) k.read both) k.line_of in
+      let of_b : IsLineOf folds (bang ∷ h.letters) b = subst (λ z. IsLineOf folds z b) (same_letters (0x21 ∷ text) k.letters (bang ∷ h.letters) k.read both) k.line_of in
       let own = h.line_of in
       let trimmed = same_trimmed (bang ∷ h.letters) of_b.read.trimmed (bang ∷ own.read.trimmed) of_b.read.without_blanks (bang_trimmed h.letters own.read.trimmed own.read.without_blanks) in
       let stripped : IsStripped own.read.trimmed b.directories of_b.body = subst (λ z. IsStripped (strip_first 0x21 z).1 b.directories of_b.body) trimmed of_b.read.stripped in
       let own_stripped : IsStripped own.read.trimmed a.directories own.body = subst (λ z. IsStripped z a.directories own.body) (not_taken own.read.trimmed (sym own.read.taken ∙ n)) own.read.stripped in
       let same = one_strip own.read.trimmed a.directories b.directories own.body of_b.body own_stripped stripped in
-      let literal = own.literal ∙ ap (λ z. literal_prefix (strip_first 0x2F z).1) same.1 in
-      let pattern = subst (λ z. IsPattern (after_literal (strip_first 0x2F z).1) a.pattern.items) same.1 own.pattern in
+      let literal = own.literal ∙ ap (λ z. literal_prefix folds (strip_first 0x2F z).1) same.1 in
+      let pattern = subst (λ z. IsPattern folds (after_literal (strip_first 0x2F z).1) a.pattern.items) same.1 own.pattern in
       let anchored = own.anchored ∙ ap has_slash same.1 in (
         of_b.read.taken ∙ ap (λ z. (strip_first 0x21 z).0) trimmed,
         λ path is_dir. (
-          body_matches a b of_b.body same.0 anchored of_b.anchored literal of_b.literal pattern of_b.pattern path is_dir,
-          body_matches b a of_b.body (sym same.0) of_b.anchored anchored of_b.literal literal of_b.pattern pattern path is_dir,
+          body_matches a b of_b.body same.0 (own.folds_is ∙ sym of_b.folds_is) anchored of_b.anchored literal of_b.literal pattern of_b.pattern path is_dir,
+          body_matches b a of_b.body (sym same.0) (of_b.folds_is ∙ sym own.folds_is) of_b.anchored anchored of_b.literal literal of_b.pattern pattern path is_dir,
         ),
       )

@@ -23,7 +23,7 @@ use Rattle.os_ignore.specs.Class.{permits}
 use Rattle.os_ignore.specs.ClassText.{IsMember, IsClass, IsBrokenClass, broken, closed, member, member_at, negation}
 use Rattle.os_ignore.specs.Letters.{BeginsWith, IsLetter, AreLetters, IsDangling, kind_of}
 use Rattle.os_ignore.specs.Matching.{by_slashes}
-use Rattle.os_ignore.specs.PatternText.{PieceAt, IsPiece, EndsPart, NextGroup, IsPattern, IsBrokenHere, IsBrokenPart, IsBrokenPattern, is_deep, all_stars, is_joined, group, concat_of, left_after, text_of}
+use Rattle.os_ignore.specs.PatternText.{IsLiteral, PieceAt, IsPiece, EndsPart, NextGroup, IsPattern, IsBrokenHere, IsBrokenPart, IsBrokenPattern, is_deep, all_stars, is_joined, group, concat_of, left_after, text_of}
 use Rattle.os_ignore.specs.Reading.{Reads}
 
 -- what is read item by item, up to where no item begins
@@ -146,16 +146,16 @@ module _ {X L : Type 0} (Takes : L → Type 0) (Fit : X → L → Type 0) where
   wild_too (One x ∷ ps) (Many ∷ qs) ls z w = absurd z.0
   wild_too (One x ∷ ps) (One y ∷ qs) ls z w = record { letter = w.letter; rest = w.rest; joined = w.joined; fits = z.0 w.letter w.fits; after = wild_too ps qs w.rest z.1 w.after }
 
-module _ {A : Type 0} where
-  pub same_class : (text : List Letter) (c d : Class A) (r q : List Letter) → IsClass text c r → IsClass text d q → (r ≡ q) × ((b : ℕ) → permitted c b ≡ permitted d b)
+module _ {A : Type 0} (folds : Bool) where
+  pub same_class : (text : List Letter) (c d : Class A) (r q : List Letter) → IsClass folds text c r → IsClass folds text d q → (r ≡ q) × ((b : ℕ) → permitted c b ≡ permitted d b)
   same_class text c d r q h k =
       let same = same_items IsMember (λ m n. m ≡ n) one_member (First, (negation text).1) h.members k.members h.left k.left h.read k.read (closed_stops h.left r h.ends) (closed_stops k.left q k.ends) in
       let members = zip_equal h.members k.members same.1 in
       let ends : closed r ≡ closed q = sym h.ends ∙ ap (λ z. member_at z.0 z.1) same.0 ∙ k.ends in
       let rest : r ≡ q = cc in
-      (rest, λ b. h.compiled b ∙ ap (λ z. permits (negation text).0 z b) members ∙ sym (k.compiled b))
+      (rest, λ b. h.compiled b ∙ ap (λ z. permits folds (negation text).0 z b) members ∙ sym (k.compiled b))
 
-  pub not_broken : (text : List Letter) (c : Class A) (r : List Letter) → IsClass text c r → IsBrokenClass text → ⊥
+  pub not_broken : (text : List Letter) (c : Class A) (r : List Letter) → IsClass folds text c r → IsBrokenClass text → ⊥
   not_broken text c r h k =
       let same = same_items IsMember (λ m n. m ≡ n) one_member (First, (negation text).1) h.members k.members h.left k.left h.read k.read (closed_stops h.left r h.ends) (broken_stops k.left k.stops) in
       let never : closed r ≡ broken = sym h.ends ∙ ap (λ z. member_at z.0 z.1) same.0 ∙ k.stops in
@@ -178,18 +178,18 @@ not_here (l ∷ ls) (after.Slash quoted rest) h s =
     let same : l ≡ letter quoted 0x2F = cc in
     let never : Slash ≡ Bracket = sym (ap kind_of same) ∙ h.0 in absurd cc
 
-module _ (A : Type 0) where
-  part_stops : (text : List Letter) (a : After) → EndsPart text a → Stops (IsPiece {A = A}) text
+module _ (A : Type 0) (folds : Bool) where
+  part_stops : (text : List Letter) (a : After) → EndsPart text a → Stops (IsPiece {A = A} folds) text
   part_stops [] a s p e h = h
   part_stops (l ∷ ls) after.End s p e h = let never : l ∷ ls ≡ [] = s in absurd cc
   part_stops (l ∷ ls) (after.Slash quoted rest) s p e h = let same : l ≡ letter quoted 0x2F = cc in h.0 (ap (λ z. z.byte) same)
 
-  none_stops : Stops (NextGroup {A = A}) None
+  none_stops : Stops (NextGroup {A = A} folds) None
   none_stops g e h = h
 
-  here_stops : (text : List Letter) → IsBrokenHere text → Stops (IsPiece {A = A}) text
+  here_stops : (text : List Letter) → IsBrokenHere text → Stops (IsPiece {A = A} folds) text
   here_stops [] h p e k = k
-  here_stops (l ∷ ls) h p e k = let class = subst (λ z. PieceAt z l ls p e) h.0 k.1 in not_broken ls class.0 e class.2 h.1
+  here_stops (l ∷ ls) h p e k = let class = subst (λ z. PieceAt folds z l ls p e) h.0 k.1 in not_broken folds ls class.0 e class.2 h.1
 
 module _ {A : Type 0} where
   abbrev pub SameItem : Item A → Item A → Type 0
@@ -198,20 +198,22 @@ module _ {A : Type 0} where
   abbrev pub SamePart : Part A → Part A → Type 0
   SamePart x y = (component : List ℕ) → FitsComponent false x component → FitsComponent false y component
 
-  one_piece : (text : List Letter) (p q : Piece (Item A)) (e f : List Letter) → IsPiece text p e → IsPiece text q f → (e ≡ f) × SamePiece SameItem p q
+module _ {A : Type 0} (folds : Bool) where
+  one_piece : (text : List Letter) (p q : Piece (Item A)) (e f : List Letter) → IsPiece folds text p e → IsPiece folds text q f → (e ≡ f) × SamePiece SameItem p q
   one_piece [] p q e f h k = absurd h
   one_piece (l ∷ ls) p q e f h k = go (kind_of l) h.1 k.1
     where
-      itself : p ≡ One (item.Literal l.byte) → q ≡ One (item.Literal l.byte) → SamePiece SameItem p q
-      itself x y = same_one SameItem p q (item.Literal l.byte) (item.Literal l.byte) x y (λ letter s. s)
+      itself : (v : Bool) → IsLiteral v l p → IsLiteral v l q → SamePiece SameItem p q
+      itself false x y = same_one SameItem p q (item.Literal l.byte) (item.Literal l.byte) x y (λ letter s. s)
+      itself true x y = same_one SameItem p q x.0 y.0 x.1 y.1 (λ letter s. (y.2 letter).1 ((x.2 letter).0 s))
 
-      go : (kind : Kind) → PieceAt kind l ls p e → PieceAt kind l ls q f → (e ≡ f) × SamePiece SameItem p q
-      go Slash h k = (h.1 ∙ sym k.1, itself h.0 k.0)
-      go Literal h k = (h.1 ∙ sym k.1, itself h.0 k.0)
+      go : (kind : Kind) → PieceAt folds kind l ls p e → PieceAt folds kind l ls q f → (e ≡ f) × SamePiece SameItem p q
+      go Slash h k = (h.1 ∙ sym k.1, itself folds h.0 k.0)
+      go Literal h k = (h.1 ∙ sym k.1, itself folds h.0 k.0)
       go Star h k = (h.1 ∙ sym k.1, same_many SameItem p q h.0 k.0)
       go Question h k = (h.1 ∙ sym k.1, same_one SameItem p q item.Any item.Any h.0 k.0 (λ letter s. s))
       go Bracket h k =
-          let same = same_class ls h.0 k.0 e f h.2 k.2 in
+          let same = same_class folds ls h.0 k.0 e f h.2 k.2 in
           (same.0, same_one SameItem p q (item.OneOf h.0) (item.OneOf k.0) h.1 k.1 (λ letter s. subst IsTrue (same.1 letter) s))
 
   same_stars : (R : Item A → Item A → Type 0) (ps qs : List (Piece (Item A))) → AllZip (SamePiece R) ps qs → (all_stars ps ≡ all_stars qs) × (length ps ≡ length qs)
@@ -234,10 +236,10 @@ module _ {A : Type 0} where
   same_part : (x y : Part A) → AllZip (SamePiece SameItem) x.pieces.items y.pieces.items → SamePart x y
   same_part x y z component fit = (wild_too TakesLetter Fits x.pieces.items y.pieces.items component z fit.0, λ e. let never : false ≡ true = e in absurd cc)
 
-  one_group : (text : Option (List Letter)) (g h : List (Piece (Part A))) (e f : Option (List Letter)) → NextGroup text g e → NextGroup text h f → (e ≡ f) × AllZip (SamePiece SamePart) g h
+  one_group : (text : Option (List Letter)) (g h : List (Piece (Part A))) (e f : Option (List Letter)) → NextGroup folds text g e → NextGroup folds text h f → (e ≡ f) × AllZip (SamePiece SamePart) g h
   one_group None g h e f a b = absurd a
   one_group (Some text) g h e f a b =
-      let same = same_items IsPiece (SamePiece SameItem) one_piece text a.part.pieces.items b.part.pieces.items a.read.left b.read.left a.read.read b.read.read (part_stops A a.read.left a.after a.read.ends) (part_stops A b.read.left b.after b.read.ends) in
+      let same = same_items (IsPiece folds) (SamePiece SameItem) one_piece text a.part.pieces.items b.part.pieces.items a.read.left b.read.left a.read.read b.read.read (part_stops A folds a.read.left a.after a.read.ends) (part_stops A folds b.read.left b.after b.read.ends) in
       let ends = same_after b.read.left a.after b.after (subst (λ z. EndsPart z a.after) same.0 a.read.ends) b.read.ends in
       let deep = same_deep a.part.pieces.items b.part.pieces.items same.1 in
       let own = same_group (is_deep a.part.pieces.items) (is_joined a.after) a.part b.part (same_part a.part b.part same.1) in
@@ -248,21 +250,21 @@ module _ {A : Type 0} where
       )
 
   -- the pattern of a text matches the same, however it is compiled
-  pub same_pattern : (text : List Letter) (p q : List (Piece (Part A))) → IsPattern text p → IsPattern text q → AllZip (SamePiece SamePart) p q
+  pub same_pattern : (text : List Letter) (p q : List (Piece (Part A))) → IsPattern folds text p → IsPattern folds text q → AllZip (SamePiece SamePart) p q
   same_pattern text p q h k =
-      let same = same_items NextGroup (AllZip (SamePiece SamePart)) one_group (Some text) h.groups k.groups None None h.read k.read (none_stops A) (none_stops A) in
+      let same = same_items (NextGroup folds) (AllZip (SamePiece SamePart)) one_group (Some text) h.groups k.groups None None h.read k.read (none_stops A folds) (none_stops A folds) in
       subst (λ z. AllZip (SamePiece SamePart) z q) (sym h.joined) (subst (λ z. AllZip (SamePiece SamePart) (concat_of h.groups) z) (sym k.joined) (zip_concat (SamePiece SamePart) h.groups k.groups same.1))
 
-  pub matches_too : (text : List Letter) (p q : List (Piece (Part A))) → IsPattern text p → IsPattern text q → (rest : List ℕ) → Matches by_slashes p rest → Matches by_slashes q rest
+  pub matches_too : (text : List Letter) (p q : List (Piece (Part A))) → IsPattern folds text p → IsPattern folds text q → (rest : List ℕ) → Matches by_slashes p rest → Matches by_slashes q rest
   matches_too text p q h k rest m = wild_too (TakesComponent false) (FitsComponent false) p q _ (same_pattern text p q h k) m
 
-  broken_part_stops : (text : List Letter) → IsBrokenPart A text → Stops (NextGroup {A = A}) (Some text)
+  broken_part_stops : (text : List Letter) → IsBrokenPart folds A text → Stops (NextGroup {A = A} folds) (Some text)
   broken_part_stops text k g e h =
-      let same = same_items IsPiece (SamePiece SameItem) one_piece text h.part.pieces.items k.pieces h.read.left k.left h.read.read k.read (part_stops A h.read.left h.after h.read.ends) (here_stops A k.left k.broken) in
+      let same = same_items (IsPiece folds) (SamePiece SameItem) one_piece text h.part.pieces.items k.pieces h.read.left k.left h.read.read k.read (part_stops A folds h.read.left h.after h.read.ends) (here_stops A folds k.left k.broken) in
       not_here k.left h.after k.broken (subst (λ z. EndsPart z h.after) same.0 h.read.ends)
 
   -- a pattern has no broken class
-  pub not_broken_pattern : (text : List Letter) (p : List (Piece (Part A))) → IsPattern text p → IsBrokenPattern A text → ⊥
+  pub not_broken_pattern : (text : List Letter) (p : List (Piece (Part A))) → IsPattern folds text p → IsBrokenPattern folds A text → ⊥
   not_broken_pattern text p h k =
-      let same = same_items NextGroup (AllZip (SamePiece SamePart)) one_group (Some text) h.groups k.groups None (Some k.left) h.read k.read (none_stops A) (broken_part_stops k.left k.broken) in
+      let same = same_items (NextGroup folds) (AllZip (SamePiece SamePart)) one_group (Some text) h.groups k.groups None (Some k.left) h.read k.read (none_stops A folds) (broken_part_stops k.left k.broken) in
       let never : None ≡ Some k.left = same.0 in absurd cc

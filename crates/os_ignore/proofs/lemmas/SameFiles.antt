@@ -66,8 +66,8 @@ no_last (y ∷ front) x e = absurd cc
 empty_text : IsLineText [] []
 empty_text = record { whole = []; without_return = inr (refl, λ front e. no_last front 0xD e); more = []; first = refl }
 
-empty_says : (A : Type 0) → SaysNothing A [] Empty
-empty_says A = lines.letters {letters = []} refl refl (lines.empty {takes_in = false} {directories = false} {body = []} body refl refl)
+empty_says : (folds : Bool) (A : Type 0) → SaysNothing folds A [] Empty
+empty_says folds A = lines.letters {letters = []} refl refl (lines.empty {takes_in = false} {directories = false} {body = []} body refl refl)
   where
     body : IsBody [] false false []
     body = record {
@@ -91,34 +91,34 @@ module _ {A : Type 0} where
   own_file f = (refl, (refl, itself SameLine own_line f.lines.items))
 
   -- the lines of a text
-  same_said : (number : ℕ) (text : List ℕ) (o p : Result (Line A) NoPattern) → SaysLine number text o → SaysLine number text p → AllZip SameLine (list_of o) (list_of p)
-  same_said number text (Err reason) (Err other) h k = tt
-  same_said number text (Err reason) (Ok b) h k = absurd (not_both text b reason k.1 h)
-  same_said number text (Ok a) (Err reason) h k = absurd (not_both text a reason h.1 k)
-  same_said number text (Ok a) (Ok b) h k =
-      let there = one_meaning text a b h.1 k.1 in
-      let back = one_meaning text b a k.1 h.1 in
+  same_said : (folds : Bool) (number : ℕ) (text : List ℕ) (o p : Result (Line A) NoPattern) → SaysLine folds number text o → SaysLine folds number text p → AllZip SameLine (list_of o) (list_of p)
+  same_said folds number text (Err reason) (Err other) h k = tt
+  same_said folds number text (Err reason) (Ok b) h k = absurd (not_both folds text b reason k.1 h)
+  same_said folds number text (Ok a) (Err reason) h k = absurd (not_both folds text a reason h.1 k)
+  same_said folds number text (Ok a) (Ok b) h k =
+      let there = one_meaning folds text a b h.1 k.1 in
+      let back = one_meaning folds text b a k.1 h.1 in
       ((h.0 ∙ sym k.0, (there.0, λ path is_dir. (there.1 path is_dir, back.1 path is_dir))), tt)
 
-  one_read : (from : ℕ × List (List ℕ)) (xs bs : List (Line A)) (e f : ℕ × List (List ℕ)) → IsLineRead from xs e → IsLineRead from bs f → (e ≡ f) × AllZip SameLine xs bs
-  one_read from xs bs e f h k = go from.1 h k
+  one_read : (folds : Bool) (from : ℕ × List (List ℕ)) (xs bs : List (Line A)) (e f : ℕ × List (List ℕ)) → IsLineRead folds from xs e → IsLineRead folds from bs f → (e ≡ f) × AllZip SameLine xs bs
+  one_read folds from xs bs e f h k = go from.1 h k
     where
-      go : (ls : List (List ℕ)) → NextLine from.0 ls xs e → NextLine from.0 ls bs f → (e ≡ f) × AllZip SameLine xs bs
+      go : (ls : List (List ℕ)) → NextLine folds from.0 ls xs e → NextLine folds from.0 ls bs f → (e ≡ f) × AllZip SameLine xs bs
       go [] h k = absurd h
       go (line ∷ ls) h k =
           let text = one_text line h.text k.text h.read k.read in
-          let same = same_said from.0 k.text h.says k.says (subst (λ z. SaysLine from.0 z h.says) text h.text_says) k.text_says in (
+          let same = same_said folds from.0 k.text h.says k.says (subst (λ z. SaysLine folds from.0 z h.says) text h.text_says) k.text_says in (
             h.left_is ∙ sym k.left_is,
             subst (λ z. AllZip SameLine z bs) (sym h.said_is) (subst (λ z. AllZip SameLine (list_of h.says) z) (sym k.said_is) same),
           )
 
-  same_lines : (content : List ℕ) (xs bs : List (Line A)) → AreLines content xs → AreLines content bs → AllZip SameLine xs bs
-  same_lines content xs bs h k =
-      let same = same_items IsLineRead (AllZip SameLine) one_read (1, pieces 0xA (without_mark content)) h.groups k.groups (h.count, []) (k.count, []) h.read k.read (λ o e s. s) (λ o e s. s) in
+  same_lines : (folds : Bool) (content : List ℕ) (xs bs : List (Line A)) → AreLines folds content xs → AreLines folds content bs → AllZip SameLine xs bs
+  same_lines folds content xs bs h k =
+      let same = same_items (IsLineRead folds) (AllZip SameLine) (one_read folds) (1, pieces 0xA (without_mark content)) h.groups k.groups (h.count, []) (k.count, []) h.read k.read (λ o e s. s) (λ o e s. s) in
       subst (λ z. AllZip SameLine z bs) (sym h.joined) (subst (λ z. AllZip SameLine (concat_of h.groups) z) (sym k.joined) (zip_concat SameLine h.groups k.groups same.1))
 
-  one_content : (number : ℕ) (directory content : List ℕ) (f g : File A) → IsFileAt number directory content f → IsFileAt number directory content g → SameFile f g
-  one_content number directory content f g h k = (h.number_is ∙ sym k.number_is, (h.directory_is ∙ sym k.directory_is, same_lines content f.lines.items g.lines.items h.lines k.lines))
+  one_content : (folds : Bool) (number : ℕ) (directory content : List ℕ) (f g : File A) → IsFileAt folds number directory content f → IsFileAt folds number directory content g → SameFile f g
+  one_content folds number directory content f g h k = (h.number_is ∙ sym k.number_is, (h.directory_is ∙ sym k.directory_is, same_lines folds content f.lines.items g.lines.items h.lines k.lines))
 
   -- their verdicts
   module _ (path : List ℕ) (is_dir : Bool) where
@@ -180,45 +180,45 @@ module _ {A : Type 0} where
   texts [] [] z = tt
   texts [] (g ∷ gs) z = absurd z
   texts (f ∷ fs) [] z = absurd z
-  texts (f ∷ fs) (g ∷ gs) z = (one_content z.0.number z.0.directory z.0.content f g z.0.file_is z.0.other_is, texts fs gs z.1)
+  texts (f ∷ fs) (g ∷ gs) z = (one_content z.0.folds z.0.number z.0.directory z.0.content f g z.0.file_is z.0.other_is, texts fs gs z.1)
 
   -- the verdict depends on the text alone
   pub by_text : (files : List (File A)) → (others : List (File A)) → AllZip AreOfOneText files others → (path : List ℕ) → (is_dir : Bool) → (v : Verdict) → (w : Verdict) → IsVerdict files path is_dir v → IsVerdict others path is_dir w → v ≡ w
   by_text files others z = same_verdict files others (texts files others z)
 
   -- an empty line in place of one that says nothing
-  nothing : (number : ℕ) (o : Result (Line A) NoPattern) → SaysLine number [] o → list_of o ≡ []
-  nothing number (Err reason) h = refl
-  nothing number (Ok line) h = absurd (not_both [] line Empty h.1 (empty_says A))
+  nothing : (folds : Bool) (number : ℕ) (o : Result (Line A) NoPattern) → SaysLine folds number [] o → list_of o ≡ []
+  nothing folds number (Err reason) h = refl
+  nothing folds number (Ok line) h = absurd (not_both folds [] line Empty h.1 (empty_says folds A))
 
-  module _ (line text : List ℕ) (reason : NoPattern) (read : IsLineText line text) (says : SaysNothing A text reason) (back : List (List ℕ)) (count : ℕ) where
+  module _ (folds : Bool) (line text : List ℕ) (reason : NoPattern) (read : IsLineText line text) (says : SaysNothing folds A text reason) (back : List (List ℕ)) (count : ℕ) where
     not_end : (number : ℕ) (ls : List (List ℕ)) (l : List ℕ) → ◌≡◌ {A = ℕ × List (List ℕ)} (number, l ∷ ls) (count, []) → ⊥
     not_end number ls l e = let never : l ∷ ls ≡ [] = ap (λ z. z.1) e in absurd cc
 
-    blank : (front : List (List ℕ)) (number : ℕ) (groups : List (List (Line A))) → Reads IsLineRead (number, front ++ [] ∷ back) groups (count, []) → Reads IsLineRead (number, front ++ line ∷ back) groups (count, [])
+    blank : (front : List (List ℕ)) (number : ℕ) (groups : List (List (Line A))) → Reads (IsLineRead folds) (number, front ++ [] ∷ back) groups (count, []) → Reads (IsLineRead folds) (number, front ++ line ∷ back) groups (count, [])
     blank [] number [] r = absurd (not_end number back [] r)
     blank (x ∷ front) number [] r = absurd (not_end number (front ++ [] ∷ back) x r)
     blank [] number (g ∷ gs) r =
-        let h : IsNextLine number [] back g r.0 = r.1 in
-        let none = nothing number h.says (subst (λ z. SaysLine number z h.says) (one_text [] h.text [] h.read empty_text) h.text_says) in
+        let h : IsNextLine folds number [] back g r.0 = r.1 in
+        let none = nothing folds number h.says (subst (λ z. SaysLine folds number z h.says) (one_text [] h.text [] h.read empty_text) h.text_says) in
         (r.0, record { text = text; read = read; says = Err reason; text_says = says; said_is = h.said_is ∙ none; left_is = h.left_is }, r.2)
     blank (x ∷ front) number (g ∷ gs) r =
-        let h : IsNextLine number x (front ++ [] ∷ back) g r.0 = r.1 in (
+        let h : IsNextLine folds number x (front ++ [] ∷ back) g r.0 = r.1 in (
           (number + 1, front ++ line ∷ back),
           record { text = h.text; read = h.read; says = h.says; text_says = h.text_says; said_is = h.said_is; left_is = refl },
-          blank front (number + 1) gs (subst (λ z. Reads IsLineRead z gs (count, [])) h.left_is r.2),
+          blank front (number + 1) gs (subst (λ z. Reads (IsLineRead folds) z gs (count, [])) h.left_is r.2),
         )
 
-  blanked : (content other : List ℕ) → IsBlanked A content other → (ls : List (Line A)) → AreLines other ls → AreLines content ls
-  blanked content other b ls h = record {
+  blanked : (folds : Bool) (content other : List ℕ) → IsBlanked folds A content other → (ls : List (Line A)) → AreLines folds other ls → AreLines folds content ls
+  blanked folds content other b ls h = record {
     groups = h.groups;
     count = h.count;
-    read = subst (λ z. Reads IsLineRead (1, z) h.groups (h.count, [])) (sym b.lines) (blank b.line b.text b.reason b.read b.says b.back h.count b.front 1 h.groups (subst (λ z. Reads IsLineRead (1, z) h.groups (h.count, [])) b.others h.read));
+    read = subst (λ z. Reads (IsLineRead folds) (1, z) h.groups (h.count, [])) (sym b.lines) (blank folds b.line b.text b.reason b.read b.says b.back h.count b.front 1 h.groups (subst (λ z. Reads (IsLineRead folds) (1, z) h.groups (h.count, [])) b.others h.read));
     joined = h.joined;
   }
 
   -- a line that says nothing changes no verdict
-  pub silent_line : (content : List ℕ) → (other : List ℕ) → IsBlanked A content other → (number : ℕ) → (directory : List ℕ) → (file : File A) → (blank : File A) → IsFileAt number directory content file → IsFileAt number directory other blank → (front : List (File A)) → (back : List (File A)) → (path : List ℕ) → (is_dir : Bool) → (v : Verdict) → (w : Verdict) → IsVerdict (front ++ file ∷ back) path is_dir v → IsVerdict (front ++ blank ∷ back) path is_dir w → v ≡ w
-  silent_line content other b number directory file blank h k front back =
-      let same : SameFile file blank = (h.number_is ∙ sym k.number_is, (h.directory_is ∙ sym k.directory_is, same_lines content file.lines.items blank.lines.items h.lines (blanked content other b blank.lines.items k.lines))) in
+  pub silent_line : (folds : Bool) → (content : List ℕ) → (other : List ℕ) → IsBlanked folds A content other → (number : ℕ) → (directory : List ℕ) → (file : File A) → (blank : File A) → IsFileAt folds number directory content file → IsFileAt folds number directory other blank → (front : List (File A)) → (back : List (File A)) → (path : List ℕ) → (is_dir : Bool) → (v : Verdict) → (w : Verdict) → IsVerdict (front ++ file ∷ back) path is_dir v → IsVerdict (front ++ blank ∷ back) path is_dir w → v ≡ w
+  silent_line folds content other b number directory file blank h k front back =
+      let same : SameFile file blank = (h.number_is ∙ sym k.number_is, (h.directory_is ∙ sym k.directory_is, same_lines folds content file.lines.items blank.lines.items h.lines (blanked folds content other b blank.lines.items k.lines))) in
       same_verdict (front ++ file ∷ back) (front ++ blank ∷ back) (between SameFile own_file front file blank back same)

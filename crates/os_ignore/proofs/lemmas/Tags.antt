@@ -101,23 +101,23 @@ nil_of_length (x ∷ xs) e = absurd (omega arith)
 
 module _ {A : Type 0} where
   -- a part that is the whole pattern
-  pub one_group : (text : List Letter) (pattern : List (Piece (Part A))) → IsPattern text pattern → ((pieces : List (Piece (Item A))) (a : After) → IsPart text pieces a → (a ≡ after.End) × (is_deep pieces ≡ false)) → (part : Part A) × (IsPart text part.pieces.items after.End × (pattern ≡ One part ∷ []))
+  pub one_group : (text : List Letter) (pattern : List (Piece (Part A))) → IsPattern false text pattern → ((pieces : List (Piece (Item A))) (a : After) → IsPart false text pieces a → (a ≡ after.End) × (is_deep pieces ≡ false)) → (part : Part A) × (IsPart false text part.pieces.items after.End × (pattern ≡ One part ∷ []))
   one_group text pattern p alone = go p.groups p.read p.joined
     where
-      rest : (groups : List (List (Piece (Part A)))) → Reads NextGroup None groups None → groups ≡ []
+      rest : (groups : List (List (Piece (Part A)))) → Reads (NextGroup false) None groups None → groups ≡ []
       rest [] r = refl
       rest (g ∷ gs) r = absurd r.1
 
-      go : (groups : List (List (Piece (Part A)))) → Reads NextGroup (Some text) groups None → pattern ≡ concat_of groups → (part : Part A) × (IsPart text part.pieces.items after.End × (pattern ≡ One part ∷ []))
+      go : (groups : List (List (Piece (Part A)))) → Reads (NextGroup false) (Some text) groups None → pattern ≡ concat_of groups → (part : Part A) × (IsPart false text part.pieces.items after.End × (pattern ≡ One part ∷ []))
       go [] r e = let never : Some text ≡ None = r in absurd cc
       go (g ∷ gs) r e =
           let own = r.1 in
           let is = alone own.part.pieces.items own.after own.read in
           let left : r.0 ≡ None = own.left_is ∙ ap (λ z. text_of (left_after z)) is.0 in
-          let none : gs ≡ [] = rest gs (subst (λ z. Reads NextGroup z gs None) left r.2) in (
+          let none : gs ≡ [] = rest gs (subst (λ z. Reads (NextGroup false) z gs None) left r.2) in (
             own.part,
             (
-              subst (IsPart text own.part.pieces.items) is.0 own.read,
+              subst (IsPart false text own.part.pieces.items) is.0 own.read,
               e ∙ ap (λ z. g ++ concat_of z) none ∙ append-nil g ∙ own.pieces_are ∙ ap (λ z. group z (is_joined own.after) own.part) is.1,
             ),
           )
@@ -126,9 +126,9 @@ module _ {A : Type 0} where
   record AreLiterals (letters : List Letter) (pieces : List (Piece (Item A))) (a : After) : Type 0 where
     ends : a ≡ after.End
     stars : all_stars pieces ≡ true → pieces ≡ []
-    are : (text : List ℕ) → Wild TakesLetter Fits pieces text → text ≡ literal_prefix letters
+    are : (text : List ℕ) → Wild TakesLetter Fits pieces text → text ≡ literal_prefix false letters
 
-  literal_piece : (k : Kind) (l : Letter) (ls : List Letter) (p : Piece (Item A)) (rest : List Letter) → matches_itself k ≡ true → PieceAt k l ls p rest → (p ≡ One (item.Literal l.byte)) × (rest ≡ ls)
+  literal_piece : (k : Kind) (l : Letter) (ls : List Letter) (p : Piece (Item A)) (rest : List Letter) → matches_itself k ≡ true → PieceAt false k l ls p rest → (p ≡ One (item.Literal l.byte)) × (rest ≡ ls)
   literal_piece Slash l ls p rest e h = h
   literal_piece Literal l ls p rest e h = h
   literal_piece Star l ls p rest e h = let never : false ≡ true = e in absurd cc
@@ -138,22 +138,22 @@ module _ {A : Type 0} where
   pub deep : (x : Piece (Item A)) (more : List (Piece (Item A))) → all_stars (x ∷ more) ≡ false → is_deep (x ∷ more) ≡ false
   deep x more e = ap (λ v. nat_le 2 (length (x ∷ more)) && v) e ∙ and_false (nat_le 2 (length (x ∷ more)))
 
-  literals : (letters : List Letter) (pieces : List (Piece (Item A))) (left : List Letter) (a : After) → after_literal letters ≡ [] → IsPlain 0x2F (literal_prefix letters) → Reads IsPiece letters pieces left → EndsPart left a → AreLiterals letters pieces a
+  literals : (letters : List Letter) (pieces : List (Piece (Item A))) (left : List Letter) (a : After) → after_literal letters ≡ [] → IsPlain 0x2F (literal_prefix false letters) → Reads (IsPiece false) letters pieces left → EndsPart left a → AreLiterals letters pieces a
   literals [] [] left a e p r s = record { ends = none_end a (subst (λ z. EndsPart z a) (sym r) s); stars = λ e. refl; are = λ text m. m }
   literals [] (x ∷ xs) left a e p r s = absurd r.1
   literals (l ∷ ls) pieces left a e p r s =
       let simple = begins_simple l ls e in
-      let prefix : literal_prefix (l ∷ ls) ≡ l.byte ∷ literal_prefix ls = ap (λ v. cond v (l.byte ∷ literal_prefix ls) []) simple.0 in
-      let plain : IsPlain 0x2F (l.byte ∷ literal_prefix ls) = subst (IsPlain 0x2F) prefix p in
-      let head : nat_eq l.byte 0x2F ≡ false = All-head (λ b. nat_eq b 0x2F ≡ false) l.byte (literal_prefix ls) plain in
-      let tail = All-tail (λ b. nat_eq b 0x2F ≡ false) l.byte (literal_prefix ls) plain in
+      let prefix : literal_prefix false (l ∷ ls) ≡ l.byte ∷ literal_prefix false ls = ap (λ v. cond v (l.byte ∷ literal_prefix false ls) []) simple.0 in
+      let plain : IsPlain 0x2F (l.byte ∷ literal_prefix false ls) = subst (IsPlain 0x2F) prefix p in
+      let head : nat_eq l.byte 0x2F ≡ false = All-head (λ b. nat_eq b 0x2F ≡ false) l.byte (literal_prefix false ls) plain in
+      let tail = All-tail (λ b. nat_eq b 0x2F ≡ false) l.byte (literal_prefix false ls) plain in
       go pieces r simple.0 head prefix (λ xs h. literals ls xs left a simple.1 tail h s)
     where
-      go : (pieces : List (Piece (Item A))) → Reads IsPiece (l ∷ ls) pieces left → is_simple l ≡ true → nat_eq l.byte 0x2F ≡ false → literal_prefix (l ∷ ls) ≡ l.byte ∷ literal_prefix ls → ((xs : List (Piece (Item A))) → Reads IsPiece ls xs left → AreLiterals ls xs a) → AreLiterals (l ∷ ls) pieces a
+      go : (pieces : List (Piece (Item A))) → Reads (IsPiece false) (l ∷ ls) pieces left → is_simple l ≡ true → nat_eq l.byte 0x2F ≡ false → literal_prefix false (l ∷ ls) ≡ l.byte ∷ literal_prefix false ls → ((xs : List (Piece (Item A))) → Reads (IsPiece false) ls xs left → AreLiterals ls xs a) → AreLiterals (l ∷ ls) pieces a
       go [] r simple head prefix more = absurd (no_slash l ls a head (subst (λ z. EndsPart z a) (sym r) s))
       go (x ∷ xs) r simple head prefix more =
           let piece = literal_piece (kind_of l) l ls x r.0 (both (not l.quoted) (matches_itself (kind_of l)) simple) r.1.1 in
-          let rest = more xs (subst (λ z. Reads IsPiece z xs left) piece.1 r.2) in
+          let rest = more xs (subst (λ z. Reads (IsPiece false) z xs left) piece.1 r.2) in
           record {
             ends = rest.ends;
             stars = λ e. let never : false ≡ true = sym (ap (λ z. all_stars (z ∷ xs)) piece.0) ∙ e in absurd cc;
@@ -162,41 +162,41 @@ module _ {A : Type 0} where
                 one.joined ∙ ap (λ z. z ∷ one.rest) (sym one.fits) ∙ ap (λ z. l.byte ∷ z) (rest.are one.rest one.after) ∙ sym prefix;
           }
 
-  empty_part : (pieces : List (Piece (Item A))) (a : After) → IsPart [] pieces a → (a ≡ after.End) × (is_deep pieces ≡ false)
+  empty_part : (pieces : List (Piece (Item A))) (a : After) → IsPart false [] pieces a → (a ≡ after.End) × (is_deep pieces ≡ false)
   empty_part pieces a h = go pieces h.read
     where
-      go : (pieces : List (Piece (Item A))) → Reads IsPiece [] pieces h.left → (a ≡ after.End) × (is_deep pieces ≡ false)
+      go : (pieces : List (Piece (Item A))) → Reads (IsPiece false) [] pieces h.left → (a ≡ after.End) × (is_deep pieces ≡ false)
       go [] r = (none_end a (subst (λ z. EndsPart z a) (sym r) h.ends), refl)
       go (x ∷ xs) r = absurd r.1
 
-  empty_fits : (pieces : List (Piece (Item A))) → IsPart [] pieces after.End → (text : List ℕ) → Wild TakesLetter Fits pieces text → text ≡ []
+  empty_fits : (pieces : List (Piece (Item A))) → IsPart false [] pieces after.End → (text : List ℕ) → Wild TakesLetter Fits pieces text → text ≡ []
   empty_fits pieces h text m = (literals [] pieces h.left after.End refl (λ k d l. absurd (omega arith)) h.read h.ends).are text m
 
   -- a pattern that is no letter matches no more
-  nothing_more : (pattern : List (Piece (Part A))) → IsPattern [] pattern → (rest : List ℕ) → Matches by_slashes pattern rest → rest ≡ []
+  nothing_more : (pattern : List (Piece (Part A))) → IsPattern false [] pattern → (rest : List ℕ) → Matches by_slashes pattern rest → rest ≡ []
   nothing_more pattern p rest m =
       let one = one_group [] pattern p empty_part in
       let fit = subst (λ z. Matches by_slashes z rest) one.1.1 m in
       let part : fit.letter ≡ [] = empty_fits one.0.pieces.items one.1.0 fit.letter fit.fits.0 in
       one_part rest [] (fit.joined ∙ ap (λ z. fit.letter ∷ z) fit.after ∙ ap (λ z. z ∷ []) part)
 
-  module _ (star : Letter) (letters : List Letter) (is_star : is_plain star 0x2A ≡ true) (simple : after_literal letters ≡ []) (plain : IsPlain 0x2F (literal_prefix letters)) where
+  module _ (star : Letter) (letters : List Letter) (is_star : is_plain star 0x2A ≡ true) (simple : after_literal letters ≡ []) (plain : IsPlain 0x2F (literal_prefix false letters)) where
     record IsSuffix (pieces : List (Piece (Item A))) (a : After) : Type 0 where
       more : List (Piece (Item A))
       pieces_are : pieces ≡ Many ∷ more
       rest : AreLiterals letters more a
 
-    suffix_part : (pieces : List (Piece (Item A))) (a : After) → IsPart (star ∷ letters) pieces a → IsSuffix pieces a
+    suffix_part : (pieces : List (Piece (Item A))) (a : After) → IsPart false (star ∷ letters) pieces a → IsSuffix pieces a
     suffix_part pieces a h = go pieces h.read
       where
-        go : (pieces : List (Piece (Item A))) → Reads IsPiece (star ∷ letters) pieces h.left → IsSuffix pieces a
+        go : (pieces : List (Piece (Item A))) → Reads (IsPiece false) (star ∷ letters) pieces h.left → IsSuffix pieces a
         go [] r = absurd (no_slash star letters a (ap (λ z. nat_eq z 0x2F) (star_byte star is_star)) (subst (λ z. EndsPart z a) (sym r) h.ends))
         go (x ∷ xs) r =
-            let piece : (x ≡ Many) × (r.0 ≡ letters) = subst (λ k. PieceAt k star letters x r.0) (star_kind star is_star) r.1.1 in
+            let piece : (x ≡ Many) × (r.0 ≡ letters) = subst (λ k. PieceAt false k star letters x r.0) (star_kind star is_star) r.1.1 in
             record {
               more = xs;
               pieces_are = ap (λ z. z ∷ xs) piece.0;
-              rest = literals letters xs h.left a simple plain (subst (λ z. Reads IsPiece z xs h.left) piece.1 r.2) h.ends;
+              rest = literals letters xs h.left a simple plain (subst (λ z. Reads (IsPiece false) z xs h.left) piece.1 r.2) h.ends;
             }
 
     -- a star and letters that match themselves aren't `**`
@@ -207,7 +207,7 @@ module _ {A : Type 0} where
         go true e = ap (λ z. is_deep (Many ∷ z)) (h.rest.stars e)
         go false e = deep Many h.more e
 
-    suffix : (pattern : List (Piece (Part A))) → IsPattern (star ∷ letters) pattern → (rest : List ℕ) → Matches by_slashes pattern rest → (front : List ℕ) × (rest ≡ front ++ literal_prefix letters)
+    suffix : (pattern : List (Piece (Part A))) → IsPattern false (star ∷ letters) pattern → (rest : List ℕ) → Matches by_slashes pattern rest → (front : List ℕ) × (rest ≡ front ++ literal_prefix false letters)
     suffix pattern p rest m =
         let one = one_group (star ∷ letters) pattern p (λ pieces a h. let k = suffix_part pieces a h in (k.rest.ends, not_deep pieces a k)) in
         let fit = subst (λ z. Matches by_slashes z rest) one.1.1 m in
@@ -216,7 +216,7 @@ module _ {A : Type 0} where
         let whole = one_part rest fit.letter (fit.joined ∙ ap (λ z. fit.letter ∷ z) fit.after) in
         (wild.skipped, whole ∙ wild.joined ∙ ap (λ z. wild.skipped ++ z) (part.rest.are wild.rest wild.after))
 
-    tagged : (anchored : Bool) (literal front back : List ℕ) → IsCut 0x2E (literal_prefix letters) front back → IsPlain 0x2E back → (tag : ℕ) → tag ≡ tag_of back → (pattern : List (Piece (Part A))) → IsPattern (star ∷ letters) pattern → IsTagOf anchored literal pattern tag
+    tagged : (anchored : Bool) (literal front back : List ℕ) → IsCut 0x2E (literal_prefix false letters) front back → IsPlain 0x2E back → (tag : ℕ) → tag ≡ tag_of back → (pattern : List (Piece (Part A))) → IsPattern false (star ∷ letters) pattern → IsTagOf false anchored literal pattern tag
     tagged anchored literal front back c q tag e pattern p path target t m none =
         let own = suffix pattern p m.rest m.matches in
         let all = path_end anchored path target t in
@@ -225,27 +225,27 @@ module _ {A : Type 0} where
         ∙ sym (append_assoc all.0 (literal ++ (own.0 ++ front)) (0x2E ∷ back)) in
         none (tags.dot _ back joined q e)
 
-  pub suffix_tag : (star : Letter) (letters : List Letter) → is_plain star 0x2A ≡ true → after_literal letters ≡ [] → (text extension : List ℕ) → text ≡ literal_prefix letters → IsExtension text extension → (anchored : Bool) (literal : List ℕ) (tag : ℕ) → tag ≡ tag_of extension → (pattern : List (Piece (Part A))) → IsPattern (star ∷ letters) pattern → IsTagOf anchored literal pattern tag
+  pub suffix_tag : (star : Letter) (letters : List Letter) → is_plain star 0x2A ≡ true → after_literal letters ≡ [] → (text extension : List ℕ) → text ≡ literal_prefix false letters → IsExtension text extension → (anchored : Bool) (literal : List ℕ) (tag : ℕ) → tag ≡ tag_of extension → (pattern : List (Piece (Part A))) → IsPattern false (star ∷ letters) pattern → IsTagOf false anchored literal pattern tag
   suffix_tag star letters is_star simple text extension same x anchored literal tag e =
       tagged star letters is_star simple (subst (IsPlain 0x2F) same x.no_slash) anchored literal x.front extension (sym same ∙ x.cut) x.no_dot tag e
 
-  whole : (literal : List ℕ) (pattern : List (Piece (Part A))) (target : List ℕ) → IsPattern [] pattern → MatchesText literal pattern target → target ≡ literal
+  whole : (literal : List ℕ) (pattern : List (Piece (Part A))) (target : List ℕ) → IsPattern false [] pattern → MatchesText false literal pattern target → target ≡ literal
   whole literal pattern target p m = m.joined ∙ ap (λ z. literal ++ z) (nothing_more pattern p m.rest m.matches) ∙ append-nil literal
 
-  pub path_tag : (literal name : List ℕ) → IsLastComponent literal name → (tag : ℕ) → tag ≡ tag_of name → (pattern : List (Piece (Part A))) → IsPattern [] pattern → IsTagOf true literal pattern tag
+  pub path_tag : (literal name : List ℕ) → IsLastComponent literal name → (tag : ℕ) → tag ≡ tag_of name → (pattern : List (Piece (Part A))) → IsPattern false [] pattern → IsTagOf false true literal pattern tag
   path_tag literal name l tag e pattern p path target t m none =
       none (tags.last name (subst (λ z. IsLastComponent z name) (sym (whole literal pattern target p m) ∙ t) l) e)
 
-  pub name_tag : (literal : List ℕ) (tag : ℕ) → tag ≡ tag_of literal → (pattern : List (Piece (Part A))) → IsPattern [] pattern → IsTagOf false literal pattern tag
+  pub name_tag : (literal : List ℕ) (tag : ℕ) → tag ≡ tag_of literal → (pattern : List (Piece (Part A))) → IsPattern false [] pattern → IsTagOf false false literal pattern tag
   name_tag literal tag e pattern p path target t m none =
       none (tags.last literal (subst (IsLastComponent path) (whole literal pattern target p m) t) e)
 
-  pub start_tag : (literal front back : List ℕ) → IsCut 0x2F literal front back → IsPlain 0x2F front → (tag : ℕ) → tag ≡ tag_of front → (pattern : List (Piece (Part A))) → IsTagOf true literal pattern tag
+  pub start_tag : (literal front back : List ℕ) → IsCut 0x2F literal front back → IsPlain 0x2F front → (tag : ℕ) → tag ≡ tag_of front → (pattern : List (Piece (Part A))) → IsTagOf false true literal pattern tag
   start_tag literal front back c q tag e pattern path target t m none =
       none (tags.first front (back ++ m.rest) (sym t ∙ m.joined ∙ ap (λ z. z ++ m.rest) c ∙ append_assoc front (0x2F ∷ back) m.rest) q e)
 
-  pub no_tag : (anchored : Bool) (literal : List ℕ) (pattern : List (Piece (Part A))) → IsTagOf anchored literal pattern 0
-  no_tag anchored literal pattern path target t m none = none (tags.any refl)
+  pub no_tag : (folds anchored : Bool) (literal : List ℕ) (pattern : List (Piece (Part A))) → IsTagOf folds anchored literal pattern 0
+  no_tag folds anchored literal pattern path target t m none = none (tags.any refl)
 
   pub more_tags : (lines : List (Line A)) (read : Result (Line A) NoPattern) (all : List (Line A)) → AllByRecursion (λ line. IsTag line line.tag) lines → IfOk read (λ line. IsTag line line.tag) → all ≡ lines ++ list_of read → AllByRecursion (λ line. IsTag line line.tag) all
   more_tags lines read all h k e = subst (AllByRecursion (λ line. IsTag line line.tag)) (sym e) (go lines read h k)

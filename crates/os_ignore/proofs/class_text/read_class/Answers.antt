@@ -7,7 +7,7 @@ pub loop-ranges-preserved : goal.loop-ranges-preserved
 loop-ranges-preserved g c =
     let reading = sym c.in-Member.ensures.reading in
     record {
-      read = one_more c.args.text.now _ _ c.in-Member.member (c.in-Member.after, c.in-Member.rest.now) _ c.loop-ranges.invariant.read reading c.in_ok-push_to-in-Member.ensures;
+      read = one_more c.args.folds c.args.text.now _ _ c.in-Member.member (c.in-Member.after, c.in-Member.rest.now) _ c.loop-ranges.invariant.read reading c.in_ok-push_to-in-Member.ensures;
       less = let h = c.loop-ranges.invariant.less in let k = c.in-Member.ensures.shorter in omega arith;
       nameless = within_member _ c.loop-ranges.before _ c.in-Member.member c.in-Member.after c.in-Member.rest.now reading c.in-Member.ensures.nameless;
     }

@@ -5,7 +5,7 @@ use Rattle.os_ignore.proofs.class_text.read_class.Given as goal
 
 abbrev pub invariant-loop-ranges : goal.invariant-loop-ranges
 invariant-loop-ranges g l = record {
-  read : SoFar l.text l.ranges.items (l.before, l.left);
+  read : SoFar l.folds l.text l.ranges.items (l.before, l.left);
   less : length l.left ≤ length l.text;
   nameless : AreNamelessWithin l.nameless l.left;
 }

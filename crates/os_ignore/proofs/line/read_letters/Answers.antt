@@ -18,7 +18,7 @@ pub returns-in_default-2-clause-line : goal.returns-in_default-2-clause-line
 returns-in_default-2-clause-line g c =
     let body = body_is _ _ _ _ _ _ c.trim.ensures c.strip_first-takes_in.ensures c.in-Some.ensures in
     let read = rw c.in_default-2.is at c.in_ok-pattern.ensures in
-    broken body (subst (IsBrokenPattern _) (c.in_ok-literal.ensures.1 ∙ ap (λ p. after_literal p.1) c.strip_first.ensures) read) refl
+    broken body (subst (IsBrokenPattern c.args.folds _) (c.in_ok-literal.ensures.1 ∙ ap (λ p. after_literal p.1) c.strip_first.ensures) read) refl
 
 pub returns-clause-line : goal.returns-clause-line
 returns-clause-line g c =
@@ -29,14 +29,15 @@ returns-clause-line g c =
       record {
         body = c.in-Some.whole.now;
         read = body;
+        folds_is = refl;
         anchored = c.has_slash-anchored.ensures;
         some = λ e. rests.not_empty c.strip_first.result.1.now (sym c.is_empty.ensures ∙ c.if-is_empty.false) (same ∙ e);
-        literal = c.in_ok-literal.ensures.0 ∙ ap literal_prefix same;
-        pattern = subst (λ z. IsPattern z c.in-Some-2.pattern.items) (c.in_ok-literal.ensures.1 ∙ ap after_literal same) read;
+        literal = c.in_ok-literal.ensures.0 ∙ ap (literal_prefix c.args.folds) same;
+        pattern = subst (λ z. IsPattern c.args.folds z c.in-Some-2.pattern.items) (c.in_ok-literal.ensures.1 ∙ ap after_literal same) read;
       },
     )
 
 pub returns-clause-tag : goal.returns-clause-tag
 returns-clause-tag g c =
-    subst (λ z. IsTagOf c.has_slash-anchored.result z c.in-Some-2.pattern.items c.in_ok-tag.tag) c.deref.ensures.value
+    subst (λ z. IsTagOf c.args.folds c.has_slash-anchored.result z c.in-Some-2.pattern.items c.in_ok-tag.tag) c.deref.ensures.value
     (c.in_ok-tag.ensures c.in-Some-2.pattern.items (rw c.in-Some-2.is at c.in_ok-pattern.ensures))

@@ -14,4 +14,4 @@ pub returns-clause-line : goal.returns-clause-line
 returns-clause-line g c =
     let read = rw c.in-Some.is at c.in_ok-letters.ensures in
     let letters = subst (AreLetters c.args.text.now) (sym c.deref.ensures.value) read in
-    said c.args.text.now c.deref.result.now (sym c.is_comment.ensures ∙ c.if-is_comment.false) letters c.args.number c.read_letters.result c.read_letters.ensures.line
+    said c.args.folds c.args.text.now c.deref.result.now (sym c.is_comment.ensures ∙ c.if-is_comment.false) letters c.args.number c.read_letters.result c.read_letters.ensures.line

@@ -18,7 +18,7 @@ pub loop-first-preserved : goal.loop-first-preserved
 loop-first-preserved g c =
     let piece = rw c.in-Some-2.is at c.in_ok-piece.ensures.piece in
     let shorter = rw c.in-Some-2.is at c.in_ok-piece.ensures.shorter in
-    let here = subst (λ z. IsPiece z c.in-Some-2.piece c.in-Some-2.after.now) (sym c.in-Some.ensures.cases.0) (c.if-first-eq47.false, piece) in (
-      subst (λ z. Reads IsPiece c.args.text.now z c.in-Some-2.after.now) (sym c.in_ok-push.ensures.items) (more_items IsPiece _ _ _ _ _ c.loop-first.invariant.0 here),
+    let here = subst (λ z. IsPiece c.args.folds z c.in-Some-2.piece c.in-Some-2.after.now) (sym c.in-Some.ensures.cases.0) (c.if-first-eq47.false, piece) in (
+      subst (λ z. Reads (IsPiece c.args.folds) c.args.text.now z c.in-Some-2.after.now) (sym c.in_ok-push.ensures.items) (more_items (IsPiece c.args.folds) _ _ _ _ _ c.loop-first.invariant.0 here),
       let h = c.loop-first.invariant.1 in let k = c.in-Some.ensures.cases.1 in omega arith,
     )

@@ -1,4 +1,4 @@
-use Rattle.std.proofs.Common.{rules, ◌≡◌, true, sym, subst, ◌∙◌}
+use Rattle.std.proofs.Common.{rules, ◌≡◌, false, true, sym, subst, ◌∙◌}
 use Rattle.os_ignore.specs.Tags.{IsExtension}
 use Rattle.os_ignore.proofs.lemmas.Rests.{empty}
 use Rattle.os_ignore.proofs.lemmas.Tags.{suffix_tag, no_tag}
@@ -15,4 +15,4 @@ returns-in-Some g c =
     c.args.anchored c.args.literal.now c.tag_of.result c.tag_of.ensures
 
 pub returns-then-not-is_plain : goal.returns-then-not-is_plain
-returns-then-not-is_plain g c = λ pattern p. no_tag c.args.anchored c.args.literal.now pattern
+returns-then-not-is_plain g c = λ pattern p. no_tag false c.args.anchored c.args.literal.now pattern

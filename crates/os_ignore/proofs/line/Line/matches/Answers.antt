@@ -19,8 +19,8 @@ returns g c =
       | else-self-2 w ↦ subst (λ z. IsTarget z path text) (sym w.if-self-2.false) (subst (λ z. IsLastComponent path z.now) (sym w.matches_text-is) c.requires)
     ] in
     let both = line_matches line path text c.args.is_dir directories target in
-    let here = subst (λ z. MatchesText z c.deref-2.result.now text) c.deref.ensures.value in
-    let there = subst (λ z. MatchesText z c.deref-2.result.now text) (sym c.deref.ensures.value) in (
-      λ e. both.0 (subst (λ z. MatchesText line.literal.items z text) c.deref-2.ensures.value (here (c.matches_text.ensures.0 e))),
-      λ m. c.matches_text.ensures.1 (there (subst (λ z. MatchesText line.literal.items z text) (sym c.deref-2.ensures.value) (both.1 m))),
+    let here = subst (λ z. MatchesText line.folds z c.deref-2.result.now text) c.deref.ensures.value in
+    let there = subst (λ z. MatchesText line.folds z c.deref-2.result.now text) (sym c.deref.ensures.value) in (
+      λ e. both.0 (subst (λ z. MatchesText line.folds line.literal.items z text) c.deref-2.ensures.value (here (c.matches_text.ensures.0 e))),
+      λ m. c.matches_text.ensures.1 (there (subst (λ z. MatchesText line.folds line.literal.items z text) (sym c.deref-2.ensures.value) (both.1 m))),
     )

@@ -1,6 +1,6 @@
 use Rattle.std.proofs.Common.{length, sym, ap, ◌∙◌}
 use Rattle.os_ignore.proofs.lemmas.Rests.{inserted}
-use Rattle.os_ignore.proofs.ignore.Ignore.add.Goals as goal
+use Rattle.os_ignore.proofs.ignore.Ignore.add_with.Goals as goal
 
 pub returns-clause-added : goal.returns-clause-added
 returns-clause-added g c =
