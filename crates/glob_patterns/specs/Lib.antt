@@ -7,3 +7,4 @@ pub mod Errors
 pub mod GlobSets
 pub mod ErrorText
 pub mod TextMatch
+pub mod Globs

@@ -10,6 +10,7 @@ pub mod arguments;
 pub mod classes;
 pub mod command_lines;
 pub mod errors;
+pub mod globs;
 pub mod joined_words;
 pub mod patterns;
 pub mod shell_words;

@@ -9,7 +9,7 @@ use Rattle.bench_exports.proofs.globs.matches.Given as goal
 
 abbrev pub invariant-loop-len : goal.invariant-loop-len
 invariant-loop-len l =
-    IsCounted (λ string. MatchesChoice (options_of l.glob.options) l.glob.choices.items (letters_of itself string)) (pieces_of l.lens l.raw) (length l.lens) l.left l.rest l.count
+    IsCounted (λ string. MatchesChoice (options_of l.glob.options) l.glob.compiled.value.choices.items (letters_of itself string)) (pieces_of l.lens l.raw) (length l.lens) l.left l.rest l.count
 
 abbrev pub decreases-loop-len : goal.decreases-loop-len
 decreases-loop-len l = length l.left

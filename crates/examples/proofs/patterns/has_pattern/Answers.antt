@@ -14,8 +14,8 @@ returns g c =
     let letters = letters_of g.E.Platform.units in
     let glob = c.in_ok-new.field-0 in
     let text = c.args.pattern.now in
-    let same = c.in_ok-new.ensures.0 in
-    let m = subst (λ o. IsMeaning formed letters (syntax_of o) text glob.choices.items) (sym same) c.in_ok-new.ensures.1 in
+    let same = c.in_ok-new.ensures.value.0 in
+    let m = subst (λ o. IsMeaning formed letters (syntax_of o) text glob.compiled.value.choices.items) (sym same) c.in_ok-new.ensures.value.1 in
     let written : AreWrittenOut formed letters (syntax_of glob.options) text m.are.are.written_out =
     record { symbols = m.symbols; read = m.read; marks = m.are.marks; marks_are = m.are.read; cased = m.are.cased; are_cased = m.are.are_cased; are = m.are.are.are } in
     subst (λ o. (cs : List (List Mark)) × (AreWrittenOut formed letters (syntax_of o) text cs × (IsTrue c.is_match.result ↔ MatchesWrittenOut (options_of o) cs (letters (bytes c.args.path))))) same
