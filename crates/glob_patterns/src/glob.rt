@@ -133,10 +133,10 @@ impl<E: Platform, A: Allocator + Copy> Glob<E, A> {
         match compile::<StringLetters<E>, A>(alloc, options.syntax(), encoded)? {
             Ok(choices) => {
                 let text = pattern.to_owned(alloc)?;
-                Ok(Glob {
-                    options,
-                    compiled: Arc::new(alloc, Compiled { text, choices })?,
-                })
+                match Arc::new(alloc, Compiled { text, choices }) {
+                    Ok(compiled) => Ok(Glob { options, compiled }),
+                    Err(error) => Err(AllocError::from(error).into()),
+                }
             }
             Err(fault) => Err(GlobError::Pattern(fault)),
         }
