@@ -8,3 +8,4 @@ pub mod GlobSets
 pub mod ErrorText
 pub mod TextMatch
 pub mod Globs
+pub mod MixedSets

@@ -163,6 +163,27 @@ impl<E: Platform, A: Allocator> Glob<E, A> {
         self.compiled.text.as_os_str()
     }
 
+    /// Returns how the pattern is read and matched.
+    ///
+    /// ```
+    /// use glob_patterns::{Glob, GlobError, GlobOptions, MixedGlobSet, Separators};
+    /// use os_str_ext::{OsStr, Unix};
+    ///
+    /// let options = GlobOptions::new(Separators::Slash);
+    /// let caseless = GlobOptions { case_insensitive: true, ..options };
+    /// let glob: Glob<Unix> = Glob::new(alloc, options, "*.c")?;
+    /// let other = Glob::new(alloc, caseless, "*.h")?;
+    /// assert!(rt; glob.options() == options);
+    /// let globs = [(glob.options(), glob.glob()), (other.options(), other.glob())];
+    /// let set = MixedGlobSet::new(alloc, &globs)?;
+    /// assert!(rt; set.is_match(OsStr::new("a.H")) && !set.is_match(OsStr::new("a.C")));
+    /// ```
+    pub fn options(&self) -> GlobOptions
+        ensures { result ≡ self.now.options }
+    {
+        self.options
+    }
+
     /// Whether the pattern matches a whole path. It doesn't allocate.
     ///
     /// ```

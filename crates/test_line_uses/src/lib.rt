@@ -12,6 +12,7 @@ pub mod command_lines;
 pub mod errors;
 pub mod globs;
 pub mod joined_words;
+pub mod mixed_sets;
 pub mod patterns;
 pub mod shell_words;
 pub mod windows_lines;
