@@ -3,6 +3,7 @@ ghost use Rattle.std.specs.Prelude.{◌↔◌, IsTrue};
 ghost use Rattle.std.specs.Str.{IsUtf8};
 ghost use Rattle.platform_str.specs.PlatformWords.{itself};
 ghost use Rattle.wildcards.specs.Sets.{MatchesChoice};
+ghost use Rattle.glob_patterns.specs.Globs.{choices_of};
 ghost use Rattle.glob_patterns.specs.Letters.{letters_of};
 ghost use Rattle.glob_patterns.specs.Options.{options_of};
 ghost use Rattle.bench_exports.specs.Answers.{Fit, IsCount, pieces_of};
@@ -164,7 +165,7 @@ fn options(slash: bool) -> GlobOptions {
 /// Returns the number of strings that a pattern matches, of the pieces of these lengths.
 fn matches(glob: &Glob<Unix>, raw: &[u8], lens: &[usize]) -> usize
     requires fit { Fit lens.now raw.now }
-    ensures { IsCount (λ string. MatchesChoice (options_of glob.now.options) glob.now.choices.items
+    ensures { IsCount (λ string. MatchesChoice (options_of glob.now.options) (choices_of glob.now)
         (letters_of itself string)) (pieces_of lens.now raw.now) result }
 {
     let mut count = 0;
@@ -184,7 +185,7 @@ fn matches(glob: &Glob<Unix>, raw: &[u8], lens: &[usize]) -> usize
 /// Whether a pattern matches a string, which is one call.
 #[inline(never)]
 fn is_match(glob: &Glob<Unix>, raw: &[u8]) -> bool
-    ensures { IsTrue result ↔ MatchesChoice (options_of glob.now.options) glob.now.choices.items
+    ensures { IsTrue result ↔ MatchesChoice (options_of glob.now.options) (choices_of glob.now)
         (letters_of itself raw.now) }
 {
     glob.is_match(unix(raw))

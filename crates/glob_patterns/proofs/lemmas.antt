@@ -3,3 +3,4 @@ pub mod Compiling
 pub mod InlineTexts
 pub mod UnitLetters
 pub mod TextHits
+pub mod MixedSets

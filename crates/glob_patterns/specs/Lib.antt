@@ -7,3 +7,5 @@ pub mod Errors
 pub mod GlobSets
 pub mod ErrorText
 pub mod TextMatch
+pub mod Globs
+pub mod MixedSets

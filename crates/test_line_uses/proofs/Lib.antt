@@ -3,3 +3,4 @@ pub mod WrittenOut
 pub mod FirstHit
 pub mod LinesRead
 pub mod JoinedWords
+pub mod SameGlobs

@@ -1,9 +1,9 @@
 -- The pattern of an index matches where its text does.
-use Rattle.std.proofs.Common.{◌≡◌, ◌↔◌, ◌<◌, ◌+◌, ℕ, zero, suc, List, [], ◌∷◌, length, sym, subst, arith, IsTrue, Result, Ok, Err, OnOk}
+use Rattle.std.proofs.Common.{◌↔◌, ℕ, zero, suc, List, [], ◌∷◌, sym, subst, arith, IsTrue, Result, Ok, Err, OnOk}
 use Rattle.std.specs.Prelude.{Bool}
 use Rattle.wildcards.specs.declared.options.Options.{Options}
 use Rattle.wildcards.specs.declared.set.Pattern.{Pattern}
-use Rattle.wildcards.specs.Sets.{Has, IsHit, AreHits}
+use Rattle.wildcards.specs.Sets.{IsHit, AreHits}
 use Rattle.glob_text.proofs.lemmas.Meanings.{choices_alike}
 use Rattle.glob_patterns.specs.declared.options.GlobOptions.{GlobOptions}
 use Rattle.glob_patterns.specs.GlobSets.{AreMeanings}

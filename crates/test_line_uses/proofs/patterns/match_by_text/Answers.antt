@@ -1,4 +1,5 @@
 use Rattle.platform_str.specs.Strings.{bytes}
+use Rattle.glob_patterns.specs.Globs.{choices_of}
 use Rattle.glob_patterns.specs.Letters.{letters_of}
 use Rattle.test_line_uses.proofs.WrittenOut.{matched}
 use Rattle.test_line_uses.proofs.patterns.match_by_text.Goals as goal
@@ -6,4 +7,4 @@ use Rattle.test_line_uses.proofs.patterns.match_by_text.Goals as goal
 pub returns : goal.returns
 returns g c =
     let units = g.E.Platform.units in
-    matched g.E.Platform.well_formed units c.args.options c.in_ok-glob.glob.options c.args.pattern.now (letters_of units (bytes c.args.path)) c.in_ok-glob.glob.choices.items c.is_match.result c.in_ok-glob.ensures.0 c.in_ok-glob.ensures.1 c.is_match.ensures.text
+    matched g.E.Platform.well_formed units c.args.options c.in_ok-glob.glob.options c.args.pattern.now (letters_of units (bytes c.args.path)) (choices_of c.in_ok-glob.glob) c.is_match.result c.in_ok-glob.ensures.value.0 c.in_ok-glob.ensures.value.1 c.is_match.ensures.text

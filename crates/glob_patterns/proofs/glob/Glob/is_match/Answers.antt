@@ -2,6 +2,7 @@ use Rattle.std.proofs.Common.{rules, ◌↔◌, IsTrue}
 use Rattle.platform_str.specs.Strings.{bytes}
 use Rattle.wildcards.specs.Sets.{MatchesChoice}
 use Rattle.glob_text.proofs.lemmas.Meanings.{choices_alike}
+use Rattle.glob_patterns.specs.Globs.{choices_of}
 use Rattle.glob_patterns.specs.Letters.{letters_of}
 use Rattle.glob_patterns.specs.Options.{options_of}
 use Rattle.glob_patterns.proofs.glob.Glob.is_match.Goals as goal
@@ -9,7 +10,7 @@ use Rattle.glob_patterns.proofs.glob.Glob.is_match.Goals as goal
 pub returns-clause-text : goal.returns-clause-text
 returns-clause-text g c = λ text meaning.
     let o = options_of c.args.self.now.options in
-    let choices = c.args.self.now.choices.items in
+    let choices = choices_of c.args.self.now in
     let path = letters_of g.E.Platform.units (bytes c.args.path) in
     let value : IsTrue c.matches_choice.result ↔ MatchesChoice o choices path = search rules in
     let same = choices_alike o meaning.are.are.written_out choices path meaning.are.are.compiled in
