@@ -16,7 +16,7 @@ import shutil
 import subprocess
 import tempfile
 from pathlib import Path
-from typing import Iterator
+from typing import Callable, Iterator
 
 from left_out import leave_out
 
@@ -71,8 +71,33 @@ def paths_of(top: bytes) -> Iterator[tuple[bytes, bool]]:
             yield os.path.relpath(path, top), os.path.isdir(path)
 
 
-def ask_git(top: bytes, paths: list[bytes], folds: bool) -> Iterator[tuple[bytes, str]]:
-    """Yields for each path the ignore file that decides it, if one does, and what git prints for it."""
+def is_text(path: bytes) -> bool:
+    return path.decode(errors="replace").encode() == path
+
+
+def make_files(
+    top: bytes, may_have: Callable[[bytes], bool], folds: bool
+) -> tuple[list[tuple[bytes, bool]], list[tuple[bytes, bytes]]]:
+    """Makes a tree and its ignore files, in folders that may have one, and an empty repository beside it.
+
+    Returns the paths, with whether each is a folder, and the folders with the ignore file of each.
+    """
+    os.mkdir(top)
+    make_tree(top, 3, folds)
+    paths = list(paths_of(top))
+    names = [os.path.basename(path) for path, _ in paths]
+    directories = [b""] + [path for path, is_dir in paths if is_dir and random.random() < 0.4 and may_have(path)]
+    random.shuffle(directories)
+    files = [(directory, ignore_file(names, folds)) for directory in directories]
+    for directory, content in files:
+        with open(os.path.join(top, directory, b".gitignore"), "wb") as file:
+            file.write(content)
+    subprocess.run(["git", "init", "-q", "--template=", "--bare", top + b".git"], check=True)
+    return paths, files
+
+
+def ask_git(top: bytes, paths: list[bytes], folds: bool) -> Iterator[tuple[bytes, bytes, bytes] | None]:
+    """Yields for each path the ignore file that decides it, the number of the line and its pattern, if one does."""
     words = ["git", "-c", f"core.ignorecase={str(folds).lower()}", "-c", "core.excludesFile=/dev/null"]
     words += ["check-ignore", "-v", "-n", "-z", "--stdin", "--no-index"]
     given = b"".join(path + b"\0" for path in paths)
@@ -82,27 +107,20 @@ def ask_git(top: bytes, paths: list[bytes], folds: bool) -> Iterator[tuple[bytes
         raise SystemExit(f"check-ignore: git ended with status {ran.returncode}")
     fields = ran.stdout.split(b"\0")
     for source, number, pattern, _ in zip(*[iter(fields[:-1])] * 4):
-        yield source, ("w" if pattern.startswith(b"!") else "i") + number.decode()
+        yield (source, number, pattern) if source else None
 
 
 def rows_of(room: Path, number: int, folds: bool) -> Iterator[str]:
     """Yields a row of a result file for each path of a tree."""
     top = os.fsencode(room / f"tree{number}")
-    os.mkdir(top)
-    make_tree(top, 3, folds)
-    paths = list(paths_of(top))
-    names = [os.path.basename(path) for path, _ in paths]
-    directories = [b""] + [path for path, is_dir in paths if is_dir and random.random() < 0.4]
-    random.shuffle(directories)
-    files = [(directory, ignore_file(names, folds)) for directory in directories]
-    for directory, content in files:
-        with open(os.path.join(top, directory, b".gitignore"), "wb") as file:
-            file.write(content)
-    subprocess.run(["git", "init", "-q", "--template=", "--bare", top + b".git"], check=True)
+    paths, files = make_files(top, lambda path: True, folds)
     sources = {os.path.join(directory, b".gitignore"): index for index, (directory, _) in enumerate(files)}
     given = ",".join(f"{directory.hex() or '-'}:{content.hex() or '-'}" for directory, content in files)
-    for (path, is_dir), (source, said) in zip(paths, ask_git(top, [path for path, _ in paths], folds)):
-        answer = f"{sources[source]}:{said}" if source else "-"
+    for (path, is_dir), reason in zip(paths, ask_git(top, [path for path, _ in paths], folds)):
+        answer = "-"
+        if reason:
+            source, line, pattern = reason
+            answer = f"{sources[source]}:{'w' if pattern.startswith(b'!') else 'i'}{line.decode()}"
         yield "\t".join([given, path.hex(), "01"[is_dir], answer])
 
 

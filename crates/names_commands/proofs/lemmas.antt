@@ -8,3 +8,4 @@ pub mod Picked
 pub mod Picks
 pub mod Words
 pub mod WordsBack
+pub mod Decided

@@ -18,7 +18,7 @@ use Rattle.program_frame.specs.declared.os.Os.TheVariants.{Unix, Windows, Wasm}
 use Rattle.names_commands.specs.Options.{word_of}
 use Rattle.names_commands.specs.Pick.{TakesIgnore, glob_words}
 use Rattle.names_commands.specs.declared.command.Command.{Command}
-use Rattle.names_commands.specs.declared.command.Command.TheVariants.{ListNames, ListWords, Filter, Join, JoinWords, Check, Help, Version}
+use Rattle.names_commands.specs.declared.command.Command.TheVariants.{ListNames, ListWords, Filter, Why, Join, JoinWords, Check, Help, Version}
 use Rattle.names_commands.specs.declared.command.Name.{Name}
 use Rattle.names_commands.specs.declared.command.Name.TheVariants as name
 use Rattle.names_commands.specs.declared.command.Request.{Request}
@@ -38,6 +38,7 @@ Line = List (Given NamesOption)
 abbrev pub name_word : Name → List ℕ
 name_word name.List = codes "list"
 name_word name.Filter = codes "filter"
+name_word name.Why = codes "why"
 name_word name.Join = codes "join"
 name_word name.Check = codes "check"
 
@@ -49,30 +50,37 @@ TakesOption command option.Max = Unit {0}
 TakesOption name.List option.Sh = Unit {0}
 TakesOption name.Join option.Sh = Unit {0}
 TakesOption name.Filter option.Sh = ⊥
+TakesOption name.Why option.Sh = ⊥
 TakesOption name.Check option.Sh = ⊥
 TakesOption name.List option.ShLine = Unit {0}
 TakesOption name.Join option.ShLine = Unit {0}
 TakesOption name.Filter option.ShLine = ⊥
+TakesOption name.Why option.ShLine = ⊥
 TakesOption name.Check option.ShLine = ⊥
 TakesOption name.List option.Unterminated = ⊥
 TakesOption name.Join option.Unterminated = Unit {0}
 TakesOption name.Filter option.Unterminated = ⊥
+TakesOption name.Why option.Unterminated = ⊥
 TakesOption name.Check option.Unterminated = ⊥
 TakesOption name.List option.Glob = Unit {0}
 TakesOption name.Join option.Glob = ⊥
 TakesOption name.Filter option.Glob = Unit {0}
+TakesOption name.Why option.Glob = ⊥
 TakesOption name.Check option.Glob = ⊥
 TakesOption name.List option.Name = Unit {0}
 TakesOption name.Join option.Name = ⊥
 TakesOption name.Filter option.Name = Unit {0}
+TakesOption name.Why option.Name = ⊥
 TakesOption name.Check option.Name = ⊥
 TakesOption name.List option.Ignore = Unit {0}
 TakesOption name.Join option.Ignore = ⊥
 TakesOption name.Filter option.Ignore = Unit {0}
+TakesOption name.Why option.Ignore = Unit {0}
 TakesOption name.Check option.Ignore = ⊥
 TakesOption name.List option.Invert = Unit {0}
 TakesOption name.Join option.Invert = ⊥
 TakesOption name.Filter option.Invert = Unit {0}
+TakesOption name.Why option.Invert = ⊥
 TakesOption name.Check option.Invert = ⊥
 
 -- the command takes the option, if this is one
@@ -133,6 +141,7 @@ abbrev pub MakesUp : Line → Command → Type 0
 MakesUp given (ListNames os pick) = (more : List (List ℕ)) × (HasOperands given name.List os more × (Fits name.List given × (NoWords given × IsMaybePick given os more pick)))
 MakesUp given (ListWords form pick) = (more : List (List ℕ)) × (HasOperands given name.List Unix more × (Fits name.List given × (IsForm given form × IsMaybePick given Unix more pick)))
 MakesUp given (Filter os pick) = (more : List (List ℕ)) × (HasOperands given name.Filter os more × (Fits name.Filter given × IsPick given os more pick))
+MakesUp given (Why os) = HasOperands given name.Why os [] × (Fits name.Why given × (HasOption option.Ignore given × TakesIgnore os))
 MakesUp given (Join os last) = HasOperands given name.Join os [] × (Fits name.Join given × (NoWords given × IsLast given last))
 MakesUp given (JoinWords last) = HasOperands given name.Join Unix [] × (Fits name.Join given × ((¬ (NoWords given)) × IsLast given last))
 MakesUp given (Check os) = HasOperands given name.Check os [] × Fits name.Check given
@@ -160,12 +169,13 @@ AsksFor given r =
     ⊎ ((¬ (HasOption option.Version given)) × (IsMax given r.max × MakesUp given r.command))
     ))
 
--- what is missing: a command, a platform after it, or what picks names
+-- what is missing: a command, a platform after it, what picks names, or an ignore file
 abbrev pub IsMissing : Line → List ℕ → Type 0
 IsMissing given what =
-    ((what ≡ codes "command (list, filter, join or check)") × (operands_of given ≡ []))
+    ((what ≡ codes "command (list, filter, why, join or check)") × (operands_of given ≡ []))
     ⊎ (((what ≡ codes "platform (unix, windows or wasm)") × ((word : List ℕ) × (operands_of given ≡ word ∷ [])))
-    ⊎ ((what ≡ codes "GLOB, --glob, --name or --ignore") × ((command : Name) × (os : Os) × (HasOperands given command os [] × (NeedsPick given command × (¬ (SomePicked given [])))))))
+    ⊎ (((what ≡ codes "GLOB, --glob, --name or --ignore") × ((command : Name) × (os : Os) × (HasOperands given command os [] × (NeedsPick given command × (¬ (SomePicked given []))))))
+    ⊎ ((what ≡ codes "--ignore") × ((os : Os) × (HasOperands given name.Why os [] × (¬ (HasOption option.Ignore given)))))))
 
 -- which word is no command, no platform or no number of bytes
 abbrev pub IsInvalid : Line → List ℕ → List ℕ → Type 0

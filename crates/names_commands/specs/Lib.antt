@@ -9,3 +9,4 @@ pub mod Pick
 pub mod Program
 pub mod Back
 pub mod Words
+pub mod Why

@@ -9,7 +9,7 @@ use Rattle.os_args.specs.declared.error.ArgumentError.{ArgumentError}
 use Rattle.os_str_bytes.specs.Wasm.{Wasm}
 use Rattle.os_str_bytes.specs.WasmPlatform.TheImpl as wasm
 use Rattle.platform_str.specs.declared.os_str.OsStr.{OsStr}
-use Rattle.program_frame.specs.Arguments.{AreGiven, HasFault}
+use Rattle.program_frame.specs.Arguments.{AreGiven, AreValues, HasFault}
 use Rattle.program_frame.specs.Files.{KnownFiles}
 use Rattle.program_frame.specs.declared.misuse.Misuse as misuse
 use Rattle.program_frame.specs.declared.misuse.Misuse.TheVariants.{Argument}
@@ -25,7 +25,7 @@ use Rattle.program_frame.specs.ListRun.{Runs}
 use Rattle.program_frame.specs.declared.fault.Failure.TheVariants.{Memory, Write}
 use Rattle.program_frame.specs.declared.lists.fault.ListFault.TheVariants.{Run}
 use Rattle.names_commands.specs.declared.command.Command.{Command}
-use Rattle.names_commands.specs.declared.command.Command.TheVariants.{ListNames, ListWords, Filter, Join, JoinWords, Check, Help, Version}
+use Rattle.names_commands.specs.declared.command.Command.TheVariants.{ListNames, ListWords, Filter, Why, Join, JoinWords, Check, Help, Version}
 use Rattle.program_frame.specs.declared.lists.program_fault.Fault as program_fault
 use Rattle.program_frame.specs.declared.lists.program_fault.Fault.TheVariants.{List as OfList, Words}
 use Rattle.names_commands.specs.declared.fault.Refusal.{Refusal}
@@ -40,6 +40,8 @@ use Rattle.names_commands.specs.declared.plan.Plan.{Plan}
 use Rattle.names_commands.specs.Ignoring.{AreRead, IsFileIn, IsFirstUnread}
 use Rattle.names_commands.specs.Matching.{picking, AreWrittenOut, IsChosen, IsFirstFault, IsPicked}
 use Rattle.names_commands.specs.Pick.{AreChosen}
+use Rattle.names_commands.specs.Why.{deciding}
+use Rattle.names_commands.specs.declared.option.NamesOption.TheVariants.{Ignore}
 use Rattle.names_commands.specs.declared.command.Request.{Request}
 use Rattle.names_commands.specs.Command.{AsksFor, IsRejected, Line, options_of}
 use Rattle.names_commands.specs.Task.{rules_of}
@@ -100,6 +102,12 @@ module _ (known : KnownFiles) (A : Type 0) where
       ((why : CommandFault) × IsFileFault names why × EndsAtOnce (Words why) input left old new answer)
       ⊎ ((files : List (File A)) × AreRead known names files × Runs (picking p shape max (IsPicked inverted Chosen files)) OfList input left old new answer)
 
+  -- the run ends with the first ignore file that can't be read. Or it writes the lines of the files that decide names, and these names, on a platform that states this of its strings, where a name may have `max` bytes
+  abbrev pub RunsReasons : {E : Type 0} → Ghosts E → ℕ → List (List ℕ) → Doing
+  RunsReasons p max values input left old new answer =
+      ((why : CommandFault) × IsFileFault values why × EndsAtOnce (Words why) input left old new answer)
+      ⊎ ((files : List (File A)) × AreRead known values files × Runs (deciding p max values files) OfList input left old new answer)
+
   -- on such a platform, where a plan states what is done:
   module _ {E : Type 0} (p : Ghosts E) (plan : Plan) where
     -- the run ends with the first of the patterns that has a fault. Or it writes the names that one of them matches, or all where there are none, but for those that the files ignore; or, inverted, the others
@@ -122,6 +130,14 @@ module _ (known : KnownFiles) (A : Type 0) where
     abbrev pub RunsPlan : Plan → Doing
     RunsPlan plan input left old new answer = RunsPick (strings plan.os) plan input left old new answer
 
+    -- the result for the ignore files that decide names, on a platform that states this of its strings
+    abbrev pub RunsWhyOn : {E : Type 0} → Ghosts E → ℕ → Doing
+    RunsWhyOn p max input left old new answer = (values : List (List ℕ)) × AreValues Ignore given values × RunsReasons p max values input left old new answer
+
+    -- on this platform, unless an allocation fails first
+    abbrev pub RunsWhy : Os → ℕ → Doing
+    RunsWhy os max input left old new answer = UnlessOutOfMemory (RunsWhyOn (strings os) max) input left old new answer
+
     -- a run over all items, or over the names that are picked, in this form
     abbrev pub RunsNames : Os → Task → Form → Option Pick → ℕ → Doing
     RunsNames os what shape None max input left old new answer = RunsTask os what max input left old new answer
@@ -132,6 +148,7 @@ module _ (known : KnownFiles) (A : Type 0) where
     Does (ListNames os pick) max input left old new answer = RunsNames os task.ListAll form.Line pick max input left old new answer
     Does (ListWords shape pick) max input left old new answer = RunsNames Unix (task.ListWords shape) (form.Word shape) pick max input left old new answer
     Does (Filter os pick) max input left old new answer = RunsPlan (record { os = os; form = form.Name; pick = pick; max = max }) input left old new answer
+    Does (Why os) max input left old new answer = RunsWhy os max input left old new answer
     Does (Join os last) max input left old new answer = RunsTask os (task.Join last) max input left old new answer
     Does (JoinWords last) max input left old new answer = RunsTask Unix (task.JoinWords last) max input left old new answer
     Does (Check os) max input left old new answer = RunsTask os task.Check max input left old new answer

@@ -9,7 +9,7 @@ ghost use Rattle.names_commands.specs.Command.{AsksFor, IsWordOption, Fits, Fits
 ghost use Rattle.names_commands.specs.Options.{word_of};
 ghost use Rattle.names_commands.specs.Pick.{TakesIgnore};
 ghost use Rattle.names_commands.specs.declared.command.Name.{Name as DeclaredName};
-ghost use Rattle.names_commands.specs.declared.command.Name.TheVariants.{Check as CheckName, Filter as FilterName, Join as JoinName, List as ListName};
+ghost use Rattle.names_commands.specs.declared.command.Name.TheVariants.{Check as CheckName, Filter as FilterName, Join as JoinName, List as ListName, Why as WhyName};
 ghost use Rattle.names_commands.specs.declared.option.NamesOption.TheVariants.{Glob, Ignore};
 
 use crate::option::NamesOption;
@@ -107,6 +107,8 @@ pub enum Name {
     List,
     /// `filter`.
     Filter,
+    /// `why`.
+    Why,
     /// `join`.
     Join,
     /// `check`.
@@ -122,6 +124,7 @@ impl Name {
         match word {
             "list" => Some(Name::List),
             "filter" => Some(Name::Filter),
+            "why" => Some(Name::Why),
             "join" => Some(Name::Join),
             "check" => Some(Name::Check),
             _ => None,
@@ -135,6 +138,7 @@ impl Name {
         match self {
             Name::List => "list",
             Name::Filter => "filter",
+            Name::Why => "why",
             Name::Join => "join",
             Name::Check => "check",
         }
@@ -148,17 +152,20 @@ impl Name {
             NamesOption::Help | NamesOption::Version | NamesOption::Max => true,
             NamesOption::Sh | NamesOption::ShLine => match self {
                 Name::List | Name::Join => true,
-                Name::Filter | Name::Check => false,
+                Name::Filter | Name::Why | Name::Check => false,
             },
             NamesOption::Unterminated => match self {
                 Name::Join => true,
-                Name::List | Name::Filter | Name::Check => false,
+                Name::List | Name::Filter | Name::Why | Name::Check => false,
             },
-            NamesOption::Glob | NamesOption::Name | NamesOption::Ignore | NamesOption::Invert =>
-                match self {
-                    Name::List | Name::Filter => true,
-                    Name::Join | Name::Check => false,
-                },
+            NamesOption::Ignore => match self {
+                Name::List | Name::Filter | Name::Why => true,
+                Name::Join | Name::Check => false,
+            },
+            NamesOption::Glob | NamesOption::Name | NamesOption::Invert => match self {
+                Name::List | Name::Filter => true,
+                Name::Why | Name::Join | Name::Check => false,
+            },
         }
     }
 }
@@ -174,6 +181,9 @@ pub enum Command<'a> {
     ListWords(WordForm, Option<Pick<'a>>),
     /// `filter`: reads names, each ended by NUL, and writes those that are picked, each ended by NUL.
     Filter(Os, Pick<'a>),
+    /// `why`: reads names, each ended by NUL, and writes the line of an ignore file that decides each,
+    /// with the escape of the name. The names that no line decides are left out.
+    Why(Os),
     /// `join`: reads what `list` writes, and writes the names, each ended by NUL. With
     /// `--unterminated` the last line may lack its newline.
     Join(Os, LastLine),
@@ -195,7 +205,7 @@ impl<'a> Command<'a> {
         ensures misuse { IfErr result (λ misuse. IsMisuse given.entry.now misuse) }
     {
         let Some((name, after)) = next_operand(given) else {
-            return Err(Misuse::Missing("command (list, filter, join or check)"));
+            return Err(Misuse::Missing("command (list, filter, why, join or check)"));
         };
         let Some(command) = Name::named(name) else {
             return Err(Misuse::Invalid("command", name));
@@ -227,6 +237,7 @@ impl<'a> Command<'a> {
         match command {
             Name::List => Command::list(given, os, more),
             Name::Filter => Command::filter(given, os, more),
+            Name::Why => Command::why(given, os, more),
             Name::Join => Command::join(given, os, more),
             Name::Check => match no_operand(given, Name::Check, os, more) {
                 Ok(()) => Ok(Command::Check(os)),
@@ -267,6 +278,28 @@ impl<'a> Command<'a> {
             Ok(Some(pick)) => Ok(Command::Filter(os, pick)),
             Ok(None) => Err(Misuse::Missing("GLOB, --glob, --name or --ignore")),
             Err(misuse) => Err(misuse),
+        }
+    }
+
+    /// `why`.
+    fn why(given: Line<'_, 'a>, os: Os, more: Line<'_, 'a>) -> Result<Command<'a>, Misuse<'a>>
+        requires operands { HasOperands given.now WhyName os (operands_of more.now) }
+        requires fits { Fits WhyName given.now }
+        ensures command { IfOk result (λ command. MakesUp given.entry.now command) }
+        ensures misuse { IfErr result (λ misuse. IsMisuse given.entry.now misuse) }
+    {
+        match no_operand(given, Name::Why, os, more) {
+            Ok(()) => {}
+            Err(misuse) => return Err(misuse),
+        }
+        match ignores(given, os) {
+            Ok(()) => {}
+            Err(misuse) => return Err(misuse),
+        }
+        if has(given, NamesOption::Ignore) {
+            Ok(Command::Why(os))
+        } else {
+            Err(Misuse::Missing("--ignore"))
         }
     }
 

@@ -13,6 +13,7 @@ names: lists of file names, one on each line, and back
 
 names list   PLATFORM [GLOB] [OPTION..]   reads names ended by NUL; writes the escape of each on a line
 names filter PLATFORM [GLOB] [OPTION..]   reads names ended by NUL; writes those that are picked, ended by NUL
+names why    PLATFORM --ignore FILE..     reads names ended by NUL; writes FILE:LINE:PATTERN, a tab and the escape
 names join   PLATFORM [OPTION..]          reads lines that list wrote; writes the names, ended by NUL
 names check  PLATFORM [OPTION..]          reads names ended by NUL; writes nothing
 
@@ -22,6 +23,7 @@ PLATFORM is unix, windows or wasm. Options may stand anywhere; -- ends them.
   --name GLOB      list, filter: pick by the last component, in any folder: --glob '**/GLOB'
   --ignore FILE    list, filter: leave out what the .gitignore file FILE ignores (unix, wasm)
                    with DIR=FILE, as that of the folder DIR does
+                   why: the names that a line of it decides, after that line
   -v, --invert     list, filter: pick the others
   --sh             list, join: words that every POSIX shell reads as the names (unix)
   --sh-line        list, join: words on one line, for bash, zsh, ksh93, mksh and busybox (unix)

@@ -2,6 +2,7 @@
 ghost use Rattle.std.specs.Prelude.{◌≡◌, ◌↔◌, ◌⊎◌, ◌+◌, ◌<◌, ◌∷◌, [], ℕ, List, map, length, drop, IsTrue, IfErr, IfOk, IfSome, MatchOption, MatchResult, OnOk};
 ghost use Rattle.os_ignore.specs.Ignores.{IsAdded, files_of};
 ghost use Rattle.names_commands.specs.Ignoring.{AreRead, IsDirectory, IsFileIn, IsIgnored, IsPath, text_of, without_dot};
+ghost use Rattle.names_commands.specs.Why.{IsDecided, numbers_of};
 ghost use Rattle.program_frame.specs.declared.fault.Failure.TheVariants.{Memory};
 ghost use Rattle.program_frame.specs.declared.lists.fault.ListFault.TheVariants.{Run};
 ghost use Rattle.program_frame.specs.declared.lists.program_fault.Fault.TheVariants.{List as OfList, Words};
@@ -9,7 +10,7 @@ ghost use Rattle.names_commands.specs.Program.{IsFaultOf, IsFaultOfOne};
 ghost use Rattle.names_commands.specs.declared.fault.CommandFault.TheVariants.{NoFile, Unread};
 
 use crate::fault::{CommandFault, Fault};
-use os_ignore::Ignore;
+use os_ignore::{Ignore, Verdict};
 use program_frame::fault::Failure;
 use program_frame::files::{FileFault, Files};
 use program_frame::lists::fault::ListFault;
@@ -42,6 +43,25 @@ pub fn is_ignored<A: Allocator + Copy>(ignore: &Ignore<A>, name: &[u8]) -> bool
 {
     let (path, is_dir) = path_of(without_dot(name));
     ignore.matched(path, is_dir).is_ignored()
+}
+
+/// The file and the line that decide a name, by their numbers.
+pub fn decider<A: Allocator + Copy>(ignore: &Ignore<A>, name: &[u8]) -> Option<(usize, usize)>
+    ensures { IsDecided (files_of ignore.now) name.now result }
+{
+    let (path, is_dir) = path_of(without_dot(name));
+    numbers_of(ignore.matched(path, is_dir))
+}
+
+/// The file and the line of a verdict, by their numbers.
+fn numbers_of(verdict: Verdict) -> Option<(usize, usize)>
+    ensures { result ≡ numbers_of verdict }
+{
+    match verdict {
+        Verdict::Neither => None,
+        Verdict::Ignored { file, line } => Some((file, line)),
+        Verdict::TakenIn { file, line } => Some((file, line)),
+    }
 }
 
 /// Reads the ignore files that values of `--ignore` state.
@@ -93,14 +113,23 @@ fn value_at<'a>(values: &[&'a str], index: usize) -> Option<&'a str>
     ensures within { IfSome result (λ _. index < length values.now) }
 {
     if index < values.len() {
-        Some(values[index])
+        Some(value_of(values, index))
     } else {
         None
     }
 }
 
+/// The value at `index`.
+pub fn value_of<'a>(values: &[&'a str], index: usize) -> &'a str
+    requires { index < length values.now }
+    ensures { drop index (map text_of values.now)
+        ≡ result.now ∷ drop (index + 1) (map text_of values.now) }
+{
+    values[index]
+}
+
 /// The directory and the name of the ignore file that a value of `--ignore` states.
-fn file_in(value: &[u8]) -> (&[u8], &[u8])
+pub fn file_in(value: &[u8]) -> (&[u8], &[u8])
     ensures { IsFileIn value.now result.0.now result.1.now }
 {
     match split_at_end(b'=', value) {

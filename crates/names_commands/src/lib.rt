@@ -27,4 +27,5 @@ pub mod pick;
 pub mod plan;
 pub mod program;
 pub mod task;
+mod why;
 mod words;

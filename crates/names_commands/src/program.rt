@@ -5,7 +5,7 @@ ghost use Rattle.program_frame.specs.Marked.{has_failed};
 ghost use Rattle.program_frame.specs.ProgramFault.{BlamesEnds};
 ghost use Rattle.names_commands.specs.Ignoring.{text_of};
 ghost use Rattle.names_commands.specs.Matching.{IsChosenBy};
-ghost use Rattle.names_commands.specs.Program.{Did, Does, RunsBut, RunsLine, RunsPatterns, RunsPick, RunsPlan, RunsTask, UnlessOutOfMemory};
+ghost use Rattle.names_commands.specs.Program.{Did, Does, RunsBut, RunsLine, RunsPatterns, RunsPick, RunsPlan, RunsReasons, RunsTask, RunsWhy, RunsWhyOn, UnlessOutOfMemory};
 
 use crate::command::{Command, Line, Request, options_of};
 use crate::fault::{CommandFault, Fault, Refusal};
@@ -16,6 +16,7 @@ use crate::option::NamesOption;
 use crate::pick::strings_of;
 use crate::plan::Plan;
 use crate::task::{OnPlatform, Settings, Task};
+use crate::why::Reasons;
 use glob_patterns::{GlobSet, GlobSetError};
 use os_str_bytes::{OsStr, Platform, Unix, Wasm, Windows};
 use program_frame::arguments::{ReadFault, read_arguments, values};
@@ -29,6 +30,7 @@ use program_frame::misuse::Misuse;
 use program_frame::os::Os;
 use std::alloc::Allocator;
 use std::io::{Read, Write};
+use std::marker::PhantomData;
 
 /// The program `names`: its words are those of a request ([`Request::parse`]).
 /// [`program_frame::lists::program::execute`] runs it.
@@ -193,6 +195,7 @@ fn run_command<'a, F: Files, A: Allocator + Copy, R: Read, W: Write>(
                 writer,
             )
         }
+        Command::Why(os) => run_why(alloc, files, given, os, max, reader, writer),
         Command::Join(os, last) => run_on(alloc, os, Task::Join(last), max, reader, writer),
         Command::JoinWords(last) => {
             run_on(alloc, Os::Unix, Task::JoinWords(last), max, reader, writer)
@@ -349,6 +352,81 @@ fn run_set<E: Platform, F: Files, A: Allocator + Copy, R: Read, W: Write>(
             };
             let names = Matching::new(picker, plan.form, plan.max);
             run_list(alloc, &names, reader, writer)
+        }
+        Err(fault) => Err(fault),
+    }
+}
+
+/// Returns the result for the lines that decide names on a platform.
+fn run_why<F: Files, A: Allocator + Copy, R: Read, W: Write>(
+    alloc: A,
+    files: &F,
+    given: Line<'_, '_>,
+    os: Os,
+    max: usize,
+    reader: &mut Marked<R>,
+    writer: &mut Marked<W>,
+) -> Result<(), Fault>
+    requires reader_unmarked { has_failed reader.old ≡ false }
+    requires writer_unmarked { has_failed writer.old ≡ false }
+    ensures run { Did R.remaining W.contents (RunsWhy (F.known files.now) A given.now os max)
+        reader.old reader.new writer.old writer.new result }
+    ensures ends { BlamesEnds result (has_failed reader.new) (has_failed writer.new) }
+{
+    match os {
+        Os::Unix => run_why_on::<Unix, F, A, R, W>(alloc, files, given, max, reader, writer),
+        Os::Windows => run_why_on::<Windows, F, A, R, W>(alloc, files, given, max, reader, writer),
+        Os::Wasm => run_why_on::<Wasm, F, A, R, W>(alloc, files, given, max, reader, writer),
+    }
+}
+
+/// Returns the result for the lines that decide names, where the platform is a type.
+fn run_why_on<E: Platform, F: Files, A: Allocator + Copy, R: Read, W: Write>(
+    alloc: A,
+    files: &F,
+    given: Line<'_, '_>,
+    max: usize,
+    reader: &mut Marked<R>,
+    writer: &mut Marked<W>,
+) -> Result<(), Fault>
+    requires reader_unmarked { has_failed reader.old ≡ false }
+    requires writer_unmarked { has_failed writer.old ≡ false }
+    ensures run { Did R.remaining W.contents (UnlessOutOfMemory
+        (RunsWhyOn (F.known files.now) A given.now ⟦<E as Platform>⟧ max))
+        reader.old reader.new writer.old writer.new result }
+    ensures ends { BlamesEnds result (has_failed reader.new) (has_failed writer.new) }
+{
+    match values(alloc, given, NamesOption::Ignore) {
+        Ok(names) => run_reasons::<E, F, A, R, W>(alloc, files, &names, max, reader, writer),
+        Err(_) => Err(Fault::List(ListFault::Run(Failure::Memory))),
+    }
+}
+
+/// Returns the result for the lines of ignore files that decide names. The files are read once.
+fn run_reasons<E: Platform, F: Files, A: Allocator + Copy, R: Read, W: Write>(
+    alloc: A,
+    files: &F,
+    values: &[&str],
+    max: usize,
+    reader: &mut Marked<R>,
+    writer: &mut Marked<W>,
+) -> Result<(), Fault>
+    requires reader_unmarked { has_failed reader.old ≡ false }
+    requires writer_unmarked { has_failed writer.old ≡ false }
+    ensures run { Did R.remaining W.contents (UnlessOutOfMemory
+        (RunsReasons (F.known files.now) A ⟦<E as Platform>⟧ max (map text_of values.now)))
+        reader.old reader.new writer.old writer.new result }
+    ensures ends { BlamesEnds result (has_failed reader.new) (has_failed writer.new) }
+{
+    match read_ignore(alloc, files, values) {
+        Ok(ignore) => {
+            let reasons = Reasons {
+                values,
+                ignore: &ignore,
+                max,
+                platform: PhantomData::<E>,
+            };
+            run_list(alloc, &reasons, reader, writer)
         }
         Err(fault) => Err(fault),
     }

@@ -29,7 +29,7 @@ use Rattle.names_commands.specs.Options.{has_value, spelled}
 use Rattle.names_commands.specs.Pick.{glob_words, in_any_folder}
 use Rattle.names_commands.specs.Program.{Does, EndsAtOnce, Fault, IsFileFault, RejectsLine, RunsBut, RunsLine, RunsPatterns, RunsPlan, RunsTo, UnlessOutOfMemory}
 use Rattle.names_commands.specs.declared.command.Command.{Command}
-use Rattle.names_commands.specs.declared.command.Command.TheVariants.{ListNames, ListWords, Filter, Join, JoinWords, Check, Help, Version}
+use Rattle.names_commands.specs.declared.command.Command.TheVariants.{ListNames, ListWords, Filter, Why, Join, JoinWords, Check, Help, Version}
 use Rattle.names_commands.specs.declared.command.Name.{Name as DeclaredName}
 use Rattle.names_commands.specs.declared.command.Name.TheVariants as name
 use Rattle.names_commands.specs.declared.command.Request.{Request}
@@ -58,6 +58,12 @@ not_list : codes "filter" ≡ codes "list" → ⊥
 not_list e =
     let n : 102 ≡ 108 = ap (λ l. get_or l 0 0) e in
     let no : 102 ≢ 108 = omega arith in
+    no n
+
+not_why : codes "filter" ≡ codes "why" → ⊥
+not_why e =
+    let n : 102 ≡ 119 = ap (λ l. get_or l 0 0) e in
+    let no : 102 ≢ 119 = omega arith in
     no n
 
 not_join : codes "filter" ≡ codes "join" → ⊥
@@ -217,6 +223,7 @@ module _ (known : KnownFiles) (A : Type 0) (file : List ℕ) (input left old new
     by_command (ListNames os pick) max usual m does = absurd (not_list (is_word name.List os m.0 m.1.0))
     by_command (ListWords form pick) max usual m does = absurd (not_list (is_word name.List Unix m.0 m.1.0))
     by_command (Filter os pick) max usual m does = by_platform os m.0 pick max (sym is_platform ∙ first (later m.1.0)) (later (later m.1.0)) usual m.1.1.1 does
+    by_command (Why os) max usual m does = absurd (not_why (is_word name.Why os [] m.0))
     by_command (Join os last) max usual m does = absurd (not_join (is_word name.Join os [] m.0))
     by_command (JoinWords last) max usual m does = absurd (not_join (is_word name.Join Unix [] m.0))
     by_command (Check os) max usual m does = absurd (not_check (is_word name.Check os [] m.0))

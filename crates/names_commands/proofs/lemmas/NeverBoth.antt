@@ -12,7 +12,7 @@ use Rattle.program_frame.specs.declared.os.Os.TheVariants.{Unix, Windows, Wasm}
 use Rattle.names_commands.specs.Command.{AsksFor, Fits, FitsOne, HasOperands, IsForPlatform, IsInvalid, IsLimit, IsMax, IsMaybePick, IsMisplaced, IsMissing, IsMisuse, IsTooMany, Line, MakesUp, NeedsPick, NoWords, SomePicked, TakesOption, name_word}
 use Rattle.names_commands.specs.Pick.{TakesIgnore, glob_words}
 use Rattle.names_commands.specs.declared.command.Command.{Command}
-use Rattle.names_commands.specs.declared.command.Command.TheVariants.{ListNames, ListWords, Filter, Join, JoinWords, Check, Help, Version}
+use Rattle.names_commands.specs.declared.command.Command.TheVariants.{ListNames, ListWords, Filter, Why, Join, JoinWords, Check, Help, Version}
 use Rattle.names_commands.specs.declared.command.Name.{Name}
 use Rattle.names_commands.specs.declared.command.Name.TheVariants as name
 use Rattle.names_commands.specs.declared.command.Request.{Request}
@@ -34,30 +34,41 @@ not_nil e = cc
 abbrev letter : Name → ℕ
 letter name.List = 108
 letter name.Filter = 102
+letter name.Why = 119
 letter name.Join = 106
 letter name.Check = 99
 
 letter_is : (c : Name) → letter c ≡ get_or (name_word c) 0 0
 letter_is name.List = refl
 letter_is name.Filter = refl
+letter_is name.Why = refl
 letter_is name.Join = refl
 letter_is name.Check = refl
 
 one_letter : (c d : Name) → letter c ≡ letter d → c ≡ d
 one_letter name.List name.List e = refl
 one_letter name.List name.Filter e = absurd (omega (arith, e))
+one_letter name.List name.Why e = absurd (omega (arith, e))
 one_letter name.List name.Join e = absurd (omega (arith, e))
 one_letter name.List name.Check e = absurd (omega (arith, e))
 one_letter name.Filter name.List e = absurd (omega (arith, e))
 one_letter name.Filter name.Filter e = refl
+one_letter name.Filter name.Why e = absurd (omega (arith, e))
 one_letter name.Filter name.Join e = absurd (omega (arith, e))
 one_letter name.Filter name.Check e = absurd (omega (arith, e))
+one_letter name.Why name.List e = absurd (omega (arith, e))
+one_letter name.Why name.Filter e = absurd (omega (arith, e))
+one_letter name.Why name.Why e = refl
+one_letter name.Why name.Join e = absurd (omega (arith, e))
+one_letter name.Why name.Check e = absurd (omega (arith, e))
 one_letter name.Join name.List e = absurd (omega (arith, e))
 one_letter name.Join name.Filter e = absurd (omega (arith, e))
+one_letter name.Join name.Why e = absurd (omega (arith, e))
 one_letter name.Join name.Join e = refl
 one_letter name.Join name.Check e = absurd (omega (arith, e))
 one_letter name.Check name.List e = absurd (omega (arith, e))
 one_letter name.Check name.Filter e = absurd (omega (arith, e))
+one_letter name.Check name.Why e = absurd (omega (arith, e))
 one_letter name.Check name.Join e = absurd (omega (arith, e))
 one_letter name.Check name.Check e = refl
 
@@ -133,6 +144,7 @@ record IsMade (given : Line) : Type 0 where
   pub fits : Fits command given
   pub few : (TakesOption command option.Glob × AtMostOne more) ⊎ ((¬ (TakesOption command option.Glob)) × (more ≡ []))
   pub needs : NeedsPick given command → SomePicked given more
+  pub states : command ≡ name.Why → HasOption option.Ignore given
   pub for_platform : (it : NamesOption) → HasOption it given → IsForPlatform os it
 
 few_words : (glob : Option (Bor (List ℕ))) → AtMostOne (glob_words glob)
@@ -192,6 +204,7 @@ made given (ListNames os pick) m = record {
   fits = m.1.1.0;
   few = inl (tt, few_picked given os m.0 pick m.1.1.1.1);
   needs = needs_of given os m.0 pick m.1.1.1.1;
+  states = λ e. cc;
   for_platform = plain os given m.1.1.1.0 (ignores_of given os m.0 pick m.1.1.1.1);
 }
 made given (ListWords form pick) m = record {
@@ -202,6 +215,7 @@ made given (ListWords form pick) m = record {
   fits = m.1.1.0;
   few = inl (tt, few_picked given Unix m.0 pick m.1.1.1.1);
   needs = needs_of given Unix m.0 pick m.1.1.1.1;
+  states = λ e. cc;
   for_platform = λ it h. on_unix it;
 }
 made given (Filter os pick) m = record {
@@ -212,7 +226,19 @@ made given (Filter os pick) m = record {
   fits = m.1.1.0;
   few = inl (tt, few_picked given os m.0 (Some pick) m.1.1.1);
   needs = λ k. m.1.1.1.some;
+  states = λ e. cc;
   for_platform = plain os given (no_words name.Filter given m.1.1.0 (λ t. t) (λ t. t)) m.1.1.1.ignores;
+}
+made given (Why os) m = record {
+  command = name.Why;
+  os = os;
+  more = [];
+  operands = m.0;
+  fits = m.1.0;
+  few = inr (λ t. t, refl);
+  needs = not_needed name.Why given m.1.0 (λ e. cc) (λ t. t);
+  states = λ e. m.1.1.0;
+  for_platform = plain os given (no_words name.Why given m.1.0 (λ t. t) (λ t. t)) (λ h. m.1.1.1);
 }
 made given (Join os last) m = record {
   command = name.Join;
@@ -222,6 +248,7 @@ made given (Join os last) m = record {
   fits = m.1.0;
   few = inr (λ t. t, refl);
   needs = not_needed name.Join given m.1.0 (λ e. cc) (λ t. t);
+  states = λ e. cc;
   for_platform = plain os given m.1.1.0 (λ h. absurd (all_fit name.Join given m.1.0 option.Ignore h));
 }
 made given (JoinWords last) m = record {
@@ -232,6 +259,7 @@ made given (JoinWords last) m = record {
   fits = m.1.0;
   few = inr (λ t. t, refl);
   needs = not_needed name.Join given m.1.0 (λ e. cc) (λ t. t);
+  states = λ e. cc;
   for_platform = λ it h. on_unix it;
 }
 made given (Check os) m = record {
@@ -242,6 +270,7 @@ made given (Check os) m = record {
   fits = m.1;
   few = inr (λ t. t, refl);
   needs = not_needed name.Check given m.1 (λ e. cc) (λ t. t);
+  states = λ e. cc;
   for_platform = plain os given (no_words name.Check given m.1 (λ t. t) (λ t. t)) (λ h. absurd (all_fit name.Check given m.1 option.Ignore h));
 }
 made given Help m = absurd m
@@ -251,9 +280,10 @@ module _ (given : Line) (m : IsMade given) where
   not_missing : (what : List ℕ) → IsMissing given what → ⊥
   not_missing what (inl k) = not_nil (sym k.1 ∙ m.operands)
   not_missing what (inr (inl k)) = not_nil (tail_is (sym k.1.1 ∙ m.operands))
-  not_missing what (inr (inr k)) =
+  not_missing what (inr (inr (inl k))) =
       let same = one_command given m.command k.1.0 m.os k.1.1 m.more [] m.operands k.1.2.0 in
       k.1.2.1.1 (subst (SomePicked given) same.1.1 (m.needs (subst (NeedsPick given) (sym same.0) k.1.2.1.0)))
+  not_missing what (inr (inr (inr k))) = k.1.1.1 (m.states (one_command given m.command name.Why m.os k.1.0 m.more [] m.operands k.1.1.0).0)
 
   not_invalid : (max : ℕ) → IsMax given max → (what word : List ℕ) → IsInvalid given what word → ⊥
   not_invalid max limit what word (inl k) = k.1.0 m.command (head_is (sym k.1.1.1 ∙ m.operands))

@@ -7,4 +7,4 @@ pub returns-then-inverted-clause-misuse : goal.returns-then-inverted-clause-misu
 returns-then-inverted-clause-misuse c =
     let operands = c.requires.operands ∙ ap (λ m. name_word c.args.command ∷ os_word c.args.os ∷ m) c.requires.none in
     let none : ¬ (SomePicked c.args.given.now []) = ⊎_elim (λ more. more refl) (λ picked. let yes = c.picks.ensures.1 picked in let no = c.if-picks.false in cc) in
-    inr (inr (refl, (c.args.command, c.args.os, (operands, (inr (c.has-inverted.ensures.0 c.if-inverted.true), none)))))
+    inr (inr (inl (refl, (c.args.command, c.args.os, (operands, (inr (c.has-inverted.ensures.0 c.if-inverted.true), none))))))

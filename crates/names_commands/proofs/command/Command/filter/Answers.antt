@@ -12,4 +12,4 @@ returns-in-Ok-None-clause-misuse c =
     let more = operands_of c.args.more.now in
     let none = subst (IsMaybePick given c.args.os more) c.in-Ok-None.field-0-is c.in-Ok-None.ensures.pick in
     let no_more = none_picked given more none.0 in
-    inr (inr (refl, (Filter, c.args.os, (c.requires.operands ∙ ap (λ m. name_word Filter ∷ os_word c.args.os ∷ m) no_more, (inl refl, subst (λ m. ¬ (SomePicked given m)) no_more none.0)))))
+    inr (inr (inl (refl, (Filter, c.args.os, (c.requires.operands ∙ ap (λ m. name_word Filter ∷ os_word c.args.os ∷ m) no_more, (inl refl, subst (λ m. ¬ (SomePicked given m)) no_more none.0))))))

@@ -1,0 +1,85 @@
+-- The lines of ignore files that decide names, and what is written of them.
+use Rattle.std.specs.Prelude.{◌≡◌, ℕ, ◌<◌, Bool, List, [], ◌∷◌, ◌++◌, drop, Option, None, Some, decimal}
+use Rattle.os_ignore.specs.Ignores.{HasNoText, HasText}
+use Rattle.os_ignore.specs.Verdicts.{IsVerdict}
+use Rattle.os_ignore.specs.declared.file.File.{File}
+use Rattle.os_ignore.specs.declared.verdict.Verdict.{Verdict}
+use Rattle.os_ignore.specs.declared.verdict.Verdict.TheVariants.{Neither, Ignored, TakenIn}
+use Rattle.os_quote.specs.Escape.{IsLineEscape}
+use Rattle.os_str_bytes.specs.Platform.{Ghosts}
+use Rattle.program_frame.specs.Rules.{ListRules}
+use Rattle.names_commands.specs.Ignoring.{IsFileIn, IsPath, without_dot}
+use Rattle.names_commands.specs.Matching.{IsNoName}
+use Rattle.names_commands.specs.declared.fault.Refusal.{Refusal}
+use Rattle.names_commands.specs.declared.matching.Form.TheVariants as form
+
+-- the file and the line of a verdict, by their numbers
+abbrev pub numbers_of : Verdict → Option (ℕ × ℕ)
+numbers_of Neither = None
+numbers_of (Ignored file line) = Some (file, line)
+numbers_of (TakenIn file line) = Some (file, line)
+
+-- the name of the file that the value at this index states
+pub record IsNameAt (values : List (List ℕ)) (index : ℕ) (name : List ℕ) : Type 0 where
+  pub value : List ℕ
+  pub after : List (List ℕ)
+  pub at : drop index values ≡ value ∷ after
+  pub directory : List ℕ
+  pub states : IsFileIn value directory name
+
+-- a line of a file: the name of the file, a colon, the number of the line, a colon, its text, and a tab
+abbrev pub place_text : List ℕ → ℕ → List ℕ → List ℕ
+place_text file line pattern = (file ++ 0x3A ∷ []) ++ ((decimal line ++ 0x3A ∷ []) ++ (pattern ++ 0x09 ∷ []))
+
+module _ {A : Type 0} where
+  -- the file and the line that decide the name, by their numbers, or none does
+  pub record IsDecided (files : List (File A)) (name : List ℕ) (numbers : Option (ℕ × ℕ)) : Type 0 where
+    pub path : List ℕ
+    pub is_dir : Bool
+    pub path_is : IsPath (without_dot name) path is_dir
+    pub verdict : Verdict
+    pub verdict_is : IsVerdict files path is_dir verdict
+    pub numbers_are : numbers ≡ numbers_of verdict
+
+  -- a line that decides a name is in a file whose number is below the count, and that file has a line of its number
+  abbrev pub LinesAreKnown : ℕ → List (File A) → Type 0
+  LinesAreKnown count files = (name : List ℕ) (file line : ℕ) → IsDecided files name (Some (file, line)) → (file < count) × (HasNoText files file line → ⊥)
+
+-- on a platform that states this of its strings:
+module _ {E : Type 0} (p : Ghosts E) {A : Type 0} where
+  -- the text is the line of the file, each by its number, with the line unchanged, and the escape of the name on the same line
+  pub record IsReason (values : List (List ℕ)) (files : List (File A)) (name : List ℕ) (file line : ℕ) (text : List ℕ) : Type 0 where
+    pub file_name : List ℕ
+    pub file_is : IsNameAt values file file_name
+    pub pattern : List ℕ
+    pub pattern_is : HasText files file line pattern
+    pub escape : List ℕ
+    pub escape_is : IsLineEscape p.units name escape
+    pub text_is : text ≡ place_text file_name line pattern ++ (escape ++ 0x0A ∷ [])
+
+  -- that text, or nothing where no line decides the name
+  abbrev pub IsTextOfNumbers : List (List ℕ) → List (File A) → List ℕ → Option (ℕ × ℕ) → List ℕ → Type 0
+  IsTextOfNumbers values files name None text = text ≡ []
+  IsTextOfNumbers values files name (Some at) text = IsReason values files name at.0 at.1 text
+
+  -- the line that decides the name, and its escape
+  pub record IsDecidedText (values : List (List ℕ)) (files : List (File A)) (name text : List ℕ) : Type 0 where
+    pub numbers : Option (ℕ × ℕ)
+    pub decided : IsDecided files name numbers
+    pub text_is : IsTextOfNumbers values files name numbers text
+
+  -- this is written for a name
+  abbrev pub IsTextOfDecided : List (List ℕ) → List (File A) → List ℕ → List ℕ → Type 0
+  IsTextOfDecided values files name text = p.well_formed name × IsDecidedText values files name text
+
+  -- what is done with each name, where lines of ignore files decide names
+  abbrev pub deciding : ℕ → List (List ℕ) → List (File A) → ListRules Refusal
+  deciding max values files = record {
+    end = 0;
+    takes_unended = Unit {0};
+    max = max;
+    longest = max;
+    is_text = IsTextOfDecided values files;
+    refuses = IsNoName p form.Line;
+    is_of_long = λ name. ⊥;
+  }

@@ -1,0 +1,169 @@
+//! The lines of ignore files that decide names.
+ghost use Rattle.std.specs.Prelude.{◌≡◌, ◌++◌, ◌<◌, ℕ, List, map, length, IfErr, IfOk, OnErr, OnOk};
+ghost use Rattle.os_ignore.specs.Ignores.{HasNoText, HasText, files_of};
+ghost use Rattle.os_str_bytes.specs.Strings.{bytes};
+ghost use Rattle.program_frame.specs.Rules.{IsItemFault};
+ghost use Rattle.names_commands.specs.Ignoring.{text_of};
+ghost use Rattle.names_commands.specs.Why.{IsDecidedText, IsNameAt, IsReason, IsTextOfDecided, LinesAreKnown, deciding, place_text};
+
+use crate::fault::Refusal;
+use crate::ignoring::{decider, file_in, value_of};
+use crate::item::named;
+use os_ignore::Ignore;
+use os_str_bytes::{OsStr, Platform};
+use program_frame::lists::fault::ItemFault;
+use program_frame::lists::items::push_ended;
+use program_frame::lists::lines::push_line;
+use program_frame::lists::task::ListTask;
+use std::alloc::{AllocError, Allocator, Global};
+use std::marker::PhantomData;
+
+/// Each name that a line of the ignore files decides is written on a line, after that line.
+#[derive(Drop)]
+pub struct Reasons<'g, E, A: Allocator = Global> {
+    /// The values of `--ignore`, which state the files.
+    pub values: &'g [&'g str],
+    /// The lines of the files.
+    pub ignore: &'g Ignore<A>,
+    /// How many bytes a name may have.
+    pub max: usize,
+    /// The platform whose strings the names are.
+    pub platform: PhantomData<E>,
+    ghost known: { LinesAreKnown (length values.now) (files_of ignore.now) },
+}
+
+impl<'g, E: Platform, B: Allocator + Copy> ListTask for Reasons<'g, E, B> {
+    type Refusal = Refusal;
+
+    ghost rules = { λ r. deciding ⟦<E as Platform>⟧ r.max (map text_of r.values.now)
+        (files_of r.ignore.now) };
+
+    fn end(&self) -> u8 {
+        0
+    }
+
+    fn takes_unended(&self) -> bool {
+        true
+    }
+
+    fn max(&self) -> usize {
+        self.max
+    }
+
+    fn longest_item(&self) -> usize {
+        self.max
+    }
+
+    fn write_item<A: Allocator + Copy>(
+        &self,
+        alloc: A,
+        item: &[u8],
+        output: &mut Vec<u8, A>,
+    ) -> Result<(), ItemFault<Refusal>> {
+        write_decided::<E, A, B>(alloc, self.values, self.ignore, item, output)
+    }
+}
+
+/// Appends the line that decides a name, and the escape of the name, if some line decides it.
+fn write_decided<E: Platform, A: Allocator + Copy, B: Allocator + Copy>(
+    alloc: A,
+    values: &[&str],
+    ignore: &Ignore<B>,
+    item: &[u8],
+    output: &mut Vec<u8, A>,
+) -> Result<(), ItemFault<Refusal>>
+    requires { LinesAreKnown (length values.now) (files_of ignore.now) }
+    ensures ok { OnOk result ((text : List ℕ)
+        × (IsTextOfDecided ⟦<E as Platform>⟧ (map text_of values.now) (files_of ignore.now) item.now
+        text × (output.new.items ≡ output.old.items ++ text))) }
+    ensures fault { (max : ℕ) → IfErr result (λ fault. IsItemFault (deciding ⟦<E as Platform>⟧ max
+        (map text_of values.now) (files_of ignore.now)) item.now fault) }
+    ensures unchanged { OnErr result (output.new.items ≡ output.old.items) }
+{
+    let name = match named::<E>(item) {
+        Ok(name) => name,
+        Err(fault) => return Err(fault),
+    };
+    let Ok(text) = text_of_decided::<E, A, B>(alloc, values, ignore, name) else {
+        return Err(ItemFault::Memory);
+    };
+    match output.extend_from_slice(&text) {
+        Ok(()) => Ok(()),
+        Err(_) => Err(ItemFault::Memory),
+    }
+}
+
+/// What is written for a name: the line that decides it, and its escape, or nothing where none does.
+fn text_of_decided<E: Platform, A: Allocator + Copy, B: Allocator + Copy>(
+    alloc: A,
+    values: &[&str],
+    ignore: &Ignore<B>,
+    name: OsStr<'_, E>,
+) -> Result<Vec<u8, A>, AllocError>
+    requires { LinesAreKnown (length values.now) (files_of ignore.now) }
+    ensures { IfOk result (λ text. IsDecidedText ⟦<E as Platform>⟧ (map text_of values.now)
+        (files_of ignore.now) (bytes name.entry) text.items) }
+{
+    match decider(ignore, name.as_encoded_bytes()) {
+        Some((file, line)) => reason_of::<E, A, B>(alloc, values, ignore, file, line, name),
+        None => Ok(Vec::new(alloc)),
+    }
+}
+
+/// The line of a file, each by its number, and the escape of the name that it decides.
+fn reason_of<E: Platform, A: Allocator + Copy, B: Allocator + Copy>(
+    alloc: A,
+    values: &[&str],
+    ignore: &Ignore<B>,
+    file: usize,
+    line: usize,
+    name: OsStr<'_, E>,
+) -> Result<Vec<u8, A>, AllocError>
+    requires file { file < length values.now }
+    requires line { HasNoText (files_of ignore.now) file line → ⊥ }
+    ensures { IfOk result (λ reason. IsReason ⟦<E as Platform>⟧ (map text_of values.now)
+        (files_of ignore.now) (bytes name.entry) file line reason.items) }
+{
+    let file_name = name_at(values, file);
+    let pattern = pattern_at(ignore, file, line);
+    let mut reason = place_of(alloc, file_name, line, pattern)?;
+    push_line(alloc, name, &mut reason)?;
+    Ok(reason)
+}
+
+/// The name of a file, the number of a line and its text.
+fn place_of<A: Allocator + Copy>(
+    alloc: A,
+    file: &[u8],
+    line: usize,
+    pattern: &[u8],
+) -> Result<Vec<u8, A>, AllocError>
+    ensures { IfOk result (λ place. place.items ≡ place_text file.now line pattern.now) }
+{
+    let number = line.to_string(alloc)?;
+    let mut place = Vec::new(alloc);
+    push_ended(file, b':', &mut place)?;
+    push_ended(number.as_bytes(), b':', &mut place)?;
+    push_ended(pattern, b'\t', &mut place)?;
+    Ok(place)
+}
+
+/// The name of the file that the value at `index` states.
+fn name_at<'a>(values: &[&'a str], index: usize) -> &'a [u8]
+    requires { index < length values.now }
+    ensures { IsNameAt (map text_of values.now) index result.now }
+{
+    let (_, name) = file_in(value_of(values, index).as_bytes());
+    name
+}
+
+/// The text of the line of a file, each by its number.
+fn pattern_at<A: Allocator + Copy>(ignore: &Ignore<A>, file: usize, line: usize) -> &[u8]
+    requires { HasNoText (files_of ignore.now) file line → ⊥ }
+    ensures { HasText (files_of ignore.now) file line result.now }
+{
+    match ignore.line(file, line) {
+        Some(pattern) => pattern,
+        None => unreachable!(),
+    }
+}
