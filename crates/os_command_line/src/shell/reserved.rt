@@ -1,4 +1,5 @@
-//! Words that a shell doesn't run as a command where they are first on a line.
+//! Words that a shell doesn't run as a command where they are first on a line. They are listed with
+//! their sources in `specs/ReservedWords.antt`, and each of its four lists has a function.
 ghost use Rattle.std.specs.Prelude.{◌≡◌};
 ghost use Rattle.std.specs.Str.{bytes_eq};
 ghost use Rattle.os_command_line.specs.ReservedWords.{posix_words, ksh_words, zsh_words, mksh_words, is_among, ends_with_colon, is_reserved};
