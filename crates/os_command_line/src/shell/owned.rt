@@ -180,7 +180,8 @@ pub fn push_word_line<A: Allocator>(
     Ok(())
 }
 
-/// Appends a name in a form.
+/// Appends a name in a form. It is written twice, the first time to count its bytes: so the line
+/// grows at once, or is left as it was.
 fn append<A: Allocator>(
     line: &mut Vec<u8, A>,
     form: Form,
