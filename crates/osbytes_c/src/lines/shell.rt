@@ -1,4 +1,5 @@
-//! Names as words of a shell.
+//! Names as words of a shell. Each export states its clauses whole, for who comes to it from the
+//! header.
 ghost use Rattle.std.specs.Prelude.{◌≡◌, ◌⊎◌, ◌<◌, ◌↔◌, ◌*◌, ◌+◌, ◌^◌, ◌∷◌, [], length, MatchResult, OnOk};
 ghost use Rattle.os_command_line.specs.Fish.{fish_word, IsFishText};
 ghost use Rattle.os_command_line.specs.ReservedWords.{first_word};

@@ -1,6 +1,7 @@
 //! One piece of a split.
-ghost use Rattle.std.specs.Prelude.{◌≡◌, ◌≤◌, ◌<◌, ◌+◌, ◌↔◌, ◌⊎◌, length, drop, take, MatchOption, IfSome};
+ghost use Rattle.std.specs.Prelude.{◌≡◌, ◌≤◌, ◌<◌, ◌+◌, ◌↔◌, ◌∷◌, [], length, drop, take, MatchOption, IfSome};
 ghost use Rattle.wtf8_core.specs.Occurrence.{OccursNowhere};
+ghost use Rattle.osbytes_c.specs.Answers.{IsOneOf};
 ghost use Rattle.osbytes_c.specs.Steps.{IsFirstCut, IsFirstPiece, IsLastCut, IsLastPiece, IsNoPattern};
 
 use crate::status::{DONE, NO_INDEX, NO_PATTERN};
@@ -25,7 +26,7 @@ pub extern "C" fn osb_core_cut(bytes: &[u8], pattern: &[u8], at: usize, piece: &
     ensures piece { result ≡ 0 → IsFirstPiece pattern.now bytes.now at piece.new }
     ensures index { (result ≡ 18) ↔ (length bytes.now < at) }
     ensures pattern { (result ≡ 17) ↔ ((at ≤ length bytes.now) × IsNoPattern pattern.now) }
-    ensures answers { (result ≡ 0) ⊎ ((result ≡ 18) ⊎ (result ≡ 17)) }
+    ensures answers { IsOneOf (0 ∷ 18 ∷ 17 ∷ []) result }
 {
     if at > bytes.len() {
         return NO_INDEX;
@@ -43,7 +44,7 @@ pub extern "C" fn osb_core_rcut(bytes: &[u8], pattern: &[u8], at: usize, piece: 
     ensures piece { result ≡ 0 → IsLastPiece pattern.now bytes.now at piece.new }
     ensures index { (result ≡ 18) ↔ (length bytes.now < at) }
     ensures pattern { (result ≡ 17) ↔ ((at ≤ length bytes.now) × IsNoPattern pattern.now) }
-    ensures answers { (result ≡ 0) ⊎ ((result ≡ 18) ⊎ (result ≡ 17)) }
+    ensures answers { IsOneOf (0 ∷ 18 ∷ 17 ∷ []) result }
 {
     if at > bytes.len() {
         return NO_INDEX;
