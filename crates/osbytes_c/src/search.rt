@@ -1,7 +1,7 @@
 //! Where a pattern occurs. Each pattern is UTF-8.
 //!
-//! [`prefix`] tests prefixes and suffixes by units. [`boundary`] tests where strings may be cut, and
-//! [`compare`] orders them.
+//! [`prefix`] tests prefixes and suffixes by units. [`boundary`] tests where strings may be cut,
+//! and [`compare`] orders them.
 ghost use Rattle.std.specs.Prelude.{◌≡◌, ◌↔◌, ◌∷◌, []};
 ghost use Rattle.std.specs.Str.{IsUtf8};
 ghost use Rattle.wtf8_core.specs.Occurrence.{OccursNowhere, IsFirstIndex, IsLastIndex, IsPrefix, IsSuffix};

@@ -58,8 +58,8 @@ pub(crate) enum Step {
     End,
     /// It is a fault.
     Refuse(FaultKind),
-    /// The word goes on: the byte that is meant, if any, where the reader is then, and how many bytes
-    /// after this one it passes over.
+    /// The word goes on: the byte that is meant, if any, where the reader is then, and how many
+    /// bytes after this one it passes over.
     Go(Option<u8>, State, usize),
 }
 
@@ -284,7 +284,8 @@ pub(crate) fn is_itself(first: bool, byte: u8) -> bool
     !(is_mark(byte) || is_blank(byte) || is_special(first, byte))
 }
 
-/// How many bytes after a byte open dollar-single-quotes with it, in a language that has such quotes.
+/// How many bytes after a byte open dollar-single-quotes with it, in a language that has such
+/// quotes.
 #[inline(always)]
 fn opening(language: Language, byte: u8, after: &[u8]) -> Option<usize>
     ensures { MatchOption result (opens_dollar language byte after.now ≡ false)
@@ -296,8 +297,8 @@ fn opening(language: Language, byte: u8, after: &[u8]) -> Option<usize>
     None
 }
 
-/// How many bytes open dollar-single-quotes after a `$`: a single quote, and each backslash and newline
-/// before it.
+/// How many bytes open dollar-single-quotes after a `$`: a single quote, and each backslash and
+/// newline before it.
 fn opening_len(after: &[u8]) -> Option<usize>
     ensures { MatchOption result (begins_quote after.now ≡ false)
         (λ len. (begins_quote after.now ≡ true) × (len ≡ opening_len after.now)) }

@@ -56,8 +56,8 @@ fn part_end(inside: bool, text: &[u8]) -> Option<usize>
     }
 }
 
-/// What comes after the argument with which a text begins, and whether it is bare: whether it has no
-/// quotation mark.
+/// What comes after the argument with which a text begins, and whether it is bare: whether it has
+/// no quotation mark.
 pub(crate) fn after_argument(text: &[u8]) -> (&[u8], bool)
     ensures { BeginsArgument text.now result.0.now result.1 }
 {

@@ -26,8 +26,8 @@ const SPACE: u16 = 0x20;
 /// doubled. The space that separates arguments is the caller's. The line is a vector of units, as
 /// `CreateProcessW` takes it; a program's name has other rules ([`command_line`]).
 ///
-/// cmd.exe reads a line by rules of its own, and in it `%NAME%` can't be quoted: nothing here writes
-/// for a batch file.
+/// cmd.exe reads a line by rules of its own, and in it `%NAME%` can't be quoted: nothing here
+/// writes for a batch file.
 ///
 /// # Errors
 ///

@@ -26,8 +26,9 @@ pub(crate) enum Shell {
     Fish,
 }
 
-/// Writes the word of a name in every POSIX shell into `out`, as far as there is room, and counts its
-/// bytes: at most four for each byte of the name, and three. `index` is that of the name's first NUL.
+/// Writes the word of a name in every POSIX shell into `out`, as far as there is room, and counts
+/// its bytes: at most four for each byte of the name, and three. `index` is that of the name's
+/// first NUL.
 #[unsafe(no_mangle)]
 pub extern "C" fn osb_core_shell_quote(
     name: &[u8],

@@ -88,7 +88,8 @@ fn write_units(bytes: &[u8], out: &mut [u16]) -> Result<usize, EncodingError>
 /// them. There are at most three for each unit.
 #[unsafe(no_mangle)]
 pub extern "C" fn osb_core_from_wide(units: &[u16], out: &mut [u8], count: &mut usize) -> u32
-    ensures written { IsWritten result (λ bytes. HasUnits bytes units.now) out.old out.new count.new }
+    ensures written { IsWritten result (λ bytes. HasUnits bytes units.now) out.old out.new
+        count.new }
     ensures answers { IsOneOf (0 ∷ 2 ∷ []) result }
 {
     let written = if units.len() >= LONG_WIDE {
@@ -102,7 +103,8 @@ pub extern "C" fn osb_core_from_wide(units: &[u16], out: &mut [u8], count: &mut 
     fits(written, out.len())
 }
 
-/// Writes the bytes of the string with these units, for which there is surely room, and counts them.
+/// Writes the bytes of the string with these units, for which there is surely room, and counts
+/// them.
 #[inline(always)]
 fn write_bytes(units: &[u16], out: &mut [u8]) -> usize
     requires { 3 * length units.now ≤ length out.now }

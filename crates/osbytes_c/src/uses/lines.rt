@@ -1,4 +1,5 @@
-//! For trying: what a caller of words, command lines and options concludes from one call, in each outcome.
+//! For trying: what a caller of words, command lines and options concludes from one call, in each
+//! outcome.
 ghost use Rattle.std.specs.Prelude.{◌≡◌, ◌⊎◌, ◌≤◌, ◌<◌, ◌↔◌, ◌*◌, ◌+◌, ◌∷◌, ◌++◌, [], true, false, List, ℕ, Option, drop, length, take, IfSome, MatchOption};
 ghost use Rattle.std.specs.Str.{chars};
 ghost use Rattle.wtf8_core.specs.Occurrence.{IsPrefix};
@@ -40,8 +41,8 @@ pub fn word_len(name: &[u8]) -> Option<usize>
     count_of!(osb_core_shell_quote(name), &mut 0)
 }
 
-/// How long the word of a name is in a POSIX shell where it is first on a line, or `None` if it has a NUL or is too
-/// long.
+/// How long the word of a name is in a POSIX shell where it is first on a line, or `None` if it has
+/// a NUL or is too long.
 pub fn first_word_len(name: &[u8]) -> Option<usize>
     ensures { MatchOption result
         (((index : ℕ) × IsFirstNul name.now index) ⊎ (usize.MAX < 4 * length name.now + 3))
@@ -126,8 +127,8 @@ pub fn name_len(name: &[u8]) -> Option<usize>
     count_of!(osb_core_windows_quote_name(name), &mut 0, &mut no_fault())
 }
 
-/// How many units a program's name and one argument take in two buffers, if there is room for both: with a space
-/// between them they are a command line of these.
+/// How many units a program's name and one argument take in two buffers, if there is room for both:
+/// with a space between them they are a command line of these.
 pub fn line_of_two(
     name: &[u8],
     argument: &[u8],
@@ -152,8 +153,8 @@ pub fn line_of_two(
     Some((len, more))
 }
 
-/// How many bytes the words of a line have with a 0 after each; `None` if there are no such options, the
-/// line has a NUL, isn't words or is too long.
+/// How many bytes the words of a line have with a 0 after each; `None` if there are no such
+/// options, the line has a NUL, isn't words or is too long.
 pub fn words_len(options: u32, line: &[u8]) -> Option<usize>
     ensures { MatchOption result
         ((3 < options) ⊎ (((fault : LineFault) × IsFaultOf (language_of options) line.now fault)
@@ -167,7 +168,8 @@ pub fn words_len(options: u32, line: &[u8]) -> Option<usize>
     )
 }
 
-/// How many bytes the words of a line take in a buffer with a 0 after each, if there is room for all.
+/// How many bytes the words of a line take in a buffer with a 0 after each, if there is room for
+/// all.
 pub fn words_in(options: u32, line: &[u8], buffer: &mut [u8]) -> Option<usize>
     ensures { IfSome result
         (λ len. AreEndedWords (language_of options) line.now (take len buffer.new)) }

@@ -44,8 +44,8 @@ pub fn components_in(platform: u32, path: &[u8], array: &mut [Part]) -> Result<u
     len_of!(osb_core_path_components(platform, path, array))
 }
 
-/// What of a path follows the components of a base; `None` if it doesn't start with them, or there is no
-/// such platform.
+/// What of a path follows the components of a base; `None` if it doesn't start with them, or there
+/// is no such platform.
 pub fn rest_after<'a>(platform: u32, path: &'a [u8], base: &[u8]) -> Option<&'a [u8]>
     ensures { MatchOption result
         ((2 < platform) ⊎ (¬ (StartsWith (style_on platform) path.entry.now base.now)))

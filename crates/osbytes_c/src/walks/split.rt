@@ -109,7 +109,8 @@ fn last_piece(bytes: &[u8], pattern: &str, at: usize) -> Piece
     }
 }
 
-/// Where the first piece of what comes after an index ends, `None` if the pattern doesn't occur there.
+/// Where the first piece of what comes after an index ends, `None` if the pattern doesn't occur
+/// there.
 #[inline(always)]
 pub(crate) fn first_edge(bytes: &[u8], pattern: &str, at: usize) -> Option<usize>
     requires { at ≤ length bytes.now }
@@ -125,8 +126,8 @@ pub(crate) fn first_edge(bytes: &[u8], pattern: &str, at: usize) -> Option<usize
     }
 }
 
-/// Where the last piece of what comes before an index starts, and where the rest before it ends; `None` if
-/// the pattern doesn't occur there.
+/// Where the last piece of what comes before an index starts, and where the rest before it ends;
+/// `None` if the pattern doesn't occur there.
 #[inline(always)]
 pub(crate) fn last_edge(bytes: &[u8], pattern: &str, at: usize) -> Option<(usize, usize)>
     requires { at ≤ length bytes.now }
