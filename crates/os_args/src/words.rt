@@ -5,7 +5,8 @@ ghost use Rattle.os_args.specs.Word.{dashes};
 
 use os_str_ext::{OsStr, Platform};
 
-/// The word at `index`, or `None` if there are at most `index` words.
+/// The word at `index`, or `None` if there are at most `index` words. Crates that take lists of
+/// strings have a copy each, since sharing these lines would take a public call.
 pub(crate) fn first_after<'a, E: Platform>(
     words: &[OsStr<'a, E>],
     index: usize,

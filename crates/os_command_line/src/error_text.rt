@@ -32,7 +32,8 @@ pub(crate) fn write_at_unit<W: fmt::Write>(
     write_number(index, f)
 }
 
-/// Writes the decimal digits of a number, and ignores the width of the formatter.
+/// Writes the decimal digits of a number, and ignores the width of the formatter. Crates whose
+/// errors print an index have a copy each, since sharing these lines would take a public call.
 fn write_number<W: fmt::Write>(number: usize, f: &mut fmt::Formatter<W>) -> fmt::Result
     ensures { WritesStyledOnOk W.write_str_gives f.old result (decimal number) f.new }
 {

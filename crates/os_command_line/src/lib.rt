@@ -12,4 +12,5 @@
 
 mod error_text;
 pub mod shell;
+mod strings;
 pub mod windows;

@@ -1,4 +1,5 @@
-//! Paths of a platform that are built: each is a string of it.
+//! Paths of a platform that are built: each is a string of it. A call has the name of the call of
+//! `path_building` that it makes and of the method of `PathExt` that makes it.
 ghost use Rattle.std.specs.Prelude.{◌≡◌, Bool, IfOk};
 ghost use Rattle.platform_str.specs.Strings.{bytes, path_bytes, path_vec_of};
 ghost use Rattle.path_building.specs.Join.{IsJoin};

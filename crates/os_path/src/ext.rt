@@ -508,7 +508,8 @@ pub trait PathExt<'a>: Sized + Copy {
         alloc: A,
     ) -> Result<PathBuf<Self::Platform, A>, NormalizeError>
         ensures ok { IfOk result
-            (λ normal. IsNormalized Self.Platform.follows (bytes_of self) (path_vec_of normal).items) }
+            (λ normal. IsNormalized Self.Platform.follows (bytes_of self)
+            (path_vec_of normal).items) }
         ensures err { IfErr result
             (λ error. IsNormalizeFault Self.Platform.follows (bytes_of self) error) }
     {
@@ -673,7 +674,8 @@ pub trait PathExt<'a>: Sized + Copy {
         ensures below { IfOk result (λ joined. IsBelowBase Self.Platform.follows
             (bytes_of self) (path_vec_of joined).items) }
         ensures err { IfErr result
-            (λ error. IsJoinFault Self.Platform.follows (bytes_of self) (path_bytes path.entry) error) }
+            (λ error. IsJoinFault Self.Platform.follows (bytes_of self) (path_bytes path.entry)
+            error) }
     {
         let base = OsStr::from_encoded_bytes_unchecked(self.path_bytes());
         checked::join_checked(alloc, base, path.as_os_str())
@@ -707,7 +709,8 @@ pub trait PathExt<'a>: Sized + Copy {
         ensures below { IfOk result (λ ended. IsBelowBase Self.Platform.follows
             (bytes_of self) (path_vec_of ended).items) }
         ensures err { IfErr result
-            (λ error. IsJoinFault Self.Platform.follows (bytes_of self) (path_bytes path.entry) error) }
+            (λ error. IsJoinFault Self.Platform.follows (bytes_of self) (path_bytes path.entry)
+            error) }
     {
         let base = OsStr::from_encoded_bytes_unchecked(self.path_bytes());
         checked::join_checked_keeping_sep(alloc, base, path.as_os_str())

@@ -58,7 +58,8 @@ impl fmt::Display for ConvertError {
 
 impl Error for ConvertError {}
 
-/// Writes the decimal digits of a number, and ignores the width of the formatter.
+/// Writes the decimal digits of a number, and ignores the width of the formatter. Crates whose
+/// errors print an index have a copy each, since sharing these lines would take a public call.
 fn write_number<W: fmt::Write>(number: usize, f: &mut fmt::Formatter<W>) -> fmt::Result
     ensures { WritesStyledOnOk W.write_str_gives f.old result (decimal number) f.new }
 {

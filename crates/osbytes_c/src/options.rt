@@ -29,7 +29,8 @@ pub struct OptionSpan {
     pub end: usize,
 }
 
-/// What is first read of a word that comes before any `--`, which the word may be: then it is nothing.
+/// What is first read of a word that comes before any `--`, which the word may be: then it is
+/// nothing.
 #[unsafe(no_mangle)]
 pub extern "C" fn osb_core_option(options: u32, word: &[u8], span: &mut OptionSpan) -> u32
     ensures read { result ≡ 0 → IsOptionIn (IsReadAs (numbers_of options) word.now) word.now
@@ -50,8 +51,8 @@ pub extern "C" fn osb_core_option(options: u32, word: &[u8], span: &mut OptionSp
     DONE
 }
 
-/// What is read of the flags that are left of a word from an index on, unless they begin with `=`, after
-/// which a value comes.
+/// What is read of the flags that are left of a word from an index on, unless they begin with `=`,
+/// after which a value comes.
 #[unsafe(no_mangle)]
 pub extern "C" fn osb_core_flag(word: &[u8], at: usize, span: &mut OptionSpan) -> u32
     ensures flag { result ≡ 0 → IsOptionIn (IsFlag (drop at word.now)) word.now span.new

@@ -1,7 +1,7 @@
 //! Parts of paths, by their indices.
 //!
-//! [`predicates`] tests paths. [`parts`] finds their components, which [`part_list`] writes, and [`spans`]
-//! finds a part. [`joins`], [`forms`] and [`names`] build paths from others.
+//! [`predicates`] tests paths. [`parts`] finds their components, which [`part_list`] writes, and
+//! [`spans`] finds a part. [`joins`], [`forms`] and [`names`] build paths from others.
 ghost use Rattle.std.specs.Prelude.{◌≡◌, ◌<◌, ◌↔◌, ◌∷◌, [], length};
 ghost use Rattle.path_rules.specs.Parent.{HasNoParent};
 ghost use Rattle.path_rules.specs.Prefix.{IsPrefixed};

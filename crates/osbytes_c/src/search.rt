@@ -1,17 +1,18 @@
 //! Where a pattern occurs. Each pattern is UTF-8.
 //!
-//! [`prefix`] tests prefixes and suffixes by units. [`boundary`] tests where strings may be cut, and
-//! [`compare`] orders them.
-ghost use Rattle.std.specs.Prelude.{◌≡◌, ◌↔◌, ◌⊎◌};
+//! [`prefix`] tests prefixes and suffixes by units. [`boundary`] tests where strings may be cut,
+//! and [`compare`] orders them.
+ghost use Rattle.std.specs.Prelude.{◌≡◌, ◌↔◌, ◌∷◌, []};
 ghost use Rattle.std.specs.Str.{IsUtf8};
 ghost use Rattle.wtf8_core.specs.Occurrence.{OccursNowhere, IsFirstIndex, IsLastIndex, IsPrefix, IsSuffix};
 ghost use Rattle.os_str_ext.specs.Pieces.{OccursSomewhere};
+ghost use Rattle.osbytes_c.specs.Answers.{IsOneOf};
 
 pub mod boundary;
 pub mod compare;
 pub mod prefix;
 
-use crate::status::{DONE, NO_PATTERN, NONE};
+use crate::status::{DONE, NO_PATTERN, NONE, told};
 use crate::strings::{text, unix};
 use os_str_ext::OsStrBytesExt;
 
@@ -22,7 +23,7 @@ pub extern "C" fn osb_core_find(bytes: &[u8], pattern: &[u8], index: &mut usize)
     ensures found { result ≡ 0 → IsFirstIndex pattern.now bytes.now index.new }
     ensures none { result ≡ 3 → OccursNowhere pattern.now bytes.now × (index.new ≡ index.old) }
     ensures pattern { (result ≡ 17) ↔ (¬ (IsUtf8 pattern.now)) }
-    ensures answers { (result ≡ 0) ⊎ ((result ≡ 3) ⊎ (result ≡ 17)) }
+    ensures answers { IsOneOf (0 ∷ 3 ∷ 17 ∷ []) result }
 {
     let Some(pattern) = text(pattern) else {
         return NO_PATTERN;
@@ -42,7 +43,7 @@ pub extern "C" fn osb_core_rfind(bytes: &[u8], pattern: &[u8], index: &mut usize
     ensures found { result ≡ 0 → IsLastIndex pattern.now bytes.now index.new }
     ensures none { result ≡ 3 → OccursNowhere pattern.now bytes.now × (index.new ≡ index.old) }
     ensures pattern { (result ≡ 17) ↔ (¬ (IsUtf8 pattern.now)) }
-    ensures answers { (result ≡ 0) ⊎ ((result ≡ 3) ⊎ (result ≡ 17)) }
+    ensures answers { IsOneOf (0 ∷ 3 ∷ 17 ∷ []) result }
 {
     let Some(pattern) = text(pattern) else {
         return NO_PATTERN;
@@ -62,16 +63,12 @@ pub extern "C" fn osb_core_contains(bytes: &[u8], pattern: &[u8]) -> u32
     ensures found { result ≡ 0 → OccursSomewhere pattern.now bytes.now }
     ensures none { result ≡ 3 → ¬ (OccursSomewhere pattern.now bytes.now) }
     ensures pattern { (result ≡ 17) ↔ (¬ (IsUtf8 pattern.now)) }
-    ensures answers { (result ≡ 0) ⊎ ((result ≡ 3) ⊎ (result ≡ 17)) }
+    ensures answers { IsOneOf (0 ∷ 3 ∷ 17 ∷ []) result }
 {
     let Some(pattern) = text(pattern) else {
         return NO_PATTERN;
     };
-    if unix(bytes).contains(pattern) {
-        DONE
-    } else {
-        NONE
-    }
+    told(unix(bytes).contains(pattern))
 }
 
 /// Whether the string starts with the pattern.
@@ -80,16 +77,12 @@ pub extern "C" fn osb_core_starts_with(bytes: &[u8], pattern: &[u8]) -> u32
     ensures found { result ≡ 0 → IsPrefix pattern.now bytes.now }
     ensures none { result ≡ 3 → ¬ (IsPrefix pattern.now bytes.now) }
     ensures pattern { (result ≡ 17) ↔ (¬ (IsUtf8 pattern.now)) }
-    ensures answers { (result ≡ 0) ⊎ ((result ≡ 3) ⊎ (result ≡ 17)) }
+    ensures answers { IsOneOf (0 ∷ 3 ∷ 17 ∷ []) result }
 {
     let Some(pattern) = text(pattern) else {
         return NO_PATTERN;
     };
-    if unix(bytes).starts_with(pattern) {
-        DONE
-    } else {
-        NONE
-    }
+    told(unix(bytes).starts_with(pattern))
 }
 
 /// Whether the string ends with the pattern.
@@ -98,14 +91,10 @@ pub extern "C" fn osb_core_ends_with(bytes: &[u8], pattern: &[u8]) -> u32
     ensures found { result ≡ 0 → IsSuffix pattern.now bytes.now }
     ensures none { result ≡ 3 → ¬ (IsSuffix pattern.now bytes.now) }
     ensures pattern { (result ≡ 17) ↔ (¬ (IsUtf8 pattern.now)) }
-    ensures answers { (result ≡ 0) ⊎ ((result ≡ 3) ⊎ (result ≡ 17)) }
+    ensures answers { IsOneOf (0 ∷ 3 ∷ 17 ∷ []) result }
 {
     let Some(pattern) = text(pattern) else {
         return NO_PATTERN;
     };
-    if unix(bytes).ends_with(pattern) {
-        DONE
-    } else {
-        NONE
-    }
+    told(unix(bytes).ends_with(pattern))
 }

@@ -97,6 +97,8 @@ impl Target for Windows {
     }
 }
 
+// A unit of wasm is a byte, as on Unix. Both impls are written out, since a macro can't write ghost
+// members.
 impl Target for Wasm {
     type Unit = u8;
 

@@ -3,7 +3,8 @@ ghost use Rattle.std.specs.Prelude.{◌≡◌, ◌≢◌, IfSome, IfNone};
 ghost use Rattle.program_frame.specs.Os.{os_word};
 ghost use Rattle.program_frame.specs.declared.os.Os.{Os};
 
-/// The platform whose strings a command is about.
+/// The platform whose strings a command is about. What is generic over platforms is called by a
+/// `match` with an arm for each, since calls differ in which of their type arguments it is.
 #[derive(Clone, Copy, PartialEq, Eq)]
 pub enum Os {
     /// Strings of bytes.

@@ -8,7 +8,8 @@ use crate::fault::Failure;
 use crate::marked::Marked;
 use std::io::Write;
 
-/// Writes all of the output, and flushes. The mark must be unset (test: [`Marked::failed`]).
+/// Writes all of the output, and flushes. The mark must be unset (test: [`Marked::failed`]). It has
+/// a loop of its own, since `telling::write_text` writes to any writer and states nothing of a mark.
 ///
 /// # Errors
 ///

@@ -30,7 +30,8 @@ where
     F: FnMut(&Refusing<A>, Plan) -> Result<(), AllocError>,
     requires { F.IsAlwaysCallable test }
     ensures one { ((before after : F) → (heap : _)
-        → ¬ (F.step before heap (Plan.Nth 2) (Ok tt) after)) → IfOk result (λ refused. refused ≡ 0) }
+        → ¬ (F.step before heap (Plan.Nth 2) (Ok tt) after))
+        → IfOk result (λ refused. refused ≡ 0) }
     ensures all { ((before after : F) → (heap : _) → (plan : Plan)
         → (answer : Result Unit AllocError) → F.step before heap plan answer after → answer ≡ Ok tt)
         → IfErr result (λ _. (last : F) × RanUnder F.step test (each_request (2 ^ 64 - 1)) last) }

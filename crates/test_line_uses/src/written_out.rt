@@ -31,7 +31,8 @@ pub fn has_choice<L: Letters, A: Allocator>(
     path: &[u8],
 ) -> bool
     requires { L.formed path.now }
-    ensures { (written : List (List Mark)) → AreCompiled options.separators written choices.entry.now
+    ensures { (written : List (List Mark))
+        → AreCompiled options.separators written choices.entry.now
         → IsTrue result ↔ MatchesWrittenOut options written (L.letters path.now) }
 {
     laws::written_out::<A>();

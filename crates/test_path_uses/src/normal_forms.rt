@@ -72,7 +72,8 @@ pub fn cleaned_alike<A: Allocator + Copy>(
     path: Path<'_, Windows>,
     other: Path<'_, Windows>,
 ) -> Result<(PathBuf<Windows, A>, PathBuf<Windows, A>), AllocError>
-    ensures { IfOk result (λ both. DifferInSeparators (path_bytes path.entry) (path_bytes other.entry)
+    ensures { IfOk result (λ both.
+        DifferInSeparators (path_bytes path.entry) (path_bytes other.entry)
         → ¬ (IsVerbatimPath whose.Windows (path_bytes path.entry))
         → ¬ (IsVerbatimPath whose.Windows (path_bytes other.entry))
         → (path_vec_of both.0).items ≡ (path_vec_of both.1).items) }

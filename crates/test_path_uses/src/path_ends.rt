@@ -50,7 +50,8 @@ pub fn trimmed<'a, E: PathStyle + 'a>(path: Path<'a, E>) -> Path<'a, E>
 
 /// The path without the separators at its end: only a root alone still ends with one.
 pub fn ending_root_alone<'a, E: PathStyle + 'a>(path: Path<'a, E>) -> Path<'a, E>
-    ensures { EndsWithSeparator (rules_of_path E.follows (path_bytes path.entry)) (path_bytes result)
+    ensures { EndsWithSeparator (rules_of_path E.follows (path_bytes path.entry))
+        (path_bytes result)
         → IsRootAlone E.follows (path_bytes path.entry) }
 {
     path.trim_trailing_sep()

@@ -57,7 +57,9 @@ pub fn print_escaped_line<'a, E: Platform + 'a, W: fmt::Write>(
     f: &mut fmt::Formatter<W>,
 ) -> fmt::Result
     ensures { (text : List ℕ) × IsLineEscape E.units (bytes string.entry) text
-        × WritesStyledOnOk W.write_str_gives f.old result (filled (spec_fill (formatter_spec f.old)) (spec_align (formatter_spec f.old)) (spec_width (formatter_spec f.old)) text) f.new }
+        × WritesStyledOnOk W.write_str_gives f.old result
+        (filled (spec_fill (formatter_spec f.old)) (spec_align (formatter_spec f.old))
+        (spec_width (formatter_spec f.old)) text) f.new }
 {
     let shown = escaped_line(string);
     shown.fmt(f)
@@ -69,7 +71,9 @@ pub fn print_escaped<'a, E: Platform + 'a, W: fmt::Write>(
     f: &mut fmt::Formatter<W>,
 ) -> fmt::Result
     ensures { (text : List ℕ) × IsEscape E.units (bytes string.entry) text
-        × WritesStyledOnOk W.write_str_gives f.old result (filled (spec_fill (formatter_spec f.old)) (spec_align (formatter_spec f.old)) (spec_width (formatter_spec f.old)) text) f.new }
+        × WritesStyledOnOk W.write_str_gives f.old result
+        (filled (spec_fill (formatter_spec f.old)) (spec_align (formatter_spec f.old))
+        (spec_width (formatter_spec f.old)) text) f.new }
 {
     let shown = escaped(string);
     shown.fmt(f)

@@ -20,7 +20,8 @@ pub struct Quoted<'a, E: Platform + 'a> {
 impl<'a, E: Platform> fmt::Display for Quoted<'a, E> {
     ghost output = { λ quoted. Some (codes "'" ++ (E.lossy (bytes quoted.string) ++ codes "'")) };
 
-    ghost styled_output = { λ quoted _. Some (codes "'" ++ (E.lossy (bytes quoted.string) ++ codes "'")) };
+    ghost styled_output = { λ quoted _.
+        Some (codes "'" ++ (E.lossy (bytes quoted.string) ++ codes "'")) };
 
     fn fmt<W: fmt::Write>(&self, f: &mut fmt::Formatter<W>) -> fmt::Result {
         self.write_to(f)

@@ -111,8 +111,8 @@ pub fn quoted_fish(name: OsStr<'_, Unix>) -> Result<FishQuoted<'_>, FishError>
 /// written. The buffer after the word is unchanged. It doesn't allocate, and with an empty buffer
 /// only counts.
 ///
-/// Three times the name's length and two is below 2^64 (test: `name.len() <= usize::MAX / 3 - 1`). The
-/// word is never longer than that.
+/// Three times the name's length and two is below 2^64 (test: `name.len() <= usize::MAX / 3 - 1`).
+/// The word is never longer than that.
 ///
 /// # Errors
 ///

@@ -1,5 +1,5 @@
 //! Words joined into a line.
-ghost use Rattle.std.specs.Prelude.{◌≡◌, ◌++◌, ◌∷◌, ◌+◌, ◌<◌, [], map, drop, length, IfOk, IfErr, IfSome, OnOk, MatchOption};
+ghost use Rattle.std.specs.Prelude.{◌≡◌, ◌++◌, ◌∷◌, ◌+◌, ◌<◌, [], map, IfOk, IfErr, OnOk};
 ghost use Rattle.std.specs.List.{AllByRecursion};
 ghost use Rattle.platform_str.specs.Strings.{bytes, string_vec_of};
 ghost use Rattle.os_command_line.specs.ReservedWords.{line_words};
@@ -10,6 +10,7 @@ ghost use Rattle.os_command_line.specs.ShellWriting.{HasNoNul, IsFirstNameFault,
 
 use crate::shell::error::ShellError;
 use crate::shell::owned::{push_first, push_next, unix_string};
+use crate::strings::string_at;
 use platform_str::{OsStr, OsString, Unix};
 use std::alloc::{AllocError, Allocator};
 
@@ -78,26 +79,12 @@ fn push_after<A: Allocator>(
     ensures fault { IfErr result (λ fault. IsFirstNameFault (map bytes names.now) fault) }
 {
     let mut index = 0;
-    while let Some(name) = name_after(names, index) {
+    while let Some(name) = string_at(names, index) {
         push_space(line)?;
         push_next(line, name)?;
         index += 1;
     }
     Ok(())
-}
-
-/// Returns the name at `index`, or `None`.
-fn name_after<'a>(names: &[OsStr<'a, Unix>], index: usize) -> Option<OsStr<'a, Unix>>
-    ensures first { MatchOption result (drop index (map bytes names.now) ≡ [])
-        (λ name. drop index (map bytes names.now)
-        ≡ bytes name ∷ drop (index + 1) (map bytes names.now)) }
-    ensures within { IfSome result (λ _. index < length names.now) }
-{
-    if index < names.len() {
-        Some(names[index])
-    } else {
-        None
-    }
 }
 
 /// Appends a space.

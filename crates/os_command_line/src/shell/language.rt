@@ -7,10 +7,11 @@ pub enum Specials {
     /// the same words as arguments, in a script or at a prompt. Nothing in them is expanded or
     /// taken from a history, and no operator or comment ends them.
     ///
-    /// Outside quotes these are `| & ; < > ( ) $ * ? [ { } ~ !`, a grave accent and a carriage return,
-    /// and `# = ^` where they are first in a word; in double quotes `$`, a grave accent and `!`, also
-    /// after a backslash. (Where a history is read, bash and zsh expand `!`, and `^` first on a line;
-    /// a carriage return is a blank to fish, and ends a line that is pasted into a terminal.)
+    /// Outside quotes these are `| & ; < > ( ) $ * ? [ { } ~ !`, a grave accent and a carriage
+    /// return, and `# = ^` where they are first in a word; in double quotes `$`, a grave accent and
+    /// `!`, also after a backslash. (Where a history is read, bash and zsh expand `!`, and `^`
+    /// first on a line; a carriage return is a blank to fish, and ends a line that is pasted into a
+    /// terminal.)
     ///
     /// It promises nothing in these cases:
     ///

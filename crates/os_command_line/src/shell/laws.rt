@@ -23,7 +23,8 @@ pub fn lines()
         → (items : List (Result (List ℕ) WordsFault)) → IsRead l line items → HasOneFault items }
 {}
 
-/// Each byte of a line belongs to a gap, to a mark or to a word, up to the fault if the line has one.
+/// Each byte of a line belongs to a gap, to a mark or to a word, up to the fault if the line has
+/// one.
 #[tactic(auto, using(crate::proofs::lemmas::ShellParts::line_parts))]
 pub fn parts()
     ensures { (l : Language) → (line : List ℕ) → (items : List (Result (List ℕ) WordsFault))
@@ -65,11 +66,12 @@ pub fn line_words()
         → IsTextOf l text name }
 {}
 
-/// In each charset in which tab, newline, space, `"`, `$` and `'` are part of no longer character, the
-/// characters of a name's word are read as the name, and as no other: of its word in every POSIX shell, of
-/// that which is first on a line, and of that on one line where `$'..'` is read or isn't needed. The
-/// characters of a line of such words are read as these names. (UTF-8, GBK, GB18030, Big5, Shift-JIS and
-/// the EUCs are such charsets. The blanks between words are space, tab and newline.)
+/// In each charset in which tab, newline, space, `"`, `$` and `'` are part of no longer character,
+/// the characters of a name's word are read as the name, and as no other: of its word in every
+/// POSIX shell, of that which is first on a line, and of that on one line where `$'..'` is read or
+/// isn't needed. The characters of a line of such words are read as these names. (UTF-8, GBK,
+/// GB18030, Big5, Shift-JIS and the EUCs are such charsets. The blanks between words are space, tab
+/// and newline.)
 pub fn charset_words()
     ensures read { (l : Language) → (name : List ℕ) → AreBytes name
         → IsCharacterText l (quoted_word name) name }
@@ -86,9 +88,9 @@ pub fn charset_words()
         → ReadsCharacters l true cs b q → a ≡ b }
 {}
 
-/// Which charsets these are: each of one byte, and each of one or two bytes whose lead bytes are from 80
-/// (hexadecimal) on and whose trail bytes are from 28 on, as GBK, Big5 and Shift-JIS. In a charset of one
-/// byte, characters are read as the bytes of a line are.
+/// Which charsets these are: each of one byte, and each of one or two bytes whose lead bytes are
+/// from 80 (hexadecimal) on and whose trail bytes are from 28 on, as GBK, Big5 and Shift-JIS. In a
+/// charset of one byte, characters are read as the bytes of a line are.
 pub fn charsets()
     ensures single { IsCharset single_bytes }
     ensures double { (leads : ℕ → Bool) → (trails : ℕ → Bool)

@@ -46,8 +46,8 @@ pub fn quote<A: Allocator>(alloc: A, name: OsStr<'_, Unix>) -> Result<OsString<U
 }
 
 /// Returns the word on one line that bash, zsh, ksh93, mksh and busybox read as this name: what
-/// [`quoted_line`](crate::shell::quoted_line) prints, in the locales of that. It makes one request, of the
-/// word's length.
+/// [`quoted_line`](crate::shell::quoted_line) prints, in the locales of that. It makes one request,
+/// of the word's length.
 ///
 /// # Errors
 ///
@@ -79,10 +79,11 @@ pub fn quote_line<A: Allocator>(
     Ok(unix_string(word))
 }
 
-/// Appends the word of a name ([`quote`]) to a line. The space that separates words is the caller's.
+/// Appends the word of a name ([`quote`]) to a line. The space that separates words is the
+/// caller's.
 ///
-/// On an empty line the word is the first, by which a shell finds what to run: there a reserved word is
-/// quoted, as [`join`](crate::shell::join) quotes it.
+/// On an empty line the word is the first, by which a shell finds what to run: there a reserved
+/// word is quoted, as [`join`](crate::shell::join) quotes it.
 ///
 /// # Errors
 ///
@@ -149,8 +150,8 @@ pub(crate) fn push_next<A: Allocator>(
     Ok(())
 }
 
-/// Appends the word of a name on one line ([`quote_line`]) to a line. The space that separates words is
-/// the caller's. It quotes no reserved word: for a command's name use [`push_word`].
+/// Appends the word of a name on one line ([`quote_line`]) to a line. The space that separates
+/// words is the caller's. It quotes no reserved word: for a command's name use [`push_word`].
 ///
 /// # Errors
 ///
@@ -180,7 +181,8 @@ pub fn push_word_line<A: Allocator>(
     Ok(())
 }
 
-/// Appends a name in a form.
+/// Appends a name in a form. It is written twice, the first time to count its bytes: so the line
+/// grows at once, or is left as it was.
 fn append<A: Allocator>(
     line: &mut Vec<u8, A>,
     form: Form,

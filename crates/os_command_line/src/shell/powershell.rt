@@ -71,8 +71,8 @@ pub struct PowerShellQuoted<'a> {
 ///
 /// # Errors
 ///
-/// `LoneSurrogate` with the byte index of the first lone surrogate, else `Nul` with that of the first
-/// NUL.
+/// `LoneSurrogate` with the byte index of the first lone surrogate, else `Nul` with that of the
+/// first NUL.
 ///
 /// ```
 /// use os_command_line::shell::{PowerShellError, quoted_powershell};
@@ -99,8 +99,9 @@ pub fn quoted_powershell(name: OsStr<'_, Windows>) -> Result<PowerShellQuoted<'_
 }
 
 /// Writes a name as a single-quoted string of PowerShell ([`quoted_powershell`]) into a buffer,
-/// truncated if the buffer is too short for it, and returns the length of the whole string. What the
-/// string doesn't reach stays as it is. It doesn't allocate, and with an empty buffer only counts.
+/// truncated if the buffer is too short for it, and returns the length of the whole string. What
+/// the string doesn't reach stays as it is. It doesn't allocate, and with an empty buffer only
+/// counts.
 ///
 /// Twice the name's length and two is below 2^64 (test: `name.len() <= usize::MAX / 2 - 1`). The
 /// string is never longer than that.

@@ -19,8 +19,9 @@ use platform_str::{OsStr, Unix};
 /// an interactive shell. A program can still read a name as an option, as `-x`. (POSIX.1-2024,
 /// Shell Command Language, 2.2.2; the crate shlex has `quote` for texts.)
 ///
-/// **Position.** It is read as the name where it is an argument. First on a line a word such as `if` or
-/// `time` is a reserved word: [`join`](crate::shell::join), [`push_word`](crate::shell::push_word) and
+/// **Position.** It is read as the name where it is an argument. First on a line a word such as
+/// `if` or `time` is a reserved word: [`join`](crate::shell::join),
+/// [`push_word`](crate::shell::push_word) and
 /// [`write_quoted_first`](crate::shell::write_quoted_first) quote it there.
 ///
 /// **Locales.** The shell may read it in any charset in which tab, newline, space, `"`, `$` and `'`
@@ -69,8 +70,8 @@ pub fn quoted<'a>(name: OsStr<'a, Unix>) -> Result<Quoted<'a>, NulError>
     }
 }
 
-/// Returns a value that prints as a word on one line that bash, zsh, ksh93, mksh and busybox read as
-/// this name. Printing it allocates nothing.
+/// Returns a value that prints as a word on one line that bash, zsh, ksh93, mksh and busybox read
+/// as this name. Printing it allocates nothing.
 ///
 /// If the name is UTF-8 and each of its characters stays on the line (`os_quote::stays_on_line`),
 /// it is the word that [`quoted`] prints. Else it is `$'..'` (POSIX.1-2024, 2.2.4), in which `\\`,

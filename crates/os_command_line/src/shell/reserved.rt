@@ -1,10 +1,11 @@
-//! Words that a shell doesn't run as a command where they are first on a line.
+//! Words that a shell doesn't run as a command where they are first on a line. They are listed with
+//! their sources in `specs/ReservedWords.antt`, and each of its four lists has a function.
 ghost use Rattle.std.specs.Prelude.{◌≡◌};
 ghost use Rattle.std.specs.Str.{bytes_eq};
 ghost use Rattle.os_command_line.specs.ReservedWords.{posix_words, ksh_words, zsh_words, mksh_words, is_among, ends_with_colon, is_reserved};
 
-/// Whether some shell takes a name for something else than a command where it is first on a line as it
-/// is.
+/// Whether some shell takes a name for something else than a command where it is first on a line as
+/// it is.
 pub(crate) fn is_reserved(name: &[u8]) -> bool
     ensures { result ≡ is_reserved name.now }
 {

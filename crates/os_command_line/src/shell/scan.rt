@@ -70,13 +70,10 @@ fn ends_word(text: &[u8]) -> bool
 pub(crate) fn cut_quoted(text: &[u8]) -> Option<(&[u8], &[u8])>
     ensures { IfSome result (λ cut. BeginsQuoted text.now cut.0.now cut.1.now) }
 {
-    let Some((first, after)) = text.split_first() else {
-        return None;
-    };
-    if *first != b'\'' {
-        return None;
+    match text {
+        [b'\'', after @ ..] => cut_at_quote(after),
+        _ => None,
     }
-    cut_at_quote(after)
 }
 
 /// What comes after the word at the start, if that is one text in single quotes.
@@ -84,9 +81,7 @@ fn after_quoted(text: &[u8]) -> Option<&[u8]>
     ensures { IfSome result (λ rest. (quoted : List ℕ) × BeginsQuoted text.now quoted rest.now
         × Ends rest.now) }
 {
-    let Some((_, rest)) = cut_quoted(text) else {
-        return None;
-    };
+    let (_, rest) = cut_quoted(text)?;
     if ends_word(rest) { Some(rest) } else { None }
 }
 

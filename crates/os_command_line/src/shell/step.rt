@@ -58,8 +58,8 @@ pub(crate) enum Step {
     End,
     /// It is a fault.
     Refuse(FaultKind),
-    /// The word goes on: the byte that is meant, if any, where the reader is then, and how many bytes
-    /// after this one it passes over.
+    /// The word goes on: the byte that is meant, if any, where the reader is then, and how many
+    /// bytes after this one it passes over.
     Go(Option<u8>, State, usize),
 }
 
@@ -201,10 +201,7 @@ fn dollar_escape_step(after: &[u8]) -> Step
 fn octal_step(first: u8, digits: &[u8]) -> Step
     ensures { result ≡ octal_step first digits.now }
 {
-    let Some((second, digits)) = digits.split_first() else {
-        return Step::Refuse(FaultKind::UnknownEscape);
-    };
-    let Some((third, _)) = digits.split_first() else {
+    let [second, third, ..] = digits else {
         return Step::Refuse(FaultKind::UnknownEscape);
     };
     match octal_meaning(first, *second, *third) {
@@ -217,24 +214,16 @@ fn octal_step(first: u8, digits: &[u8]) -> Step
 fn letter_meaning(letter: u8) -> Option<u8>
     ensures { result ≡ letter_meaning letter }
 {
-    if is_mark(letter) {
-        Some(letter)
-    } else if letter == b'a' {
-        Some(0x07)
-    } else if letter == b'b' {
-        Some(0x08)
-    } else if letter == b'f' {
-        Some(0x0C)
-    } else if letter == b'n' {
-        Some(0x0A)
-    } else if letter == b'r' {
-        Some(0x0D)
-    } else if letter == b't' {
-        Some(0x09)
-    } else if letter == b'v' {
-        Some(0x0B)
-    } else {
-        None
+    match letter {
+        b'\'' | b'"' | b'\\' => Some(letter),
+        b'a' => Some(0x07),
+        b'b' => Some(0x08),
+        b'f' => Some(0x0C),
+        b'n' => Some(0x0A),
+        b'r' => Some(0x0D),
+        b't' => Some(0x09),
+        b'v' => Some(0x0B),
+        _ => None,
     }
 }
 
@@ -257,7 +246,7 @@ fn octal_meaning(first: u8, second: u8, third: u8) -> Option<u8>
 fn is_octal(byte: u8) -> bool
     ensures { result ≡ is_octal byte }
 {
-    byte >= b'0' && byte <= b'7'
+    matches!(byte, b'0'..=b'7')
 }
 
 /// Whether a byte is a quote or a backslash.
@@ -265,7 +254,7 @@ fn is_octal(byte: u8) -> bool
 fn is_mark(byte: u8) -> bool
     ensures { result ≡ is_mark byte }
 {
-    byte == b'\'' || byte == b'"' || byte == b'\\'
+    matches!(byte, b'\'' | b'"' | b'\\')
 }
 
 /// Whether a byte is between words.
@@ -273,7 +262,7 @@ fn is_mark(byte: u8) -> bool
 pub(crate) fn is_blank(byte: u8) -> bool
     ensures { result ≡ is_blank byte }
 {
-    byte == b' ' || byte == b'\t' || byte == b'\n'
+    matches!(byte, b' ' | b'\t' | b'\n')
 }
 
 /// Whether a byte means itself outside quotes in each language, first in a word or not.
@@ -284,7 +273,8 @@ pub(crate) fn is_itself(first: bool, byte: u8) -> bool
     !(is_mark(byte) || is_blank(byte) || is_special(first, byte))
 }
 
-/// How many bytes after a byte open dollar-single-quotes with it, in a language that has such quotes.
+/// How many bytes after a byte open dollar-single-quotes with it, in a language that has such
+/// quotes.
 #[inline(always)]
 fn opening(language: Language, byte: u8, after: &[u8]) -> Option<usize>
     ensures { MatchOption result (opens_dollar language byte after.now ≡ false)
@@ -296,8 +286,8 @@ fn opening(language: Language, byte: u8, after: &[u8]) -> Option<usize>
     None
 }
 
-/// How many bytes open dollar-single-quotes after a `$`: a single quote, and each backslash and newline
-/// before it.
+/// How many bytes open dollar-single-quotes after a `$`: a single quote, and each backslash and
+/// newline before it.
 fn opening_len(after: &[u8]) -> Option<usize>
     ensures { MatchOption result (begins_quote after.now ≡ false)
         (λ len. (begins_quote after.now ≡ true) × (len ≡ opening_len after.now)) }
@@ -306,13 +296,10 @@ fn opening_len(after: &[u8]) -> Option<usize>
     while let Some(joined) = after_joined(rest) {
         rest = joined;
     }
-    let Some((first, left)) = rest.split_first() else {
-        return None;
-    };
-    if *first == b'\'' {
-        return Some(after.len() - left.len());
+    match rest {
+        [b'\'', left @ ..] => Some(after.len() - left.len()),
+        _ => None,
     }
-    None
 }
 
 /// What comes after a backslash and a newline at the start.
@@ -321,19 +308,10 @@ pub(crate) fn after_joined(line: &[u8]) -> Option<&[u8]>
     ensures { MatchOption result ((rest : List ℕ) → line.now ≢ backslash ∷ newline ∷ rest)
         (λ rest. line.now ≡ backslash ∷ newline ∷ rest.now) }
 {
-    let Some((first, after)) = line.split_first() else {
-        return None;
-    };
-    if *first != b'\\' {
-        return None;
+    match line {
+        [b'\\', b'\n', rest @ ..] => Some(rest),
+        _ => None,
     }
-    let Some((second, rest)) = after.split_first() else {
-        return None;
-    };
-    if *second != b'\n' {
-        return None;
-    }
-    Some(rest)
 }
 
 /// Whether some shell gives a byte a meaning of its own outside quotes, first in a word or not.
@@ -345,7 +323,7 @@ fn is_special(first: bool, byte: u8) -> bool
         || is_pattern(byte)
         || is_history(byte)
         || byte == b'\r'
-        || (first && (byte == b'#' || byte == b'=' || byte == b'^'))
+        || (first && matches!(byte, b'#' | b'=' | b'^'))
 }
 
 /// Whether an interactive shell takes text of its history by a byte, also in double quotes.
@@ -368,33 +346,21 @@ fn is_special_doubled(byte: u8) -> bool
 fn is_operator(byte: u8) -> bool
     ensures { result ≡ is_operator byte }
 {
-    byte == b'|'
-        || byte == b'&'
-        || byte == b';'
-        || byte == b'<'
-        || byte == b'>'
-        || byte == b'('
-        || byte == b')'
+    matches!(byte, b'|' | b'&' | b';' | b'<' | b'>' | b'(' | b')')
 }
 
 #[inline(always)]
 fn is_pattern(byte: u8) -> bool
     ensures { result ≡ is_pattern byte }
 {
-    is_expansion(byte)
-        || byte == b'*'
-        || byte == b'?'
-        || byte == b'['
-        || byte == b'{'
-        || byte == b'}'
-        || byte == b'~'
+    is_expansion(byte) || matches!(byte, b'*' | b'?' | b'[' | b'{' | b'}' | b'~')
 }
 
 #[inline(always)]
 fn is_expansion(byte: u8) -> bool
     ensures { result ≡ is_expansion byte }
 {
-    byte == b'$' || byte == b'`'
+    matches!(byte, b'$' | b'`')
 }
 
 /// Whether a backslash escapes a byte in double quotes.
@@ -402,5 +368,5 @@ fn is_expansion(byte: u8) -> bool
 fn is_escapable(byte: u8) -> bool
     ensures { result ≡ is_escapable byte }
 {
-    is_expansion(byte) || byte == b'"' || byte == b'\\'
+    is_expansion(byte) || matches!(byte, b'"' | b'\\')
 }

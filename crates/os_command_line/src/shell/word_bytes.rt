@@ -143,8 +143,8 @@ impl<'a> Word<'a> {
         }
     }
 
-    /// The text that the bytes are read from, and whether each byte of it means itself: that of a word
-    /// which is one text in single quotes is what is in them.
+    /// The text that the bytes are read from, and whether each byte of it means itself: that of a
+    /// word which is one text in single quotes is what is in them.
     fn read_text(self) -> (bool, &'a [u8])
         ensures { raw_bytes self.entry.language result.0 result.1.now ≡ word_bytes self.entry }
     {
@@ -157,8 +157,8 @@ impl<'a> Word<'a> {
         }
     }
 
-    /// Whether the word is a string: whether it has the same bytes. `==` compares values of one type
-    /// only.
+    /// Whether the word is a string: whether it has the same bytes. `==` compares values of one
+    /// type only.
     ///
     /// ```
     /// use os_command_line::shell::{Specials, Words};
@@ -214,8 +214,8 @@ impl<'a> Word<'a> {
         count
     }
 
-    /// The word as a string of its own. It makes one request, of the length of the word's text with its
-    /// quotes.
+    /// The word as a string of its own. It makes one request, of the length of the word's text with
+    /// its quotes.
     ///
     /// # Errors
     ///

@@ -54,10 +54,11 @@ impl<'a> Words<'a> {
     /// Variables, commands and patterns aren't expanded: a byte by which some shell would begin one
     /// is rejected or means itself, as `specials` sets.
     ///
-    /// Words are bytes, and a line is read alike in every locale: as a shell reads it in a charset of one
-    /// byte (`shell::laws::charsets`), and in UTF-8, where no byte of ASCII is part of a longer character.
-    /// In GBK, GB18030, Big5 and Shift-JIS one may be, so a shell can read a backslash after a byte from
-    /// 0x80 on as part of a character. The blanks are space, tab and newline in every locale.
+    /// Words are bytes, and a line is read alike in every locale: as a shell reads it in a charset
+    /// of one byte (`shell::laws::charsets`), and in UTF-8, where no byte of ASCII is part of a
+    /// longer character. In GBK, GB18030, Big5 and Shift-JIS one may be, so a shell can read a
+    /// backslash after a byte from 0x80 on as part of a character. The blanks are space, tab and
+    /// newline in every locale.
     ///
     /// ```
     /// use os_command_line::shell::{FaultKind, Specials, Words, WordsFault};

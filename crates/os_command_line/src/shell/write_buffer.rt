@@ -13,8 +13,8 @@ use crate::shell::write_word::write_in;
 use platform_str::{OsStr, Unix};
 
 /// Writes the word of a name ([`quoted`](crate::shell::quoted)) into a buffer, truncated if the
-/// buffer is too short for it, and returns the length of the whole word. What the word doesn't reach
-/// stays as it is. It doesn't allocate, and with an empty buffer only counts.
+/// buffer is too short for it, and returns the length of the whole word. What the word doesn't
+/// reach stays as it is. It doesn't allocate, and with an empty buffer only counts.
 ///
 /// The bytes of a name that isn't UTF-8 are written as they are, in single quotes.
 ///
@@ -44,8 +44,8 @@ pub fn write_quoted(name: OsStr<'_, Unix>, buffer: &mut [u8]) -> Result<usize, N
     Ok(push_in(form, name, buffer))
 }
 
-/// Writes the word of a name that is first on a line into a buffer, as [`write_quoted`] does: a reserved
-/// word is quoted, as [`join`](crate::shell::join) quotes it.
+/// Writes the word of a name that is first on a line into a buffer, as [`write_quoted`] does: a
+/// reserved word is quoted, as [`join`](crate::shell::join) quotes it.
 ///
 /// Four times the name's length and 3 are below 2^64 (test: `name.len() <= usize::MAX / 4 - 1`).
 ///
@@ -73,8 +73,8 @@ pub fn write_quoted_first(name: OsStr<'_, Unix>, buffer: &mut [u8]) -> Result<us
     Ok(push_in(form, name, buffer))
 }
 
-/// Writes the word of a name on one line ([`quoted_line`](crate::shell::quoted_line)) into a buffer, as
-/// [`write_quoted`] does.
+/// Writes the word of a name on one line ([`quoted_line`](crate::shell::quoted_line)) into a
+/// buffer, as [`write_quoted`] does.
 ///
 /// Four times the name's length and 3 are below 2^64 (test: `name.len() <= usize::MAX / 4 - 1`).
 ///

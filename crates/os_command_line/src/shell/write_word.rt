@@ -47,7 +47,8 @@ fn write_single<S: Sink>(bytes: &[u8], sink: &mut S)
 /// Writes a name in dollar-single-quotes.
 fn write_dollar<S: Sink>(name: OsStr<'_, Unix>, sink: &mut S)
     requires { S.rules.has_room sink.old (dollar_quoted (symbols_of itself (bytes name))) }
-    ensures { S.rules.took sink.old (dollar_quoted (symbols_of itself (bytes name.entry))) sink.new }
+    ensures { S.rules.took sink.old (dollar_quoted (symbols_of itself (bytes name.entry)))
+        sink.new }
 {
     sink.take_text("$'");
     let mut high = false;

@@ -42,9 +42,9 @@ impl<'a> Arguments<'a> {
     /// - The program's name goes up to the first space or tab outside quotation marks. A quotation
     ///   mark opens or closes a quoted part and isn't part of the name; no backslash escapes it.
     /// - Arguments are separated by spaces and tabs outside quotation marks.
-    /// - 2n backslashes and a quotation mark are n backslashes, and the mark opens or closes a quoted
-    ///   part; 2n + 1 backslashes and a mark are n backslashes and a mark. Other backslashes mean
-    ///   themselves.
+    /// - 2n backslashes and a quotation mark are n backslashes, and the mark opens or closes a
+    ///   quoted part; 2n + 1 backslashes and a mark are n backslashes and a mark. Other backslashes
+    ///   mean themselves.
     /// - Two quotation marks within a quoted part are one mark, and the part goes on.
     ///
     /// std gives the running program's path for an empty line; here the name of an empty line is

@@ -47,7 +47,8 @@ pub fn needs_cmd(program: OsStr<'_, Windows>) -> bool
     is_batch
 }
 
-/// Whether a path is verbatim.
+/// Whether a path is verbatim. Unlike a path with a prefix of `path_rules`, it may also begin with
+/// `\??\`.
 fn is_verbatim(path: OsStr<'_, Windows>) -> bool
     ensures { IsTrue result ↔ IsVerbatim (units_of (bytes path.entry)) }
 {

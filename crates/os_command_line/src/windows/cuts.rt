@@ -31,9 +31,7 @@ pub(crate) fn cut_argument(line: OsStr<'_, Windows>) -> Option<(Argument<'_>, Os
         (λ cut. IsNext (units_of (bytes line.entry)) (argument_units cut.0)
         (units_of (bytes cut.1))) }
 {
-    let Some((text, rest, is_bare)) = cut_text(line) else {
-        return None;
-    };
+    let (text, rest, is_bare) = cut_text(line)?;
     let kind = Kind::of_argument(is_bare);
     Some((Argument { text, kind }, rest))
 }

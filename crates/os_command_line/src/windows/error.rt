@@ -7,8 +7,8 @@ use std::fmt;
 /// Why [`push_argument`](crate::windows::push_argument) or
 /// [`command_line`](crate::windows::command_line) writes no command line.
 ///
-/// Its text is `NUL at unit 3`, `quotation mark in the program's name at unit 3` or `out of memory`,
-/// at any width.
+/// Its text is `NUL at unit 3`, `quotation mark in the program's name at unit 3` or `out of
+/// memory`, at any width.
 ///
 /// ```
 /// use os_command_line::windows::CommandLineError;

@@ -8,8 +8,8 @@ use platform_str::{OsStr, OsString, Platform, Windows};
 use std::alloc::{AllocError, Allocator};
 
 impl<'a> Argument<'a> {
-    /// The argument as a string of its own: the one string with its units. It makes a vector of them
-    /// first, so the allocator is `Copy`, as `Global` and each `&A` are.
+    /// The argument as a string of its own: the one string with its units. It makes a vector of
+    /// them first, so the allocator is `Copy`, as `Global` and each `&A` are.
     ///
     /// # Errors
     ///

@@ -61,9 +61,7 @@ fn cut_at_quote(text: &[u8]) -> Option<(&[u8], &[u8])>
     ensures { MatchOption result (AllByRecursion (λ u. u ≢ quote) text.now)
         (λ cut. IsCutAtQuote text.now cut.0.now cut.1.now) }
 {
-    let Some(at) = memchr(b'"', text) else {
-        return None;
-    };
+    let at = memchr(b'"', text)?;
     let (before, rest) = text.split_at(at);
     let (_, after) = rest.split_at(1);
     Some((before, after))

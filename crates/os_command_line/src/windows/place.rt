@@ -3,8 +3,8 @@ ghost use Rattle.std.specs.Prelude.{◌≡◌};
 ghost use Rattle.os_command_line.specs.WindowsReader.{place};
 ghost use Rattle.os_command_line.specs.WindowsSteps.{EndsWithRun, IsAtQuote};
 
-/// In a program's name or in an argument, right after a quotation mark that closes a part or not, and
-/// inside quotation marks or not.
+/// In a program's name or in an argument, right after a quotation mark that closes a part or not,
+/// and inside quotation marks or not.
 #[derive(Clone, Copy)]
 pub(crate) struct Place {
     pub(crate) in_name: bool,
@@ -13,8 +13,8 @@ pub(crate) struct Place {
 }
 
 impl Place {
-    /// How many of the bytes before a quotation mark mean themselves, whether the mark does, and where
-    /// the reader is after it.
+    /// How many of the bytes before a quotation mark mean themselves, whether the mark does, and
+    /// where the reader is after it.
     pub(crate) fn at_quote(self, before: &[u8]) -> (usize, bool, Place)
         ensures { IsAtQuote self before.now result.0 result.1 result.2 }
     {

@@ -12,7 +12,7 @@ use memchr::{memchr, memchr3};
 fn is_blank(byte: u8) -> bool
     ensures { IsTrue result ↔ IsBlank byte }
 {
-    byte == b' ' || byte == b'\t'
+    matches!(byte, b' ' | b'\t')
 }
 
 /// What comes after the blanks at the start.
@@ -56,8 +56,8 @@ fn part_end(inside: bool, text: &[u8]) -> Option<usize>
     }
 }
 
-/// What comes after the argument with which a text begins, and whether it is bare: whether it has no
-/// quotation mark.
+/// What comes after the argument with which a text begins, and whether it is bare: whether it has
+/// no quotation mark.
 pub(crate) fn after_argument(text: &[u8]) -> (&[u8], bool)
     ensures { BeginsArgument text.now result.0.now result.1 }
 {
@@ -97,10 +97,10 @@ fn after_quote(inside: bool, run: usize, after: &[u8]) -> (bool, &[u8])
 fn strip_quote(text: &[u8]) -> Option<&[u8]>
     ensures { MatchOption result (StartsWithNoQuote text.now) (λ rest. text.now ≡ 0x22 ∷ rest.now) }
 {
-    let Some((byte, rest)) = text.split_first() else {
-        return None;
-    };
-    if *byte == b'"' { Some(rest) } else { None }
+    match text {
+        [b'"', rest @ ..] => Some(rest),
+        _ => None,
+    }
 }
 
 /// What comes after the program's name with which a line begins.

@@ -1,11 +1,12 @@
 //! Command lines, written.
-ghost use Rattle.std.specs.Prelude.{◌≡◌, ◌+◌, ◌<◌, ◌≤◌, ◌^◌, ◌++◌, ◌∷◌, false, [], ℕ, List, map, drop, length, IfSome, MatchOption, IsTrue, IsOk, OnOk, OnErr, IfOk, IfErr};
+ghost use Rattle.std.specs.Prelude.{◌≡◌, ◌+◌, ◌<◌, ◌≤◌, ◌^◌, ◌++◌, ◌∷◌, false, [], ℕ, List, map, OnOk, OnErr, IfOk, IfErr};
 ghost use Rattle.std.specs.List.{AllByRecursion};
 ghost use Rattle.wtf8_core.specs.UnitsOf.{units_of};
 ghost use Rattle.platform_str.specs.Strings.{bytes};
 ghost use Rattle.os_command_line.specs.Windows.{IsBlank, backslashes, IsPlain, IsTextOf, IsCommandLine};
 ghost use Rattle.os_command_line.specs.WindowsWriting.{HasNo, IsAddedFor, IsWritten, IsArgumentFault, IsCommandLineFault, IsWritableName, argument_text, escaped, in_marks, line_text};
 
+use crate::strings::string_at;
 use crate::windows::checks::{first_at, has_no_blank};
 use crate::windows::error::CommandLineError;
 use platform_str::{OsStr, Platform, Windows};
@@ -26,8 +27,8 @@ const SPACE: u16 = 0x20;
 /// doubled. The space that separates arguments is the caller's. The line is a vector of units, as
 /// `CreateProcessW` takes it; a program's name has other rules ([`command_line`]).
 ///
-/// cmd.exe reads a line by rules of its own, and in it `%NAME%` can't be quoted: nothing here writes
-/// for a batch file.
+/// cmd.exe reads a line by rules of its own, and in it `%NAME%` can't be quoted: nothing here
+/// writes for a batch file.
 ///
 /// # Errors
 ///
@@ -120,7 +121,7 @@ pub fn command_line<A: Allocator>(
     let mut line = Vec::new(alloc);
     push_name(&mut line, program)?;
     let mut index = 0;
-    while let Some(argument) = first_after(arguments, index) {
+    while let Some(argument) = string_at(arguments, index) {
         push_one(&mut line, SPACE)?;
         match push_argument(&mut line, argument) {
             Ok(()) => {}
@@ -129,20 +130,6 @@ pub fn command_line<A: Allocator>(
         index += 1;
     }
     Ok(line)
-}
-
-/// Returns the argument at `index`, or `None`.
-fn first_after<'a>(arguments: &[OsStr<'a, Windows>], index: usize) -> Option<OsStr<'a, Windows>>
-    ensures first { MatchOption result (drop index (map bytes arguments.now) ≡ [])
-        (λ argument. drop index (map bytes arguments.now)
-        ≡ bytes argument ∷ drop (index + 1) (map bytes arguments.now)) }
-    ensures within { IfSome result (λ _. index < length arguments.now) }
-{
-    if index < arguments.len() {
-        Some(arguments[index])
-    } else {
-        None
-    }
 }
 
 /// Appends a program's name in quotation marks.

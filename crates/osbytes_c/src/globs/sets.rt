@@ -205,8 +205,8 @@ fn told_by(alloc: Global, globs: &PlatformGlobs, paths: &[&[u8]]) -> Result<Vec<
     }
 }
 
-/// Keeps the same set in another place, which is empty, for another thread: 0, or 11 it has too many
-/// places, 25 the other isn't empty, 26 there is no set.
+/// Keeps the same set in another place, which is empty, for another thread: 0, or 11 it has too
+/// many places, 25 the other isn't empty, 26 there is no set.
 #[unsafe(no_mangle)]
 pub extern "C" fn osb_core_globs_share(held: &mut HeldGlobs, other: &mut HeldGlobs) -> u32
     ensures same { result ≡ 0 → IsSame held.old.globs other.new.globs }

@@ -47,8 +47,8 @@ pub extern "C" fn osb_core_ignores_new(alloc: Global, held: &mut HeldIgnores) ->
     DONE
 }
 
-/// Adds the lines of a file in a directory of the tree, which is relative to its top: 0, 11, or 26 nothing is
-/// kept.
+/// Adds the lines of a file in a directory of the tree, which is relative to its top: 0, 11, or 26
+/// nothing is kept.
 #[unsafe(no_mangle)]
 pub extern "C" fn osb_core_ignores_add(
     alloc: Global,

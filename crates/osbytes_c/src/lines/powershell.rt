@@ -10,9 +10,9 @@ use os_command_line::shell::{PowerShellError, write_quoted_powershell};
 use platform_str::OsStr;
 use wtf8_core::utf8_fault;
 
-/// Writes a text as a string of PowerShell into `out`, as far as there is room, and counts its bytes:
-/// at most two for each byte of the text, and two. `index` is that of its first NUL, or that from which
-/// on the bytes aren't UTF-8.
+/// Writes a text as a string of PowerShell into `out`, as far as there is room, and counts its
+/// bytes: at most two for each byte of the text, and two. `index` is that of its first NUL, or that
+/// from which on the bytes aren't UTF-8.
 #[unsafe(no_mangle)]
 pub extern "C" fn osb_core_powershell_quote(
     name: &[u8],

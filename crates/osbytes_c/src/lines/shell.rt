@@ -1,4 +1,5 @@
-//! Names as words of a shell.
+//! Names as words of a shell. Each export states its clauses whole, for who comes to it from the
+//! header.
 ghost use Rattle.std.specs.Prelude.{◌≡◌, ◌⊎◌, ◌<◌, ◌↔◌, ◌*◌, ◌+◌, ◌^◌, ◌∷◌, [], length, MatchResult, OnOk};
 ghost use Rattle.os_command_line.specs.Fish.{fish_word, IsFishText};
 ghost use Rattle.os_command_line.specs.ReservedWords.{first_word};
@@ -25,8 +26,9 @@ pub(crate) enum Shell {
     Fish,
 }
 
-/// Writes the word of a name in every POSIX shell into `out`, as far as there is room, and counts its
-/// bytes: at most four for each byte of the name, and three. `index` is that of the name's first NUL.
+/// Writes the word of a name in every POSIX shell into `out`, as far as there is room, and counts
+/// its bytes: at most four for each byte of the name, and three. `index` is that of the name's
+/// first NUL.
 #[unsafe(no_mangle)]
 pub extern "C" fn osb_core_shell_quote(
     name: &[u8],

@@ -27,8 +27,8 @@ pub struct LineFault {
 }
 
 /// Writes the words of a line into `out`, with a 0 after each, as far as there is room, and counts
-/// their bytes: at most two for each byte of the line, and one. The fault is that of a line that isn't
-/// words, or its first NUL.
+/// their bytes: at most two for each byte of the line, and one. The fault is that of a line that
+/// isn't words, or its first NUL.
 #[unsafe(no_mangle)]
 pub extern "C" fn osb_core_shell_words(
     options: u32,

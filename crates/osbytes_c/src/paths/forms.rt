@@ -16,8 +16,8 @@ use crate::strings::fault::Fault;
 use path_building::{NormalizeError, StyleError, clean, normalize, with_style};
 use std::alloc::Global;
 
-/// Writes the normal form of a path into `out`, as far as there is room, and counts its bytes. There is
-/// none if a `..` has no name before it to take away.
+/// Writes the normal form of a path into `out`, as far as there is room, and counts its bytes.
+/// There is none if a `..` has no name before it to take away.
 #[unsafe(no_mangle)]
 pub extern "C" fn osb_core_path_normalize(
     alloc: Global,

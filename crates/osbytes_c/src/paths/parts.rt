@@ -10,7 +10,8 @@ use crate::paths::part_list::{Part, kind_number, push};
 use path_rules::parts::{Start, component_of, head_of};
 use path_rules::{Rules, Style};
 
-/// The index of the first separator, or the length if there is none.
+/// The index of the first separator, or the length if there is none. (`path_rules` has such a
+/// function, too, which isn't public.)
 fn first_separator(rules: Rules, body: &[u8]) -> usize
     ensures within { result ≤ length body.now }
     ensures plain { IsPlainBelow rules body.now result }

@@ -46,9 +46,7 @@ fn parent_span(style: Style, path: &[u8]) -> Option<Span>
         (λ span. IsParentSpan style path.now span) }
     ensures within { IfSome result (λ span. IsWithin path.now span) }
 {
-    let Some(above) = parent(style, path) else {
-        return None;
-    };
+    let above = parent(style, path)?;
     Some(Span {
         start: 0,
         end: above.len(),
@@ -125,9 +123,7 @@ fn extension_span(style: Style, path: &[u8]) -> Option<Span>
         (λ span. IsExtensionSpan style path.now span) }
     ensures within { IfSome result (λ span. IsWithin path.now span) }
 {
-    let Some(name) = name_span(style, path) else {
-        return None;
-    };
+    let name = name_span(style, path)?;
     extension_in(path, name.start, name.end)
 }
 

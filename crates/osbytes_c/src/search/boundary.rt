@@ -1,8 +1,9 @@
 //! Where a string may be cut.
-ghost use Rattle.std.specs.Prelude.{◌≡◌, ◌⊎◌};
+ghost use Rattle.std.specs.Prelude.{◌≡◌, ◌∷◌, []};
 ghost use Rattle.wtf8_core.specs.Boundary.{IsBoundary};
+ghost use Rattle.osbytes_c.specs.Answers.{IsOneOf};
 
-use crate::status::{DONE, NONE};
+use crate::status::told;
 use crate::strings::unix;
 use os_str_ext::OsStrBytesExt;
 
@@ -11,11 +12,7 @@ use os_str_ext::OsStrBytesExt;
 pub extern "C" fn osb_core_is_boundary(bytes: &[u8], index: usize) -> u32
     ensures is { result ≡ 0 → IsBoundary bytes.now index }
     ensures none { result ≡ 3 → ¬ (IsBoundary bytes.now index) }
-    ensures answers { (result ≡ 0) ⊎ (result ≡ 3) }
+    ensures answers { IsOneOf (0 ∷ 3 ∷ []) result }
 {
-    if unix(bytes).is_boundary(index) {
-        DONE
-    } else {
-        NONE
-    }
+    told(unix(bytes).is_boundary(index))
 }

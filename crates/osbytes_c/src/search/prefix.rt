@@ -1,6 +1,7 @@
 //! Prefixes and suffixes that are strings, by units.
-ghost use Rattle.std.specs.Prelude.{◌≡◌, ◌<◌, ◌↔◌, ◌⊎◌};
+ghost use Rattle.std.specs.Prelude.{◌≡◌, ◌<◌, ◌↔◌, ◌⊎◌, ◌∷◌, []};
 ghost use Rattle.wtf8_core.specs.Occurrence.{IsPrefix, IsSuffix};
+ghost use Rattle.osbytes_c.specs.Answers.{IsOneOf};
 ghost use Rattle.osbytes_c.specs.Faults.{IsString, IsUnstring};
 ghost use Rattle.osbytes_c.specs.Platforms.{units_on};
 
@@ -21,8 +22,7 @@ pub extern "C" fn osb_core_starts_with_units(platform: u32, bytes: &[u8], prefix
     ensures fault { result ≡ 1 → IsUnstring platform bytes.now
         ⊎ IsUnstring platform prefix.now }
     ensures platform { (result ≡ 16) ↔ (2 < platform) }
-    ensures answers { (result ≡ 0) ⊎ ((result ≡ 3) ⊎ ((result ≡ 1)
-        ⊎ (result ≡ 16))) }
+    ensures answers { IsOneOf (0 ∷ 3 ∷ 1 ∷ 16 ∷ []) result }
 {
     on_platform!(platform, starts_with(bytes, prefix))
 }
@@ -39,8 +39,7 @@ pub extern "C" fn osb_core_ends_with_units(platform: u32, bytes: &[u8], suffix: 
     ensures fault { result ≡ 1 → IsUnstring platform bytes.now
         ⊎ IsUnstring platform suffix.now }
     ensures platform { (result ≡ 16) ↔ (2 < platform) }
-    ensures answers { (result ≡ 0) ⊎ ((result ≡ 3) ⊎ ((result ≡ 1)
-        ⊎ (result ≡ 16))) }
+    ensures answers { IsOneOf (0 ∷ 3 ∷ 1 ∷ 16 ∷ []) result }
 {
     on_platform!(platform, ends_with(bytes, suffix))
 }
@@ -53,7 +52,7 @@ fn starts_with<E: Platform>(bytes: &[u8], prefix: &[u8]) -> u32
         × E.well_formed prefix.now }
     ensures fault { result ≡ 1 → (¬ (E.well_formed bytes.now))
         ⊎ (¬ (E.well_formed prefix.now)) }
-    ensures answers { (result ≡ 0) ⊎ ((result ≡ 3) ⊎ (result ≡ 1)) }
+    ensures answers { IsOneOf (0 ∷ 3 ∷ 1 ∷ []) result }
 {
     let Ok(string) = OsStr::<E>::checked(bytes) else {
         return FAULTY;
@@ -76,7 +75,7 @@ fn ends_with<E: Platform>(bytes: &[u8], suffix: &[u8]) -> u32
         × E.well_formed suffix.now }
     ensures fault { result ≡ 1 → (¬ (E.well_formed bytes.now))
         ⊎ (¬ (E.well_formed suffix.now)) }
-    ensures answers { (result ≡ 0) ⊎ ((result ≡ 3) ⊎ (result ≡ 1)) }
+    ensures answers { IsOneOf (0 ∷ 3 ∷ 1 ∷ []) result }
 {
     let Ok(string) = OsStr::<E>::checked(bytes) else {
         return FAULTY;

@@ -1,8 +1,9 @@
 //! The check of bytes, and their first fault.
-ghost use Rattle.std.specs.Prelude.{◌≡◌, ◌≢◌, ◌<◌, ◌↔◌, ◌⊎◌};
+ghost use Rattle.std.specs.Prelude.{◌≡◌, ◌≢◌, ◌<◌, ◌↔◌, ◌∷◌, []};
 ghost use Rattle.std.specs.Str.{IsUtf8};
 ghost use Rattle.wtf8_core.specs.Wtf8.{IsWtf8};
 ghost use Rattle.wtf8_core.specs.Checker.{HasFirstFault};
+ghost use Rattle.osbytes_c.specs.Answers.{IsOneOf};
 ghost use Rattle.osbytes_c.specs.Faults.{IsString, IsReport, IsWtf8Report, IsUtf8Report};
 
 use crate::status::{DONE, FAULTY, NO_PLATFORM};
@@ -18,7 +19,7 @@ pub extern "C" fn osb_core_check(platform: u32, bytes: &[u8], fault: &mut Fault)
     ensures fault { result ≡ 1 → IsReport platform bytes.now fault.new }
     ensures kept { result ≢ 1 → fault.new ≡ fault.old }
     ensures platform { (result ≡ 16) ↔ (2 < platform) }
-    ensures answers { (result ≡ 0) ⊎ ((result ≡ 1) ⊎ (result ≡ 16)) }
+    ensures answers { IsOneOf (0 ∷ 1 ∷ 16 ∷ []) result }
 {
     match platform {
         0 => DONE,
@@ -33,7 +34,7 @@ pub(crate) fn check_wtf8(bytes: &[u8], fault: &mut Fault) -> u32
     ensures string { (result ≡ 0) ↔ IsWtf8 bytes.now }
     ensures fault { result ≡ 1 → IsWtf8Report bytes.now fault.new }
     ensures kept { result ≢ 1 → fault.new ≡ fault.old }
-    ensures answers { (result ≡ 0) ⊎ (result ≡ 1) }
+    ensures answers { IsOneOf (0 ∷ 1 ∷ []) result }
 {
     match Windows::check(bytes) {
         Ok(()) => DONE,
@@ -68,7 +69,7 @@ pub(crate) fn check_utf8(bytes: &[u8], fault: &mut Fault) -> u32
     ensures string { (result ≡ 0) ↔ IsUtf8 bytes.now }
     ensures fault { result ≡ 1 → IsUtf8Report bytes.now fault.new }
     ensures kept { result ≢ 1 → fault.new ≡ fault.old }
-    ensures answers { (result ≡ 0) ⊎ (result ≡ 1) }
+    ensures answers { IsOneOf (0 ∷ 1 ∷ []) result }
 {
     let Some((index, len)) = utf8_fault(bytes) else {
         return DONE;

@@ -1,8 +1,9 @@
 //! The check of bytes that come in pieces, for Windows.
-ghost use Rattle.std.specs.Prelude.{◌≡◌, ◌≢◌, ◌<◌, ◌≤◌, ◌↔◌, ◌⊎◌, ◌++◌, ℕ, List, [], MatchOption};
+ghost use Rattle.std.specs.Prelude.{◌≡◌, ◌≢◌, ◌<◌, ◌≤◌, ◌↔◌, ◌++◌, ◌∷◌, ℕ, List, [], MatchOption};
 ghost use Rattle.wtf8_core.specs.Wtf8.{IsWtf8};
 ghost use Rattle.wtf8_core.specs.Checker.{saved_progress};
 ghost use Rattle.wtf8_core.specs.declared.checker.SavedChecker.{SavedChecker};
+ghost use Rattle.osbytes_c.specs.Answers.{IsOneOf};
 ghost use Rattle.osbytes_c.specs.Faults.{OpenDescribes, saved_open, ReportsFaulty, ReportsFirst, kind_of, value_of};
 
 use crate::status::{DONE, FAULTY, NO_STATE};
@@ -39,7 +40,7 @@ pub extern "C" fn osb_core_feed(opened: &mut Open, piece: &[u8], fault: &mut Fau
     ensures known { result ≡ 0 → opened.new.state < 16 }
     ensures kept { result ≢ 0 → opened.new ≡ opened.old }
     ensures state { (result ≡ 20) ↔ (16 ≤ opened.old.state) }
-    ensures answers { (result ≡ 0) ⊎ ((result ≡ 1) ⊎ (result ≡ 20)) }
+    ensures answers { IsOneOf (0 ∷ 1 ∷ 20 ∷ []) result }
 {
     let Some(mut checker) = restored(*opened) else {
         return NO_STATE;
@@ -68,7 +69,7 @@ pub extern "C" fn osb_core_finish(opened: &Open, fault: &mut Fault) -> u32
     ensures fault { result ≡ 1 → (fed : List ℕ) → OpenDescribes opened.now fed
         → ReportsFirst fed fault.new }
     ensures state { (result ≡ 20) ↔ (16 ≤ opened.now.state) }
-    ensures answers { (result ≡ 0) ⊎ ((result ≡ 1) ⊎ (result ≡ 20)) }
+    ensures answers { IsOneOf (0 ∷ 1 ∷ 20 ∷ []) result }
 {
     let Some(checker) = restored(*opened) else {
         return NO_STATE;

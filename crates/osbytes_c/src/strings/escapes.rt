@@ -1,13 +1,14 @@
-//! Escapes, plain and on one line.
-ghost use Rattle.std.specs.Prelude.{◌≡◌, ◌⊎◌, ◌≤◌, ◌<◌, ◌↔◌, ◌*◌, length};
+//! Escapes, plain and on one line. Each form has a function, since `os_quote` defines each: what
+//! would be saved by one function for both would go into a definition for both.
+ghost use Rattle.std.specs.Prelude.{◌≡◌, ◌⊎◌, ◌<◌, ◌↔◌, ◌*◌, ◌∷◌, [], length};
 ghost use Rattle.platform_str.specs.Strings.{bytes};
 ghost use Rattle.os_quote.specs.Escape.{IsEscape, IsLineEscape};
-ghost use Rattle.osbytes_c.specs.Answers.{Writes};
+ghost use Rattle.osbytes_c.specs.Answers.{IsOneOf, IsWritten};
 ghost use Rattle.osbytes_c.specs.Faults.{IsString, IsReport};
 ghost use Rattle.osbytes_c.specs.Platforms.{units_on};
 
 use crate::on_platform::on_string;
-use crate::status::{DONE, NO_ROOM, TOO_LONG};
+use crate::status::{TOO_LONG, fits};
 use crate::strings::fault::Fault;
 use os_quote::{write_escape, write_escape_line};
 use platform_str::{OsStr, Platform};
@@ -23,17 +24,14 @@ pub extern "C" fn osb_core_escape(
     count: &mut usize,
     fault: &mut Fault,
 ) -> u32
-    ensures done { result ≡ 0 → Writes (IsEscape (units_on platform) bytes.now) out.old out.new
-        count.new × (count.new ≤ length out.old) }
-    ensures room { result ≡ 2 → Writes (IsEscape (units_on platform) bytes.now) out.old
-        out.new count.new × (length out.old < count.new) }
+    ensures written { IsWritten result (IsEscape (units_on platform) bytes.now) out.old out.new
+        count.new }
     ensures fault { result ≡ 1 → IsReport platform bytes.now fault.new }
     ensures string { (result ≡ 0) ⊎ (result ≡ 2) → IsString platform bytes.now }
     ensures long { (result ≡ 21) ↔ (IsString platform bytes.now
         × (usize.MAX < 6 * length bytes.now)) }
     ensures platform { (result ≡ 16) ↔ (2 < platform) }
-    ensures answers { (result ≡ 0) ⊎ ((result ≡ 2) ⊎ ((result ≡ 1)
-        ⊎ ((result ≡ 21) ⊎ (result ≡ 16)))) }
+    ensures answers { IsOneOf (0 ∷ 2 ∷ 1 ∷ 21 ∷ 16 ∷ []) result }
 {
     on_string!(platform, bytes, fault, string => escape(string, out, count))
 }
@@ -48,51 +46,44 @@ pub extern "C" fn osb_core_escape_line(
     count: &mut usize,
     fault: &mut Fault,
 ) -> u32
-    ensures done { result ≡ 0 → Writes (IsLineEscape (units_on platform) bytes.now) out.old
-        out.new count.new × (count.new ≤ length out.old) }
-    ensures room { result ≡ 2 → Writes (IsLineEscape (units_on platform) bytes.now) out.old
-        out.new count.new × (length out.old < count.new) }
+    ensures written { IsWritten result (IsLineEscape (units_on platform) bytes.now) out.old out.new
+        count.new }
     ensures fault { result ≡ 1 → IsReport platform bytes.now fault.new }
     ensures string { (result ≡ 0) ⊎ (result ≡ 2) → IsString platform bytes.now }
     ensures long { (result ≡ 21) ↔ (IsString platform bytes.now
         × (usize.MAX < 6 * length bytes.now)) }
     ensures platform { (result ≡ 16) ↔ (2 < platform) }
-    ensures answers { (result ≡ 0) ⊎ ((result ≡ 2) ⊎ ((result ≡ 1)
-        ⊎ ((result ≡ 21) ⊎ (result ≡ 16)))) }
+    ensures answers { IsOneOf (0 ∷ 2 ∷ 1 ∷ 21 ∷ 16 ∷ []) result }
 {
     on_string!(platform, bytes, fault, string => escape_line(string, out, count))
 }
 
 /// The escape of a string.
 fn escape<E: Platform>(string: OsStr<'_, E>, out: &mut [u8], count: &mut usize) -> u32
-    ensures done { result ≡ 0 → Writes (IsEscape E.units (bytes string.entry)) out.old
-        out.new count.new × (count.new ≤ length out.old) }
-    ensures room { result ≡ 2 → Writes (IsEscape E.units (bytes string.entry)) out.old
-        out.new count.new × (length out.old < count.new) }
+    ensures written { IsWritten result (IsEscape E.units (bytes string.entry)) out.old out.new
+        count.new }
     ensures long { (result ≡ 21) ↔ (usize.MAX < 6 * length (bytes string.entry)) }
-    ensures answers { (result ≡ 0) ⊎ ((result ≡ 2) ⊎ (result ≡ 21)) }
+    ensures answers { IsOneOf (0 ∷ 2 ∷ 21 ∷ []) result }
 {
     if string.len() > usize::MAX / 6 {
         return TOO_LONG;
     }
     let written = write_escape(string, out);
     *count = written;
-    if written <= out.len() { DONE } else { NO_ROOM }
+    fits(written, out.len())
 }
 
 /// The escape on one line.
 fn escape_line<E: Platform>(string: OsStr<'_, E>, out: &mut [u8], count: &mut usize) -> u32
-    ensures done { result ≡ 0 → Writes (IsLineEscape E.units (bytes string.entry)) out.old
-        out.new count.new × (count.new ≤ length out.old) }
-    ensures room { result ≡ 2 → Writes (IsLineEscape E.units (bytes string.entry)) out.old
-        out.new count.new × (length out.old < count.new) }
+    ensures written { IsWritten result (IsLineEscape E.units (bytes string.entry)) out.old out.new
+        count.new }
     ensures long { (result ≡ 21) ↔ (usize.MAX < 6 * length (bytes string.entry)) }
-    ensures answers { (result ≡ 0) ⊎ ((result ≡ 2) ⊎ (result ≡ 21)) }
+    ensures answers { IsOneOf (0 ∷ 2 ∷ 21 ∷ []) result }
 {
     if string.len() > usize::MAX / 6 {
         return TOO_LONG;
     }
     let written = write_escape_line(string, out);
     *count = written;
-    if written <= out.len() { DONE } else { NO_ROOM }
+    fits(written, out.len())
 }

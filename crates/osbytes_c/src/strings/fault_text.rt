@@ -1,12 +1,12 @@
 //! The text of a fault.
-ghost use Rattle.std.specs.Prelude.{◌≡◌, ◌⊎◌, ◌+◌, ◌<◌, ◌≤◌, ◌++◌, ℕ, List, length, MatchOption};
+ghost use Rattle.std.specs.Prelude.{◌≡◌, ◌+◌, ◌<◌, ◌≤◌, ◌++◌, ◌∷◌, [], ℕ, List, MatchOption};
 ghost use Rattle.std.specs.Fmt.{decimal};
 ghost use Rattle.wtf8_core.specs.FaultText.{fault_text, upper_hex};
 ghost use Rattle.wtf8_core.specs.Truncated.{IsTruncated};
-ghost use Rattle.osbytes_c.specs.Answers.{Writes};
+ghost use Rattle.osbytes_c.specs.Answers.{IsOneOf, IsWritten};
 ghost use Rattle.osbytes_c.specs.Faults.{Names, IsTextOf};
 
-use crate::status::{DONE, NO_FAULT, NO_ROOM};
+use crate::status::{NO_FAULT, fits};
 use crate::strings::fault::Fault;
 use itoa::Buffer;
 use wtf8_core::{EncodingError, code_point_digits, push_truncated, upper_hex_digit};
@@ -14,19 +14,16 @@ use wtf8_core::{EncodingError, code_point_digits, push_truncated, upper_hex_digi
 /// Writes the text of a fault into `out`, as far as there is room, and counts its bytes.
 #[unsafe(no_mangle)]
 pub extern "C" fn osb_core_fault_text(fault: &Fault, out: &mut [u8], count: &mut usize) -> u32
-    ensures done { result ≡ 0 → Writes (IsTextOf fault.now) out.old out.new count.new
-        × (count.new ≤ length out.old) }
-    ensures room { result ≡ 2 → Writes (IsTextOf fault.now) out.old out.new count.new
-        × (length out.old < count.new) }
+    ensures written { IsWritten result (IsTextOf fault.now) out.old out.new count.new }
     ensures none { result ≡ 19 → (error : EncodingError) → ¬ (Names fault.now error) }
-    ensures answers { (result ≡ 0) ⊎ ((result ≡ 2) ⊎ (result ≡ 19)) }
+    ensures answers { IsOneOf (0 ∷ 2 ∷ 19 ∷ []) result }
 {
     let Some(error) = error_of(*fault) else {
         return NO_FAULT;
     };
     let written = write_text(error, out);
     *count = written;
-    if written <= out.len() { DONE } else { NO_ROOM }
+    fits(written, out.len())
 }
 
 /// The fault that a report names.

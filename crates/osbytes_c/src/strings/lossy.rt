@@ -1,12 +1,12 @@
 //! Lossy texts.
-ghost use Rattle.std.specs.Prelude.{◌≡◌, ◌⊎◌, ◌≤◌, ◌<◌, ◌↔◌, ◌*◌, length};
+ghost use Rattle.std.specs.Prelude.{◌≡◌, ◌⊎◌, ◌<◌, ◌↔◌, ◌*◌, ◌∷◌, [], length};
 ghost use Rattle.platform_str.specs.Strings.{bytes};
-ghost use Rattle.osbytes_c.specs.Answers.{Writes};
+ghost use Rattle.osbytes_c.specs.Answers.{IsOneOf, IsWritten};
 ghost use Rattle.osbytes_c.specs.Faults.{IsString, IsReport};
 ghost use Rattle.osbytes_c.specs.Platforms.{lossy_on};
 
 use crate::on_platform::on_string;
-use crate::status::{DONE, NO_ROOM, TOO_LONG};
+use crate::status::{TOO_LONG, fits};
 use crate::strings::fault::Fault;
 use platform_str::{OsStr, Platform};
 
@@ -21,34 +21,29 @@ pub extern "C" fn osb_core_lossy(
     count: &mut usize,
     fault: &mut Fault,
 ) -> u32
-    ensures done { result ≡ 0 → Writes (λ text. text ≡ lossy_on platform bytes.now) out.old
-        out.new count.new × (count.new ≤ length out.old) }
-    ensures room { result ≡ 2 → Writes (λ text. text ≡ lossy_on platform bytes.now) out.old
-        out.new count.new × (length out.old < count.new) }
+    ensures written { IsWritten result (λ text. text ≡ lossy_on platform bytes.now) out.old out.new
+        count.new }
     ensures fault { result ≡ 1 → IsReport platform bytes.now fault.new }
     ensures string { (result ≡ 0) ⊎ (result ≡ 2) → IsString platform bytes.now }
     ensures long { (result ≡ 21) ↔ (IsString platform bytes.now
         × (usize.MAX < 3 * length bytes.now)) }
     ensures platform { (result ≡ 16) ↔ (2 < platform) }
-    ensures answers { (result ≡ 0) ⊎ ((result ≡ 2) ⊎ ((result ≡ 1)
-        ⊎ ((result ≡ 21) ⊎ (result ≡ 16)))) }
+    ensures answers { IsOneOf (0 ∷ 2 ∷ 1 ∷ 21 ∷ 16 ∷ []) result }
 {
     on_string!(platform, bytes, fault, string => write_lossy(string, out, count))
 }
 
 /// Writes the lossy text of a string, and counts its bytes.
 fn write_lossy<E: Platform>(string: OsStr<'_, E>, out: &mut [u8], count: &mut usize) -> u32
-    ensures done { result ≡ 0 → Writes (λ text. text ≡ E.lossy (bytes string.entry)) out.old
-        out.new count.new × (count.new ≤ length out.old) }
-    ensures room { result ≡ 2 → Writes (λ text. text ≡ E.lossy (bytes string.entry)) out.old
-        out.new count.new × (length out.old < count.new) }
+    ensures written { IsWritten result (λ text. text ≡ E.lossy (bytes string.entry)) out.old out.new
+        count.new }
     ensures long { (result ≡ 21) ↔ (usize.MAX < 3 * length (bytes string.entry)) }
-    ensures answers { (result ≡ 0) ⊎ ((result ≡ 2) ⊎ (result ≡ 21)) }
+    ensures answers { IsOneOf (0 ∷ 2 ∷ 21 ∷ []) result }
 {
     if string.len() > usize::MAX / 3 {
         return TOO_LONG;
     }
     let written = string.write_lossy(out);
     *count = written;
-    if written <= out.len() { DONE } else { NO_ROOM }
+    fits(written, out.len())
 }

@@ -1,12 +1,14 @@
-//! Strings from escapes, plain and on one line.
-ghost use Rattle.std.specs.Prelude.{◌≡◌, ◌≢◌, ◌⊎◌, ◌≤◌, ◌<◌, ◌↔◌, length};
+//! Strings from escapes, plain and on one line. Each form has a function, as in
+//! [`escapes`](crate::strings::escapes).
+ghost use Rattle.std.specs.Prelude.{◌≡◌, ◌≢◌, ◌≤◌, ◌<◌, ◌↔◌, ◌∷◌, [], length};
 ghost use Rattle.std.specs.Str.{IsUtf8};
 ghost use Rattle.os_quote.specs.Escape.{IsBadEscape, IsBadLineEscape, IsQuoteFault, IsLineFault};
 ghost use Rattle.os_quote.specs.Unescaped.{IsUnescaped, IsLineUnescaped};
+ghost use Rattle.osbytes_c.specs.Answers.{IsDone, IsOneOf};
 ghost use Rattle.osbytes_c.specs.Platforms.{formed_on, units_on};
 
 use crate::on_platform::on_platform;
-use crate::status::{BAD_ESCAPE, DONE, NO_PATTERN, NO_ROOM, NO_STRING};
+use crate::status::{BAD_ESCAPE, NO_PATTERN, NO_STRING, fits};
 use os_quote::{QuoteError, write_unescaped_bytes, write_unescaped_line_bytes};
 use platform_str::Platform;
 
@@ -22,17 +24,14 @@ pub extern "C" fn osb_core_unescape(
     count: &mut usize,
     index: &mut usize,
 ) -> u32
-    ensures done { result ≡ 0 → IsUnescaped (formed_on platform) (units_on platform) escape.now
-        out.old out.new count.new × (count.new ≤ length out.old) }
-    ensures room { result ≡ 2 → IsUnescaped (formed_on platform) (units_on platform)
-        escape.now out.old out.new count.new × (length out.old < count.new) }
+    ensures written { IsDone result (IsUnescaped (formed_on platform) (units_on platform) escape.now
+        out.old out.new count.new) (length out.old) count.new }
     ensures token { result ≡ 5 → IsBadEscape escape.now index.new }
     ensures string { result ≡ 6
         → IsQuoteFault (formed_on platform) (units_on platform) escape.now QuoteError.NotCanonical }
     ensures pattern { (result ≡ 17) ↔ ((platform ≤ 2) × (¬ (IsUtf8 escape.now))) }
     ensures platform { (result ≡ 16) ↔ (2 < platform) }
-    ensures answers { (result ≡ 0) ⊎ ((result ≡ 2) ⊎ ((result ≡ 5)
-        ⊎ ((result ≡ 6) ⊎ ((result ≡ 17) ⊎ (result ≡ 16))))) }
+    ensures answers { IsOneOf (0 ∷ 2 ∷ 5 ∷ 6 ∷ 17 ∷ 16 ∷ []) result }
 {
     on_platform!(platform, unescape(escape, out, count, index))
 }
@@ -47,33 +46,27 @@ pub extern "C" fn osb_core_unescape_line(
     count: &mut usize,
     index: &mut usize,
 ) -> u32
-    ensures done { result ≡ 0 → IsLineUnescaped (formed_on platform) (units_on platform)
-        escape.now out.old out.new count.new × (count.new ≤ length out.old) }
-    ensures room { result ≡ 2 → IsLineUnescaped (formed_on platform) (units_on platform)
-        escape.now out.old out.new count.new × (length out.old < count.new) }
+    ensures written { IsDone result (IsLineUnescaped (formed_on platform) (units_on platform)
+        escape.now out.old out.new count.new) (length out.old) count.new }
     ensures token { result ≡ 5 → IsBadLineEscape escape.now index.new }
     ensures string { result ≡ 6
         → IsLineFault (formed_on platform) (units_on platform) escape.now QuoteError.NotCanonical }
     ensures pattern { (result ≡ 17) ↔ ((platform ≤ 2) × (¬ (IsUtf8 escape.now))) }
     ensures platform { (result ≡ 16) ↔ (2 < platform) }
-    ensures answers { (result ≡ 0) ⊎ ((result ≡ 2) ⊎ ((result ≡ 5)
-        ⊎ ((result ≡ 6) ⊎ ((result ≡ 17) ⊎ (result ≡ 16))))) }
+    ensures answers { IsOneOf (0 ∷ 2 ∷ 5 ∷ 6 ∷ 17 ∷ 16 ∷ []) result }
 {
     on_platform!(platform, unescape_line(escape, out, count, index))
 }
 
 /// The string of one platform.
 fn unescape<E: Platform>(escape: &[u8], out: &mut [u8], count: &mut usize, index: &mut usize) -> u32
-    ensures done { result ≡ 0 → IsUnescaped E.well_formed E.units escape.now out.old out.new
-        count.new × (count.new ≤ length out.old) }
-    ensures room { result ≡ 2 → IsUnescaped E.well_formed E.units escape.now out.old out.new
-        count.new × (length out.old < count.new) }
+    ensures written { IsDone result (IsUnescaped E.well_formed E.units escape.now out.old out.new
+        count.new) (length out.old) count.new }
     ensures token { result ≡ 5 → IsBadEscape escape.now index.new }
     ensures string { result ≡ 6
         → IsQuoteFault E.well_formed E.units escape.now QuoteError.NotCanonical }
     ensures pattern { (result ≡ 17) ↔ (¬ (IsUtf8 escape.now)) }
-    ensures answers { (result ≡ 0) ⊎ ((result ≡ 2) ⊎ ((result ≡ 5)
-        ⊎ ((result ≡ 6) ⊎ (result ≡ 17)))) }
+    ensures answers { IsOneOf (0 ∷ 2 ∷ 5 ∷ 6 ∷ 17 ∷ []) result }
 {
     let Some(read) = write_unescaped_bytes::<E>(escape, out) else {
         return NO_PATTERN;
@@ -81,7 +74,7 @@ fn unescape<E: Platform>(escape: &[u8], out: &mut [u8], count: &mut usize, index
     match read {
         Ok(written) => {
             *count = written;
-            if written <= out.len() { DONE } else { NO_ROOM }
+            fits(written, out.len())
         }
         Err(error) => refused(error, index),
     }
@@ -94,16 +87,13 @@ fn unescape_line<E: Platform>(
     count: &mut usize,
     index: &mut usize,
 ) -> u32
-    ensures done { result ≡ 0 → IsLineUnescaped E.well_formed E.units escape.now out.old out.new
-        count.new × (count.new ≤ length out.old) }
-    ensures room { result ≡ 2 → IsLineUnescaped E.well_formed E.units escape.now out.old
-        out.new count.new × (length out.old < count.new) }
+    ensures written { IsDone result (IsLineUnescaped E.well_formed E.units escape.now out.old
+        out.new count.new) (length out.old) count.new }
     ensures token { result ≡ 5 → IsBadLineEscape escape.now index.new }
     ensures string { result ≡ 6
         → IsLineFault E.well_formed E.units escape.now QuoteError.NotCanonical }
     ensures pattern { (result ≡ 17) ↔ (¬ (IsUtf8 escape.now)) }
-    ensures answers { (result ≡ 0) ⊎ ((result ≡ 2) ⊎ ((result ≡ 5)
-        ⊎ ((result ≡ 6) ⊎ (result ≡ 17)))) }
+    ensures answers { IsOneOf (0 ∷ 2 ∷ 5 ∷ 6 ∷ 17 ∷ []) result }
 {
     let Some(read) = write_unescaped_line_bytes::<E>(escape, out) else {
         return NO_PATTERN;
@@ -111,7 +101,7 @@ fn unescape_line<E: Platform>(
     match read {
         Ok(written) => {
             *count = written;
-            if written <= out.len() { DONE } else { NO_ROOM }
+            fits(written, out.len())
         }
         Err(error) => refused(error, index),
     }
@@ -122,7 +112,7 @@ fn refused(error: QuoteError, index: &mut usize) -> u32
     ensures token { result ≡ 5 → error ≡ QuoteError.BadEscape index.new }
     ensures string { result ≡ 6 → error ≢ QuoteError.Memory
         → error ≡ QuoteError.NotCanonical }
-    ensures answers { (result ≡ 5) ⊎ (result ≡ 6) }
+    ensures answers { IsOneOf (5 ∷ 6 ∷ []) result }
 {
     match error {
         QuoteError::BadEscape(at) => {

@@ -1,11 +1,11 @@
 //! Bytes to 16-bit units, and back.
-ghost use Rattle.std.specs.Prelude.{◌≡◌, ◌⊎◌, ◌≤◌, ◌<◌, ◌*◌, length, MatchResult};
+ghost use Rattle.std.specs.Prelude.{◌≡◌, ◌≤◌, ◌<◌, ◌*◌, ◌∷◌, [], length, MatchResult};
 ghost use Rattle.wtf8_core.specs.Wtf8.{HasUnits};
 ghost use Rattle.wtf8_core.specs.Checker.{HasFirstFault};
-ghost use Rattle.osbytes_c.specs.Answers.{Writes};
+ghost use Rattle.osbytes_c.specs.Answers.{IsOneOf, IsWritten, Writes};
 ghost use Rattle.osbytes_c.specs.Faults.{IsWtf8Report};
 
-use crate::status::{DONE, FAULTY, NO_ROOM};
+use crate::status::{FAULTY, fits};
 use crate::strings::check::report_wtf8;
 use crate::strings::fault::Fault;
 use crate::strings::windows;
@@ -28,12 +28,9 @@ pub extern "C" fn osb_core_to_wide(
     count: &mut usize,
     fault: &mut Fault,
 ) -> u32
-    ensures done { result ≡ 0 → Writes (HasUnits bytes.now) out.old out.new count.new
-        × (count.new ≤ length out.old) }
-    ensures room { result ≡ 2 → Writes (HasUnits bytes.now) out.old out.new count.new
-        × (length out.old < count.new) }
+    ensures written { IsWritten result (HasUnits bytes.now) out.old out.new count.new }
     ensures fault { result ≡ 1 → IsWtf8Report bytes.now fault.new }
-    ensures answers { (result ≡ 0) ⊎ ((result ≡ 2) ⊎ (result ≡ 1)) }
+    ensures answers { IsOneOf (0 ∷ 2 ∷ 1 ∷ []) result }
 {
     if bytes.len() >= LONG {
         return write_checked(bytes, out, count, fault);
@@ -41,7 +38,7 @@ pub extern "C" fn osb_core_to_wide(
     match write_units(bytes, out) {
         Ok(written) => {
             *count = written;
-            if written <= out.len() { DONE } else { NO_ROOM }
+            fits(written, out.len())
         }
         Err(error) => {
             report_wtf8(bytes, error, fault);
@@ -54,19 +51,16 @@ pub extern "C" fn osb_core_to_wide(
 /// pay for no more than the test of their length.
 #[inline(never)]
 fn write_checked(bytes: &[u8], out: &mut [u16], count: &mut usize, fault: &mut Fault) -> u32
-    ensures done { result ≡ 0 → Writes (HasUnits bytes.now) out.old out.new count.new
-        × (count.new ≤ length out.old) }
-    ensures room { result ≡ 2 → Writes (HasUnits bytes.now) out.old out.new count.new
-        × (length out.old < count.new) }
+    ensures written { IsWritten result (HasUnits bytes.now) out.old out.new count.new }
     ensures fault { result ≡ 1 → IsWtf8Report bytes.now fault.new }
-    ensures answers { (result ≡ 0) ⊎ ((result ≡ 2) ⊎ (result ≡ 1)) }
+    ensures answers { IsOneOf (0 ∷ 2 ∷ 1 ∷ []) result }
 {
     let Some(string) = windows(bytes, fault) else {
         return FAULTY;
     };
     let written = string.write_wide(out);
     *count = written;
-    if written <= out.len() { DONE } else { NO_ROOM }
+    fits(written, out.len())
 }
 
 /// Writes the units of the bytes as far as there is room, and counts them.
@@ -94,11 +88,9 @@ fn write_units(bytes: &[u8], out: &mut [u16]) -> Result<usize, EncodingError>
 /// them. There are at most three for each unit.
 #[unsafe(no_mangle)]
 pub extern "C" fn osb_core_from_wide(units: &[u16], out: &mut [u8], count: &mut usize) -> u32
-    ensures done { result ≡ 0 → Writes (λ bytes. HasUnits bytes units.now) out.old out.new
-        count.new × (count.new ≤ length out.old) }
-    ensures room { result ≡ 2 → Writes (λ bytes. HasUnits bytes units.now) out.old out.new
-        count.new × (length out.old < count.new) }
-    ensures answers { (result ≡ 0) ⊎ (result ≡ 2) }
+    ensures written { IsWritten result (λ bytes. HasUnits bytes units.now) out.old out.new
+        count.new }
+    ensures answers { IsOneOf (0 ∷ 2 ∷ []) result }
 {
     let written = if units.len() >= LONG_WIDE {
         OsStr::<Windows>::write_from_wide(units, out)
@@ -108,10 +100,11 @@ pub extern "C" fn osb_core_from_wide(units: &[u16], out: &mut [u8], count: &mut 
         write_some_bytes(units, out)
     };
     *count = written;
-    if written <= out.len() { DONE } else { NO_ROOM }
+    fits(written, out.len())
 }
 
-/// Writes the bytes of the string with these units, for which there is surely room, and counts them.
+/// Writes the bytes of the string with these units, for which there is surely room, and counts
+/// them.
 #[inline(always)]
 fn write_bytes(units: &[u16], out: &mut [u8]) -> usize
     requires { 3 * length units.now ≤ length out.now }

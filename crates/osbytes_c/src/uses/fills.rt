@@ -22,8 +22,8 @@ fn nothing_filled() -> Filled {
     }
 }
 
-/// Writes the pieces of a split into two arrays, one after the other, and counts them, if both have room
-/// for all and the first has not.
+/// Writes the pieces of a split into two arrays, one after the other, and counts them, if both have
+/// room for all and the first has not.
 pub fn split_into_two(
     bytes: &[u8],
     pattern: &[u8],
@@ -80,7 +80,8 @@ pub fn rsplit_into_two(
     }
 }
 
-/// Writes the chunks of a string into an array and counts them, if there is room for all and one at least.
+/// Writes the chunks of a string into an array and counts them, if there is room for all and one at
+/// least.
 pub fn chunks_in(bytes: &[u8], out: &mut [ChunkView]) -> Option<usize>
     ensures { IfSome result (λ count. AreChunks bytes.now
         (map (viewed_chunk 0 bytes.now) (take count out.new))) }
@@ -94,8 +95,8 @@ pub fn chunks_in(bytes: &[u8], out: &mut [ChunkView]) -> Option<usize>
     }
 }
 
-/// Writes the symbols of a string of a platform into an array and counts them, if there is room for all and
-/// one at least.
+/// Writes the symbols of a string of a platform into an array and counts them, if there is room for
+/// all and one at least.
 pub fn symbols_in(platform: u32, bytes: &[u8], out: &mut [SymbolView]) -> Option<usize>
     ensures { IfSome result (λ count. AreSymbolsOf platform bytes.now (take count out.new)) }
 {
@@ -108,7 +109,8 @@ pub fn symbols_in(platform: u32, bytes: &[u8], out: &mut [SymbolView]) -> Option
     }
 }
 
-/// Whether an array isn't filled, since no symbol of a platform begins where there is still room for one.
+/// Whether an array isn't filled, since no symbol of a platform begins where there is still room
+/// for one.
 pub fn is_stuck(platform: u32, bytes: &[u8], out: &mut [SymbolView]) -> bool
     ensures { result ≡ true → IsStuck platform bytes.now 0 0 (length out.old) }
 {

@@ -11,6 +11,7 @@ use crate::globs::sets::{
 };
 use crate::globs::{GlobFault, osb_core_glob_matches};
 use crate::status::DONE;
+use crate::uses::len_of;
 use std::alloc::Global;
 
 /// The number of paths that a buffer has a byte for: whether a pattern matches the path. Else the
@@ -37,13 +38,10 @@ pub fn told_in(
     ensures options { IfErr result (λ code. code ≡ 22 → AreNoOptions options) }
     ensures platform { IfErr result (λ code. code ≡ 16 → 2 < platform) }
 {
-    let mut count = 0;
-    match osb_core_glob_matches(
-        alloc, platform, options, patterns, paths, buffer, &mut count, fault,
-    ) {
-        DONE => Ok(count),
-        status => Err(status),
-    }
+    len_of!(
+        osb_core_glob_matches(alloc, platform, options, patterns, paths, buffer),
+        fault
+    )
 }
 
 /// What a kept set returns for a path: 0 a pattern matches it, 3 none does, 1 it isn't a string. 99

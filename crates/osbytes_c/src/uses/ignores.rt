@@ -12,6 +12,7 @@ use crate::ignores::sets::{
 };
 use crate::ignores::{Told, osb_core_ignore_matches};
 use crate::status::DONE;
+use crate::uses::len_of;
 use std::alloc::Global;
 
 /// The number of paths that have a verdict of an ignore file in an array; else the status.
@@ -28,11 +29,7 @@ pub fn verdicts_in(
         × (AreItems paths.now names × (length array.old < length names))) }
     ensures answers { IfErr result (IsOneOf (2 ∷ 11 ∷ [])) }
 {
-    let mut count = 0;
-    match osb_core_ignore_matches(alloc, file, paths, flags, array, &mut count) {
-        DONE => Ok(count),
-        status => Err(status),
-    }
+    len_of!(osb_core_ignore_matches(alloc, file, paths, flags, array))
 }
 
 /// Whether the verdict of one file in a directory on a path was reported.

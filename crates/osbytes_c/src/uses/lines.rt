@@ -1,4 +1,5 @@
-//! For trying: what a caller of words, command lines and options concludes from one call, in each outcome.
+//! For trying: what a caller of words, command lines and options concludes from one call, in each
+//! outcome.
 ghost use Rattle.std.specs.Prelude.{◌≡◌, ◌⊎◌, ◌≤◌, ◌<◌, ◌↔◌, ◌*◌, ◌+◌, ◌∷◌, ◌++◌, [], true, false, List, ℕ, Option, drop, length, take, IfSome, MatchOption};
 ghost use Rattle.std.specs.Str.{chars};
 ghost use Rattle.wtf8_core.specs.Occurrence.{IsPrefix};
@@ -29,6 +30,7 @@ use crate::lines::windows_quote::osb_core_windows_quote;
 use crate::options::{OptionSpan, osb_core_flag, osb_core_option};
 use crate::status::DONE;
 use crate::strings::fault::Fault;
+use crate::uses::{count_of, no_fault};
 
 /// How long the word of a name is in a POSIX shell, or `None` if it has a NUL or is too long.
 pub fn word_len(name: &[u8]) -> Option<usize>
@@ -36,27 +38,17 @@ pub fn word_len(name: &[u8]) -> Option<usize>
         (((index : ℕ) × IsFirstNul name.now index) ⊎ (usize.MAX < 4 * length name.now + 3))
         (λ len. (len ≡ length (quoted_word name.now)) × HasNoNul name.now) }
 {
-    let mut count = 0;
-    let mut index = 0;
-    match osb_core_shell_quote(name, &mut [], &mut count, &mut index) {
-        0 | 2 => Some(count),
-        _ => None,
-    }
+    count_of!(osb_core_shell_quote(name), &mut 0)
 }
 
-/// How long the word of a name is in a POSIX shell where it is first on a line, or `None` if it has a NUL or is too
-/// long.
+/// How long the word of a name is in a POSIX shell where it is first on a line, or `None` if it has
+/// a NUL or is too long.
 pub fn first_word_len(name: &[u8]) -> Option<usize>
     ensures { MatchOption result
         (((index : ℕ) × IsFirstNul name.now index) ⊎ (usize.MAX < 4 * length name.now + 3))
         (λ len. (len ≡ length (first_word name.now)) × HasNoNul name.now) }
 {
-    let mut count = 0;
-    let mut index = 0;
-    match osb_core_shell_quote_first(name, &mut [], &mut count, &mut index) {
-        0 | 2 => Some(count),
-        _ => None,
-    }
+    count_of!(osb_core_shell_quote_first(name), &mut 0)
 }
 
 /// The index of a name's first NUL, or `None` if it has none or is too long.
@@ -87,12 +79,7 @@ pub fn line_word_len(name: &[u8]) -> Option<usize>
         (((index : ℕ) × IsFirstNul name.now index) ⊎ (usize.MAX < 4 * length name.now + 3))
         (λ len. (word : List ℕ) × (IsLineWord name.now word × (len ≡ length word))) }
 {
-    let mut count = 0;
-    let mut index = 0;
-    match osb_core_shell_quote_line(name, &mut [], &mut count, &mut index) {
-        0 | 2 => Some(count),
-        _ => None,
-    }
+    count_of!(osb_core_shell_quote_line(name), &mut 0)
 }
 
 /// The number of bytes of a name's word in fish; `None` as for its word in other shells.
@@ -101,12 +88,7 @@ pub fn fish_len(name: &[u8]) -> Option<usize>
         (((index : ℕ) × IsFirstNul name.now index) ⊎ (usize.MAX < 4 * length name.now + 3))
         (λ len. (word : List ℕ) × (IsFishText word name.now × (len ≡ length word))) }
 {
-    let mut count = 0;
-    let mut index = 0;
-    match osb_core_fish_quote(name, &mut [], &mut count, &mut index) {
-        0 | 2 => Some(count),
-        _ => None,
-    }
+    count_of!(osb_core_fish_quote(name), &mut 0)
 }
 
 /// The number of bytes of a name's word in PowerShell; `None` also if the name isn't text.
@@ -117,12 +99,7 @@ pub fn powershell_len(name: &[u8]) -> Option<usize>
         (λ len. (string : List ℕ) × (IsPowerShellText string (chars name.now)
         × (len ≡ length string))) }
 {
-    let mut count = 0;
-    let mut index = 0;
-    match osb_core_powershell_quote(name, &mut [], &mut count, &mut index) {
-        0 | 2 => Some(count),
-        _ => None,
-    }
+    count_of!(osb_core_powershell_quote(name), &mut 0)
 }
 
 /// The number of units of an argument's text; `None` if it isn't a string, has a NUL or is too
@@ -134,18 +111,7 @@ pub fn argument_len(argument: &[u8]) -> Option<usize>
         ⊎ (usize.MAX < 2 * length argument.now + 2)))
         (λ len. (text : List ℕ) × (IsTextOf text (units_of argument.now) × (len ≡ length text))) }
 {
-    let mut count = 0;
-    let mut index = 0;
-    let mut fault = Fault {
-        kind: 0,
-        value: 0,
-        index: 0,
-        count: 0,
-    };
-    match osb_core_windows_quote(argument, &mut [], &mut count, &mut index, &mut fault) {
-        0 | 2 => Some(count),
-        _ => None,
-    }
+    count_of!(osb_core_windows_quote(argument), &mut 0, &mut no_fault())
 }
 
 /// The number of units of the text of a program's name; `None` as for an argument, and also if it
@@ -158,22 +124,11 @@ pub fn name_len(name: &[u8]) -> Option<usize>
         ⊎ (usize.MAX < 2 * length name.now + 2))))
         (λ len. len ≡ length (quoted_name (units_of name.now))) }
 {
-    let mut count = 0;
-    let mut index = 0;
-    let mut fault = Fault {
-        kind: 0,
-        value: 0,
-        index: 0,
-        count: 0,
-    };
-    match osb_core_windows_quote_name(name, &mut [], &mut count, &mut index, &mut fault) {
-        0 | 2 => Some(count),
-        _ => None,
-    }
+    count_of!(osb_core_windows_quote_name(name), &mut 0, &mut no_fault())
 }
 
-/// How many units a program's name and one argument take in two buffers, if there is room for both: with a space
-/// between them they are a command line of these.
+/// How many units a program's name and one argument take in two buffers, if there is room for both:
+/// with a space between them they are a command line of these.
 pub fn line_of_two(
     name: &[u8],
     argument: &[u8],
@@ -188,12 +143,7 @@ pub fn line_of_two(
     let mut len = 0;
     let mut more = 0;
     let mut index = 0;
-    let mut fault = Fault {
-        kind: 0,
-        value: 0,
-        index: 0,
-        count: 0,
-    };
+    let mut fault = no_fault();
     if osb_core_windows_quote_name(name, first, &mut len, &mut index, &mut fault) != DONE {
         return None;
     }
@@ -203,8 +153,8 @@ pub fn line_of_two(
     Some((len, more))
 }
 
-/// How many bytes the words of a line have with a 0 after each; `None` if there are no such options, the
-/// line has a NUL, isn't words or is too long.
+/// How many bytes the words of a line have with a 0 after each; `None` if there are no such
+/// options, the line has a NUL, isn't words or is too long.
 pub fn words_len(options: u32, line: &[u8]) -> Option<usize>
     ensures { MatchOption result
         ((3 < options) ⊎ (((fault : LineFault) × IsFaultOf (language_of options) line.now fault)
@@ -212,15 +162,14 @@ pub fn words_len(options: u32, line: &[u8]) -> Option<usize>
         (λ len. ((words : List (List ℕ)) × (AreWords (language_of options) line.now words
         × (len ≡ length (ended words)))) × HasNoNul line.now) }
 {
-    let mut count = 0;
-    let mut fault = LineFault { kind: 0, index: 0 };
-    match osb_core_shell_words(options, line, &mut [], &mut count, &mut fault) {
-        0 | 2 => Some(count),
-        _ => None,
-    }
+    count_of!(
+        osb_core_shell_words(options, line),
+        &mut LineFault { kind: 0, index: 0 }
+    )
 }
 
-/// How many bytes the words of a line take in a buffer with a 0 after each, if there is room for all.
+/// How many bytes the words of a line take in a buffer with a 0 after each, if there is room for
+/// all.
 pub fn words_in(options: u32, line: &[u8], buffer: &mut [u8]) -> Option<usize>
     ensures { IfSome result
         (λ len. AreEndedWords (language_of options) line.now (take len buffer.new)) }
@@ -244,17 +193,16 @@ pub fn arguments_len(line: &[u8]) -> Option<usize>
         × (IsCommandLine (units_of line.now) name arguments
         × (len ≡ length (ended (name ∷ arguments)))))) }
 {
-    let mut count = 0;
-    let mut index = 0;
-    let mut fault = Fault {
+    count_of!(osb_core_windows_arguments(line), &mut 0, &mut no_fault())
+}
+
+/// What no option was written to.
+fn nothing_read() -> OptionSpan {
+    OptionSpan {
         kind: 0,
         value: 0,
-        index: 0,
-        count: 0,
-    };
-    match osb_core_windows_arguments(line, &mut [], &mut count, &mut index, &mut fault) {
-        0 | 2 => Some(count),
-        _ => None,
+        start: 0,
+        end: 0,
     }
 }
 
@@ -263,12 +211,7 @@ pub fn option_end(word: &[u8]) -> Option<usize>
     ensures { MatchOption result (word.now ≡ dashes)
         (λ end. (kind : Kind) × IsReadAs false word.now kind (drop end word.now)) }
 {
-    let mut span = OptionSpan {
-        kind: 0,
-        value: 0,
-        start: 0,
-        end: 0,
-    };
+    let mut span = nothing_read();
     match osb_core_option(0, word, &mut span) {
         0 => Some(span.end),
         _ => None,
@@ -280,12 +223,7 @@ pub fn flag_end(word: &[u8], at: usize) -> Option<usize>
     ensures { MatchOption result (IsPrefix equals (drop at word.now) ⊎ (length word.now ≤ at))
         (λ end. (kind : Kind) × IsFlag (drop at word.now) kind (drop end word.now)) }
 {
-    let mut span = OptionSpan {
-        kind: 0,
-        value: 0,
-        start: 0,
-        end: 0,
-    };
+    let mut span = nothing_read();
     match osb_core_flag(word, at, &mut span) {
         0 => Some(span.end),
         _ => None,
@@ -296,11 +234,6 @@ pub fn flag_end(word: &[u8], at: usize) -> Option<usize>
 pub fn begins_value(word: &[u8], at: usize) -> bool
     ensures { (result ≡ true) ↔ IsPrefix equals (drop at word.now) }
 {
-    let mut span = OptionSpan {
-        kind: 0,
-        value: 0,
-        start: 0,
-        end: 0,
-    };
+    let mut span = nothing_read();
     osb_core_flag(word, at, &mut span) == 3
 }

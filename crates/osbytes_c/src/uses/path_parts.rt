@@ -20,6 +20,18 @@ use crate::paths::{
 };
 use crate::span::Span;
 use crate::status::DONE;
+use crate::uses::{answer_of, len_of};
+
+/// Where an export finds a part of a path; `None` if it finds none.
+macro_rules! span_of {
+    ($export:ident($($argument:expr),*)) => {{
+        let mut span = Span { start: 0, end: 0 };
+        match $export($($argument),*, &mut span) {
+            0 => Some(span),
+            _ => None,
+        }
+    }};
+}
 
 /// How many components of a path are written into an array; else the status.
 pub fn components_in(platform: u32, path: &[u8], array: &mut [Part]) -> Result<usize, u32>
@@ -29,15 +41,11 @@ pub fn components_in(platform: u32, path: &[u8], array: &mut [Part]) -> Result<u
         × (AreParts (style_on platform) path.now parts × (length array.old < length parts))) }
     ensures platform { IfErr result (λ status. status ≡ 16 → 2 < platform) }
 {
-    let mut count = 0;
-    match osb_core_path_components(platform, path, array, &mut count) {
-        DONE => Ok(count),
-        status => Err(status),
-    }
+    len_of!(osb_core_path_components(platform, path, array))
 }
 
-/// What of a path follows the components of a base; `None` if it doesn't start with them, or there is no
-/// such platform.
+/// What of a path follows the components of a base; `None` if it doesn't start with them, or there
+/// is no such platform.
 pub fn rest_after<'a>(platform: u32, path: &'a [u8], base: &[u8]) -> Option<&'a [u8]>
     ensures { MatchOption result
         ((2 < platform) ⊎ (¬ (StartsWith (style_on platform) path.entry.now base.now)))
@@ -56,11 +64,7 @@ pub fn has_root(platform: u32, path: &[u8]) -> Option<bool>
     ensures { MatchOption result (2 < platform)
         (λ is. (is ≡ true) ↔ HasRoot (style_on platform) path.now) }
 {
-    match osb_core_path_has_root(platform, path) {
-        0 => Some(true),
-        3 => Some(false),
-        _ => None,
-    }
+    answer_of!(osb_core_path_has_root(platform, path))
 }
 
 /// Whether it is absolute.
@@ -68,11 +72,7 @@ pub fn is_absolute(platform: u32, path: &[u8]) -> Option<bool>
     ensures { MatchOption result (2 < platform)
         (λ is. (is ≡ true) ↔ IsAbsolute (style_on platform) path.now) }
 {
-    match osb_core_path_is_absolute(platform, path) {
-        0 => Some(true),
-        3 => Some(false),
-        _ => None,
-    }
+    answer_of!(osb_core_path_is_absolute(platform, path))
 }
 
 /// Whether it starts with the components of a base.
@@ -80,11 +80,7 @@ pub fn starts_with(platform: u32, path: &[u8], base: &[u8]) -> Option<bool>
     ensures { MatchOption result (2 < platform)
         (λ is. (is ≡ true) ↔ StartsWith (style_on platform) path.now base.now) }
 {
-    match osb_core_path_starts_with(platform, path, base) {
-        0 => Some(true),
-        3 => Some(false),
-        _ => None,
-    }
+    answer_of!(osb_core_path_starts_with(platform, path, base))
 }
 
 /// Whether it ends with those of a child.
@@ -92,11 +88,7 @@ pub fn ends_with(platform: u32, path: &[u8], child: &[u8]) -> Option<bool>
     ensures { MatchOption result (2 < platform)
         (λ is. (is ≡ true) ↔ EndsWith (style_on platform) path.now child.now) }
 {
-    match osb_core_path_ends_with(platform, path, child) {
-        0 => Some(true),
-        3 => Some(false),
-        _ => None,
-    }
+    answer_of!(osb_core_path_ends_with(platform, path, child))
 }
 
 /// Where the parent of a path is; `None` if it has none, or there is no such platform.
@@ -104,11 +96,7 @@ pub fn parent_of(platform: u32, path: &[u8]) -> Option<Span>
     ensures { MatchOption result ((2 < platform) ⊎ HasNoParent (style_on platform) path.now)
         (λ span. IsParentSpan (style_on platform) path.now span) }
 {
-    let mut span = Span { start: 0, end: 0 };
-    match osb_core_path_parent(platform, path, &mut span) {
-        0 => Some(span),
-        _ => None,
-    }
+    span_of!(osb_core_path_parent(platform, path))
 }
 
 /// Where the last component of a path is, if that is a name.
@@ -116,11 +104,7 @@ pub fn name_of(platform: u32, path: &[u8]) -> Option<Span>
     ensures { MatchOption result ((2 < platform) ⊎ HasNoLastName (style_on platform) path.now)
         (λ span. IsNameSpan (style_on platform) path.now span) }
 {
-    let mut span = Span { start: 0, end: 0 };
-    match osb_core_path_file_name(platform, path, &mut span) {
-        0 => Some(span),
-        _ => None,
-    }
+    span_of!(osb_core_path_file_name(platform, path))
 }
 
 /// Where the last name of a path is, without its extension.
@@ -128,11 +112,7 @@ pub fn stem_of(platform: u32, path: &[u8]) -> Option<Span>
     ensures { MatchOption result ((2 < platform) ⊎ HasNoLastName (style_on platform) path.now)
         (λ span. IsStemSpan (style_on platform) path.now span) }
 {
-    let mut span = Span { start: 0, end: 0 };
-    match osb_core_path_file_stem(platform, path, &mut span) {
-        0 => Some(span),
-        _ => None,
-    }
+    span_of!(osb_core_path_file_stem(platform, path))
 }
 
 /// Where the extension of a path's last name is.
@@ -140,11 +120,7 @@ pub fn extension_of(platform: u32, path: &[u8]) -> Option<Span>
     ensures { MatchOption result ((2 < platform) ⊎ HasNoExtensionSpan (style_on platform) path.now)
         (λ span. IsExtensionSpan (style_on platform) path.now span) }
 {
-    let mut span = Span { start: 0, end: 0 };
-    match osb_core_path_extension(platform, path, &mut span) {
-        0 => Some(span),
-        _ => None,
-    }
+    span_of!(osb_core_path_extension(platform, path))
 }
 
 /// Where the prefix of a path is.
@@ -152,9 +128,5 @@ pub fn prefix_of(platform: u32, path: &[u8]) -> Option<Span>
     ensures { MatchOption result ((2 < platform) ⊎ (¬ (IsPrefixed (style_on platform) path.now)))
         (λ span. IsPrefixSpan (style_on platform) path.now span) }
 {
-    let mut span = Span { start: 0, end: 0 };
-    match osb_core_path_prefix(platform, path, &mut span) {
-        0 => Some(span),
-        _ => None,
-    }
+    span_of!(osb_core_path_prefix(platform, path))
 }

@@ -18,8 +18,8 @@ use crate::paths::joins::{osb_core_path_join, osb_core_path_join_checked, osb_co
 use crate::paths::names::{
     osb_core_path_with_added_extension, osb_core_path_with_extension, osb_core_path_with_file_name,
 };
-use crate::status::DONE;
 use crate::strings::fault::Fault;
+use crate::uses::len_of;
 use std::alloc::Global;
 
 /// How many bytes a path after a base takes in a buffer; else the status.
@@ -34,11 +34,7 @@ pub fn join_in(
         (λ len. IsJoin (style_on platform) base.now path.now (take len buffer.new)) }
     ensures err { IfErr result (λ status. status ≡ 16 → 2 < platform) }
 {
-    let mut len = 0;
-    match osb_core_path_join(alloc, platform, base, path, buffer, &mut len) {
-        DONE => Ok(len),
-        status => Err(status),
-    }
+    len_of!(osb_core_path_join(alloc, platform, base, path, buffer))
 }
 
 /// The length of a path that is joined below a base, written into a buffer; else the status. The
@@ -56,11 +52,10 @@ pub fn join_checked_in(
     ensures err { IfErr result
         (λ status. status ≡ 12 → IsJoinReason (style_on platform) base.now path.now reason.new) }
 {
-    let mut len = 0;
-    match osb_core_path_join_checked(alloc, platform, base, path, buffer, &mut len, reason) {
-        DONE => Ok(len),
-        status => Err(status),
-    }
+    len_of!(
+        osb_core_path_join_checked(alloc, platform, base, path, buffer),
+        reason
+    )
 }
 
 /// The length of the path that leads from a base to a path, written into a buffer; else the status.
@@ -76,11 +71,7 @@ pub fn relative_in(
     ensures err { IfErr result
         (λ status. status ≡ 3 → IsRelativeFrom (style_on platform) path.now base.now None) }
 {
-    let mut len = 0;
-    match osb_core_path_relative(alloc, platform, path, base, buffer, &mut len) {
-        DONE => Ok(len),
-        status => Err(status),
-    }
+    len_of!(osb_core_path_relative(alloc, platform, path, base, buffer))
 }
 
 /// The length of the normal form of a path, written into a buffer; else the status.
@@ -95,11 +86,7 @@ pub fn normalize_in(
     ensures err { IfErr result
         (λ status. status ≡ 3 → HasNoNormalForm (style_on platform) path.now) }
 {
-    let mut len = 0;
-    match osb_core_path_normalize(alloc, platform, path, buffer, &mut len) {
-        DONE => Ok(len),
-        status => Err(status),
-    }
+    len_of!(osb_core_path_normalize(alloc, platform, path, buffer))
 }
 
 /// The length of a cleaned path, written into a buffer; else the status.
@@ -107,11 +94,7 @@ pub fn clean_in(alloc: Global, platform: u32, path: &[u8], buffer: &mut [u8]) ->
     ensures ok { IfOk result (λ len. IsCleaned (style_on platform) path.now (take len buffer.new)) }
     ensures err { IfErr result (λ status. status ≡ 16 → 2 < platform) }
 {
-    let mut len = 0;
-    match osb_core_path_clean(alloc, platform, path, buffer, &mut len) {
-        DONE => Ok(len),
-        status => Err(status),
-    }
+    len_of!(osb_core_path_clean(alloc, platform, path, buffer))
 }
 
 /// The length of the path of another platform, written into a buffer; else the status. The index of
@@ -132,11 +115,11 @@ pub fn convert_in(
     ensures component { IfErr result (λ status. status ≡ 12 → IsString to path.now
         × IsStyleFault (style_on from) (style_on to) path.now (style_error.Component index.new)) }
 {
-    let mut len = 0;
-    match osb_core_path_convert(alloc, from, to, path, buffer, &mut len, index, fault) {
-        DONE => Ok(len),
-        status => Err(status),
-    }
+    len_of!(
+        osb_core_path_convert(alloc, from, to, path, buffer),
+        index,
+        fault
+    )
 }
 
 /// The length of a path with another last name, written into a buffer; else the status.
@@ -151,11 +134,7 @@ pub fn named_in(
         (λ len. IsNamed (style_on platform) path.now name.now (take len buffer.new)) }
     ensures err { IfErr result (λ status. status ≡ 16 → 2 < platform) }
 {
-    let mut len = 0;
-    match osb_core_path_with_file_name(alloc, platform, path, name, buffer, &mut len) {
-        DONE => Ok(len),
-        status => Err(status),
-    }
+    len_of!(osb_core_path_with_file_name(alloc, platform, path, name, buffer))
 }
 
 /// The length of a path with another extension, written into a buffer; else the status.
@@ -171,11 +150,7 @@ pub fn extension_set_in(
     ensures err { IfErr result
         (λ status. status ≡ 23 → ¬ (IsExtensionText (style_on platform) extension.now)) }
 {
-    let mut len = 0;
-    match osb_core_path_with_extension(alloc, platform, path, extension, buffer, &mut len) {
-        DONE => Ok(len),
-        status => Err(status),
-    }
+    len_of!(osb_core_path_with_extension(alloc, platform, path, extension, buffer))
 }
 
 /// The length of a path with one more extension, written into a buffer; else the status.
@@ -191,9 +166,5 @@ pub fn extension_added_in(
     ensures err { IfErr result
         (λ status. status ≡ 23 → ¬ (IsExtensionText (style_on platform) extension.now)) }
 {
-    let mut len = 0;
-    match osb_core_path_with_added_extension(alloc, platform, path, extension, buffer, &mut len) {
-        DONE => Ok(len),
-        status => Err(status),
-    }
+    len_of!(osb_core_path_with_added_extension(alloc, platform, path, extension, buffer))
 }

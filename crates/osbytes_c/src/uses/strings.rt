@@ -26,17 +26,8 @@ use crate::strings::fault_text::osb_core_fault_text;
 use crate::strings::lossy::osb_core_lossy;
 use crate::strings::unescapes::{osb_core_unescape, osb_core_unescape_line};
 use crate::strings::wide::{osb_core_from_wide, osb_core_to_wide};
+use crate::uses::{answer_of, count_of, no_fault};
 use std::cmp::Ordering;
-
-/// What no fault was written to.
-fn no_fault() -> Fault {
-    Fault {
-        kind: 0,
-        value: 0,
-        index: 0,
-        count: 0,
-    }
-}
 
 /// Whether bytes are a string of a platform.
 pub fn is_string(platform: u32, bytes: &[u8]) -> bool
@@ -67,12 +58,7 @@ pub fn lossy_len(platform: u32, bytes: &[u8]) -> Option<usize>
         ⊎ (usize.MAX < 3 * length bytes.now)))
         (λ len. IsString platform bytes.now × (len ≡ length (lossy_on platform bytes.now))) }
 {
-    let mut count = 0;
-    let mut fault = no_fault();
-    match osb_core_lossy(platform, bytes, &mut [], &mut count, &mut fault) {
-        0 | 2 => Some(count),
-        _ => None,
-    }
+    count_of!(osb_core_lossy(platform, bytes), &mut no_fault())
 }
 
 /// Whether the units of a string start with those of another; `None` if there is no such platform,
@@ -84,11 +70,7 @@ pub fn starts_with(platform: u32, bytes: &[u8], prefix: &[u8]) -> Option<bool>
     ensures is { IfSome result (λ is. (is ≡ true)
         ↔ IsPrefix (units_on platform prefix.now) (units_on platform bytes.now)) }
 {
-    match osb_core_starts_with_units(platform, bytes, prefix) {
-        0 => Some(true),
-        3 => Some(false),
-        _ => None,
-    }
+    answer_of!(osb_core_starts_with_units(platform, bytes, prefix))
 }
 
 /// Whether the units of a string end with those of another; `None` as in `starts_with`.
@@ -99,11 +81,7 @@ pub fn ends_with(platform: u32, bytes: &[u8], suffix: &[u8]) -> Option<bool>
     ensures is { IfSome result (λ is. (is ≡ true)
         ↔ IsSuffix (units_on platform suffix.now) (units_on platform bytes.now)) }
 {
-    match osb_core_ends_with_units(platform, bytes, suffix) {
-        0 => Some(true),
-        3 => Some(false),
-        _ => None,
-    }
+    answer_of!(osb_core_ends_with_units(platform, bytes, suffix))
 }
 
 /// Whether the pieces that were read are a string of Windows.
@@ -138,12 +116,7 @@ pub fn escape_len(platform: u32, bytes: &[u8]) -> Option<usize>
         (λ len. IsString platform bytes.now × ((escape : List ℕ)
         × (IsEscape (units_on platform) bytes.now escape × (len ≡ length escape)))) }
 {
-    let mut count = 0;
-    let mut fault = no_fault();
-    match osb_core_escape(platform, bytes, &mut [], &mut count, &mut fault) {
-        0 | 2 => Some(count),
-        _ => None,
-    }
+    count_of!(osb_core_escape(platform, bytes), &mut no_fault())
 }
 
 /// The number of bytes of the escape of a string on one line; `None` as in `escape_len`.
@@ -154,12 +127,7 @@ pub fn line_escape_len(platform: u32, bytes: &[u8]) -> Option<usize>
         (λ len. IsString platform bytes.now × ((escape : List ℕ)
         × (IsLineEscape (units_on platform) bytes.now escape × (len ≡ length escape)))) }
 {
-    let mut count = 0;
-    let mut fault = no_fault();
-    match osb_core_escape_line(platform, bytes, &mut [], &mut count, &mut fault) {
-        0 | 2 => Some(count),
-        _ => None,
-    }
+    count_of!(osb_core_escape_line(platform, bytes), &mut no_fault())
 }
 
 /// How many units a string of Windows has, or `None` if it is none.
@@ -167,12 +135,7 @@ pub fn wide_len(bytes: &[u8]) -> Option<usize>
     ensures { MatchOption result ((report : Fault) × IsWtf8Report bytes.now report)
         (λ len. (units : List ℕ) × (HasUnits bytes.now units × (len ≡ length units))) }
 {
-    let mut count = 0;
-    let mut fault = no_fault();
-    match osb_core_to_wide(bytes, &mut [], &mut count, &mut fault) {
-        0 | 2 => Some(count),
-        _ => None,
-    }
+    count_of!(osb_core_to_wide(bytes), &mut no_fault())
 }
 
 /// How many bytes the string with these units has.
@@ -213,11 +176,7 @@ pub fn has_text(bytes: &[u8], pattern: &[u8]) -> Option<bool>
     ensures { MatchOption result (¬ (IsUtf8 pattern.now))
         (λ is. (is ≡ true) ↔ OccursSomewhere pattern.now bytes.now) }
 {
-    match osb_core_contains(bytes, pattern) {
-        0 => Some(true),
-        3 => Some(false),
-        _ => None,
-    }
+    answer_of!(osb_core_contains(bytes, pattern))
 }
 
 /// Whether a string starts with a text, or `None` if it isn't one.
@@ -225,11 +184,7 @@ pub fn starts_with_text(bytes: &[u8], pattern: &[u8]) -> Option<bool>
     ensures { MatchOption result (¬ (IsUtf8 pattern.now))
         (λ is. (is ≡ true) ↔ IsPrefix pattern.now bytes.now) }
 {
-    match osb_core_starts_with(bytes, pattern) {
-        0 => Some(true),
-        3 => Some(false),
-        _ => None,
-    }
+    answer_of!(osb_core_starts_with(bytes, pattern))
 }
 
 /// Whether it ends with one.
@@ -237,11 +192,7 @@ pub fn ends_with_text(bytes: &[u8], pattern: &[u8]) -> Option<bool>
     ensures { MatchOption result (¬ (IsUtf8 pattern.now))
         (λ is. (is ≡ true) ↔ IsSuffix pattern.now bytes.now) }
 {
-    match osb_core_ends_with(bytes, pattern) {
-        0 => Some(true),
-        3 => Some(false),
-        _ => None,
-    }
+    answer_of!(osb_core_ends_with(bytes, pattern))
 }
 
 /// Whether a string may be cut at an index.
@@ -267,11 +218,7 @@ pub fn fault_text_len(fault: &Fault) -> Option<usize>
     ensures { MatchOption result ((error : EncodingError) → ¬ (Names fault.now error))
         (λ len. (text : List ℕ) × (IsTextOf fault.now text × (len ≡ length text))) }
 {
-    let mut count = 0;
-    match osb_core_fault_text(fault, &mut [], &mut count) {
-        0 | 2 => Some(count),
-        _ => None,
-    }
+    count_of!(osb_core_fault_text(fault))
 }
 
 /// How many bytes the string with an escape takes in a buffer, if there is room for it.

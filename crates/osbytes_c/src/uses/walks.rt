@@ -13,16 +13,30 @@ use crate::walks::chunks::{Ends, osb_core_chunk};
 use crate::walks::split::{Piece, osb_core_cut, osb_core_rcut};
 use crate::walks::symbols::{Step, osb_core_symbol};
 
+/// What no piece was written to.
+fn no_piece() -> Piece {
+    Piece {
+        edge: 0,
+        rest: 0,
+        last: false,
+    }
+}
+
+/// What no symbol was written to.
+fn no_step() -> Step {
+    Step {
+        kind: 0,
+        value: 0,
+        end: 0,
+    }
+}
+
 /// Whether the first piece of a string is the last one, too: then it is the whole string.
 pub fn is_one_piece(bytes: &[u8], pattern: &[u8]) -> bool
     ensures { result ≡ true → IsSplit pattern.now bytes.now (bytes.now ∷ []) }
 {
     split_walks();
-    let mut piece = Piece {
-        edge: 0,
-        rest: 0,
-        last: false,
-    };
+    let mut piece = no_piece();
     if osb_core_cut(bytes, pattern, 0, &mut piece) == DONE {
         piece.last
     } else {
@@ -35,11 +49,7 @@ pub fn is_one_piece_from_end(bytes: &[u8], pattern: &[u8]) -> bool
     ensures { result ≡ true → IsRSplit pattern.now bytes.now (bytes.now ∷ []) }
 {
     split_walks();
-    let mut piece = Piece {
-        edge: 0,
-        rest: 0,
-        last: false,
-    };
+    let mut piece = no_piece();
     if osb_core_rcut(bytes, pattern, bytes.len(), &mut piece) == DONE {
         piece.last
     } else {
@@ -66,11 +76,7 @@ pub fn is_one_symbol(platform: u32, bytes: &[u8]) -> bool
         × AreSymbols (units_on platform) bytes.now (symbol ∷ []) }
 {
     symbol_walks();
-    let mut step = Step {
-        kind: 0,
-        value: 0,
-        end: 0,
-    };
+    let mut step = no_step();
     if osb_core_symbol(platform, bytes, 0, &mut step) == DONE {
         step.end == bytes.len()
     } else {
@@ -84,11 +90,7 @@ pub fn symbol_end(platform: u32, bytes: &[u8], at: usize) -> Option<usize>
     ensures rest { IfSome result (λ end. IsString platform (drop at bytes.now)
         → IsString platform (drop end bytes.now)) }
 {
-    let mut step = Step {
-        kind: 0,
-        value: 0,
-        end: 0,
-    };
+    let mut step = no_step();
     if osb_core_symbol(platform, bytes, at, &mut step) == DONE {
         Some(step.end)
     } else {

@@ -1,5 +1,6 @@
 //! One chunk of a string.
-ghost use Rattle.std.specs.Prelude.{◌≡◌, ◌<◌, ◌≤◌, ◌↔◌, ◌⊎◌, length, MatchOption, IfSome};
+ghost use Rattle.std.specs.Prelude.{◌≡◌, ◌<◌, ◌≤◌, ◌↔◌, ◌∷◌, [], length, MatchOption, IfSome};
+ghost use Rattle.osbytes_c.specs.Answers.{IsOneOf};
 ghost use Rattle.osbytes_c.specs.Steps.{IsChunkAt};
 
 use crate::status::{DONE, ENDED, NO_INDEX};
@@ -22,7 +23,7 @@ pub extern "C" fn osb_core_chunk(bytes: &[u8], at: usize, ends: &mut Ends) -> u3
     ensures chunk { result ≡ 0 → IsChunkAt bytes.now at ends.new }
     ensures index { (result ≡ 18) ↔ (length bytes.now < at) }
     ensures ended { (result ≡ 4) ↔ (at ≡ length bytes.now) }
-    ensures answers { (result ≡ 0) ⊎ ((result ≡ 18) ⊎ (result ≡ 4)) }
+    ensures answers { IsOneOf (0 ∷ 18 ∷ 4 ∷ []) result }
 {
     if at > bytes.len() {
         return NO_INDEX;

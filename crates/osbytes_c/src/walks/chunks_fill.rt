@@ -18,8 +18,8 @@ pub struct ChunkView {
     pub text: View,
 }
 
-/// Fills `out` with the next chunks of a string that begins at this address: those of what comes after
-/// an index, as many as there is room for.
+/// Fills `out` with the next chunks of a string that begins at this address: those of what comes
+/// after an index, as many as there is room for.
 #[unsafe(no_mangle)]
 pub extern "C" fn osb_core_chunks_fill(
     bytes: &[u8],

@@ -1,5 +1,5 @@
-//! What arrays hold that are filled one after the other. Each is the contract of a function that does
-//! nothing.
+//! What arrays hold that are filled one after the other. Each is the contract of a function that
+//! does nothing.
 ghost use Rattle.std.specs.Prelude.{◌++◌, ℕ, Bool, List, drop, map, take};
 ghost use Rattle.wtf8_core.specs.Chunks.{Chunk, AreChunks};
 ghost use Rattle.os_str_ext.specs.Pieces.{IsSplit, IsRSplit};
@@ -36,8 +36,8 @@ pub fn filled_chunks()
         → AreChunks (drop at s) (map (viewed_chunk address s) items ++ left) }
 {}
 
-/// The symbols that an array is filled with, and those of what is left, are the symbols of all, if that is
-/// a string.
+/// The symbols that an array is filled with, and those of what is left, are the symbols of all, if
+/// that is a string.
 pub fn filled_symbols()
     ensures { (platform : ℕ) → (s : List ℕ) → (address : ℕ) → (at : ℕ) → (items : List SymbolView)
         → (ended : Bool) → (rest : ℕ) → SymbolViews platform s address at items ended rest

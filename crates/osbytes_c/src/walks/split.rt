@@ -1,6 +1,7 @@
 //! One piece of a split.
-ghost use Rattle.std.specs.Prelude.{◌≡◌, ◌≤◌, ◌<◌, ◌+◌, ◌↔◌, ◌⊎◌, length, drop, take, MatchOption, IfSome};
+ghost use Rattle.std.specs.Prelude.{◌≡◌, ◌≤◌, ◌<◌, ◌+◌, ◌↔◌, ◌∷◌, [], length, drop, take, MatchOption, IfSome};
 ghost use Rattle.wtf8_core.specs.Occurrence.{OccursNowhere};
+ghost use Rattle.osbytes_c.specs.Answers.{IsOneOf};
 ghost use Rattle.osbytes_c.specs.Steps.{IsFirstCut, IsFirstPiece, IsLastCut, IsLastPiece, IsNoPattern};
 
 use crate::status::{DONE, NO_INDEX, NO_PATTERN};
@@ -25,7 +26,7 @@ pub extern "C" fn osb_core_cut(bytes: &[u8], pattern: &[u8], at: usize, piece: &
     ensures piece { result ≡ 0 → IsFirstPiece pattern.now bytes.now at piece.new }
     ensures index { (result ≡ 18) ↔ (length bytes.now < at) }
     ensures pattern { (result ≡ 17) ↔ ((at ≤ length bytes.now) × IsNoPattern pattern.now) }
-    ensures answers { (result ≡ 0) ⊎ ((result ≡ 18) ⊎ (result ≡ 17)) }
+    ensures answers { IsOneOf (0 ∷ 18 ∷ 17 ∷ []) result }
 {
     if at > bytes.len() {
         return NO_INDEX;
@@ -43,7 +44,7 @@ pub extern "C" fn osb_core_rcut(bytes: &[u8], pattern: &[u8], at: usize, piece: 
     ensures piece { result ≡ 0 → IsLastPiece pattern.now bytes.now at piece.new }
     ensures index { (result ≡ 18) ↔ (length bytes.now < at) }
     ensures pattern { (result ≡ 17) ↔ ((at ≤ length bytes.now) × IsNoPattern pattern.now) }
-    ensures answers { (result ≡ 0) ⊎ ((result ≡ 18) ⊎ (result ≡ 17)) }
+    ensures answers { IsOneOf (0 ∷ 18 ∷ 17 ∷ []) result }
 {
     if at > bytes.len() {
         return NO_INDEX;
@@ -108,7 +109,8 @@ fn last_piece(bytes: &[u8], pattern: &str, at: usize) -> Piece
     }
 }
 
-/// Where the first piece of what comes after an index ends, `None` if the pattern doesn't occur there.
+/// Where the first piece of what comes after an index ends, `None` if the pattern doesn't occur
+/// there.
 #[inline(always)]
 pub(crate) fn first_edge(bytes: &[u8], pattern: &str, at: usize) -> Option<usize>
     requires { at ≤ length bytes.now }
@@ -124,8 +126,8 @@ pub(crate) fn first_edge(bytes: &[u8], pattern: &str, at: usize) -> Option<usize
     }
 }
 
-/// Where the last piece of what comes before an index starts, and where the rest before it ends; `None` if
-/// the pattern doesn't occur there.
+/// Where the last piece of what comes before an index starts, and where the rest before it ends;
+/// `None` if the pattern doesn't occur there.
 #[inline(always)]
 pub(crate) fn last_edge(bytes: &[u8], pattern: &str, at: usize) -> Option<(usize, usize)>
     requires { at ≤ length bytes.now }

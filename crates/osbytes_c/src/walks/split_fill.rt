@@ -8,8 +8,8 @@ use crate::status::{DONE, NO_INDEX, NO_PATTERN};
 use crate::walks::split::{first_edge, last_edge, pattern_text};
 use crate::walks::view::{Filled, View, is_outside};
 
-/// Fills `out` with the next pieces of a split of a string that begins at this address: those of what
-/// comes after an index, as many as there is room for.
+/// Fills `out` with the next pieces of a split of a string that begins at this address: those of
+/// what comes after an index, as many as there is room for.
 #[unsafe(no_mangle)]
 pub extern "C" fn osb_core_split_fill(
     bytes: &[u8],

@@ -1,8 +1,9 @@
 //! One symbol of a string.
-ghost use Rattle.std.specs.Prelude.{◌≡◌, ◌<◌, ◌≤◌, ◌↔◌, ◌⊎◌, ◌++◌, ℕ, length, drop, MatchOption, IfSome, IfNone};
+ghost use Rattle.std.specs.Prelude.{◌≡◌, ◌<◌, ◌≤◌, ◌↔◌, ◌++◌, ◌∷◌, [], ℕ, length, drop, MatchOption, IfSome, IfNone};
 ghost use Rattle.std.specs.Char.{encode_utf8};
 ghost use Rattle.wtf8_core.specs.Covered.{StartsWithNoCharacter};
 ghost use Rattle.wtf8_core.specs.Wtf8.{IsWtf8};
+ghost use Rattle.osbytes_c.specs.Answers.{IsOneOf};
 ghost use Rattle.osbytes_c.specs.Faults.{IsString, IsUnstring};
 ghost use Rattle.osbytes_c.specs.SymbolFills.{IsSymbolStep};
 ghost use Rattle.osbytes_c.specs.Steps.{IsSymbolAt, IsFirstOf, IsSurrogatePrefix, StartsWithNoSymbol, StartsWithSymbol, step_after};
@@ -38,8 +39,7 @@ pub extern "C" fn osb_core_symbol(platform: u32, bytes: &[u8], at: usize, symbol
     ensures index { (result ≡ 18) ↔ ((platform ≤ 2) × (length bytes.now < at)) }
     ensures ended { (result ≡ 4) ↔ ((platform ≤ 2) × (at ≡ length bytes.now)) }
     ensures platform { (result ≡ 16) ↔ (2 < platform) }
-    ensures answers { (result ≡ 0) ⊎ ((result ≡ 1) ⊎ ((result ≡ 18)
-        ⊎ ((result ≡ 4) ⊎ (result ≡ 16)))) }
+    ensures answers { IsOneOf (0 ∷ 1 ∷ 18 ∷ 4 ∷ 16 ∷ []) result }
 {
     if platform > 2 {
         return NO_PLATFORM;

@@ -22,8 +22,8 @@ pub struct SymbolView {
     pub bytes: View,
 }
 
-/// Fills `out` with the next symbols of a string that begins at this address: those of what comes after
-/// an index, as many as there is room for, if that is a string of the platform.
+/// Fills `out` with the next symbols of a string that begins at this address: those of what comes
+/// after an index, as many as there is room for, if that is a string of the platform.
 #[unsafe(no_mangle)]
 pub extern "C" fn osb_core_symbols_fill(
     platform: u32,

@@ -24,8 +24,8 @@ pub struct Filled {
     pub ended: bool,
 }
 
-/// Whether an index is past the end of a string that begins at this address, or that end past the greatest
-/// address.
+/// Whether an index is past the end of a string that begins at this address, or that end past the
+/// greatest address.
 #[inline(always)]
 pub(crate) fn is_outside(bytes: &[u8], at: usize, address: usize) -> bool
     ensures { IsTrue result ↔ IsOutside address at bytes.now }

@@ -43,7 +43,8 @@ pub fn push_line<E: Platform, A: Allocator>(
 }
 
 /// Whether each byte is plain: printable ASCII other than the backslash. All are tested, also after
-/// one that isn't, so that vectors can do it.
+/// one that isn't, so that vectors can do it. The test that `os_quote` makes stops at such a byte,
+/// and is private.
 ///
 /// ```
 /// use program_frame::lists::lines::is_plain;

@@ -13,7 +13,7 @@ loop-argument-init g c = none_yet (units_of (bytes c.args.program)) _ _ c.new-li
 
 pub loop-argument-preserved : goal.loop-argument-preserved
 loop-argument-preserved g c =
-    one_joined _ _ _ _ _ c.loop-argument.invariant (units_of (bytes c.in-Some-first_after.argument)) _ (ap (map units_of) c.in-Some-first_after.ensures.first) _ _ c.in_ok-push_one.ensures.pushed c.in-Ok.ensures.written c.in-Ok.ensures.no_nul
+    one_joined _ _ _ _ _ c.loop-argument.invariant (units_of (bytes c.in-Some-string_at.argument)) _ (ap (map units_of) c.in-Some-string_at.ensures.first) _ _ c.in_ok-push_one.ensures.pushed c.in-Ok.ensures.written c.in-Ok.ensures.no_nul
 
 pub returns-in-Err-clause-fault : goal.returns-in-Err-clause-fault
 returns-in-Err-clause-fault g c =
@@ -22,19 +22,19 @@ returns-in-Err-clause-fault g c =
       (c.in_default.ensures, c.in_default-first_at.ensures),
       record {
         before = so_far.done;
-        argument = units_of (bytes c.in-Some-first_after.argument);
+        argument = units_of (bytes c.in-Some-string_at.argument);
         after = _;
-        joined = so_far.joined ∙ ap (λ z. so_far.done ++ z) (ap (map units_of) c.in-Some-first_after.ensures.first);
+        joined = so_far.joined ∙ ap (λ z. so_far.done ++ z) (ap (map units_of) c.in-Some-string_at.ensures.first);
         none_before = so_far.no_nul;
         is = c.in-Err.ensures.fault;
       },
     )
 
 pub returns-clause-written : goal.returns-clause-written
-returns-clause-written g c = all_joined _ _ _ _ _ c.loop-argument.invariant (ap (map units_of) c.in_default-first_after.ensures.first)
+returns-clause-written g c = all_joined _ _ _ _ _ c.loop-argument.invariant (ap (map units_of) c.in_default-string_at.ensures.first)
 
 pub returns-clause-line : goal.returns-clause-line
-returns-clause-line g c = line_reads _ _ _ c.in_default-first_at.ensures (all_joined _ _ _ _ _ c.loop-argument.invariant (ap (map units_of) c.in_default-first_after.ensures.first))
+returns-clause-line g c = line_reads _ _ _ c.in_default-first_at.ensures (all_joined _ _ _ _ _ c.loop-argument.invariant (ap (map units_of) c.in_default-string_at.ensures.first))
 
 pub returns-clause-no_nul : goal.returns-clause-no_nul
-returns-clause-no_nul g c = ((c.in_default.ensures, c.in_default-first_at.ensures), none_has_nul _ _ _ _ _ c.loop-argument.invariant (ap (map units_of) c.in_default-first_after.ensures.first))
+returns-clause-no_nul g c = ((c.in_default.ensures, c.in_default-first_at.ensures), none_has_nul _ _ _ _ _ c.loop-argument.invariant (ap (map units_of) c.in_default-string_at.ensures.first))
