@@ -58,23 +58,23 @@ module _ {A : Type 0} where
 
   module _ (content : List ℕ) where
     its_line : (number : ℕ) (front : List (List ℕ)) (line : List ℕ) (left : List (List ℕ)) → lines_of content ≡ front ++ line ∷ left → number ≡ length front + 1
-        → (text : List ℕ) (says : Result (Line A) NoPattern) → SaysLine number text says → AllByRecursion (IsThere content) (list_of says)
+        → (text : List ℕ) (says : Result (Line A) NoPattern) → SaysLine false number text says → AllByRecursion (IsThere content) (list_of says)
     its_line number front line left joined n text (Err reason) s = tt
     its_line number front line left joined n text (Ok read) s =
         (λ none. some_is_none line (sym (ap (λ z. slice_get z (length front)) joined ∙ element_at front line left) ∙ none (length front) (s.0 ∙ n)), tt)
 
     each_line : (number : ℕ) (front left : List (List ℕ)) (groups : List (List (Line A))) (end : ℕ × List (List ℕ)) → lines_of content ≡ front ++ left → number ≡ length front + 1
-        → Reads IsLineRead (number, left) groups end → AllByRecursion (IsThere content) (concat_of groups)
+        → Reads (IsLineRead false) (number, left) groups end → AllByRecursion (IsThere content) (concat_of groups)
     each_line number front left [] end joined n r = tt
     each_line number front [] (g ∷ gs) end joined n r = absurd r.1
     each_line number front (line ∷ left) (g ∷ gs) end joined n r =
-        let h : IsNextLine number line left g r.0 = r.1 in
+        let h : IsNextLine false number line left g r.0 = r.1 in
         let here = subst (AllByRecursion (IsThere content)) (sym h.said_is) (its_line number front line left joined n h.text h.says h.text_says) in
         let longer = length-append front (line ∷ []) in
         both (IsThere content) g (concat_of gs) here
-        (each_line (number + 1) (front ++ line ∷ []) left gs end (joined ∙ sym (append_assoc front (line ∷ []) left)) (omega (arith, n, longer)) (subst (λ z. Reads IsLineRead z gs end) h.left_is r.2))
+        (each_line (number + 1) (front ++ line ∷ []) left gs end (joined ∙ sym (append_assoc front (line ∷ []) left)) (omega (arith, n, longer)) (subst (λ z. Reads (IsLineRead false) z gs end) h.left_is r.2))
 
-    all_lines : (lines : List (Line A)) → AreLines content lines → AllByRecursion (IsThere content) lines
+    all_lines : (lines : List (Line A)) → AreLines false content lines → AllByRecursion (IsThere content) lines
     all_lines lines a = subst (AllByRecursion (IsThere content)) (sym a.joined) (each_line 1 [] (lines_of content) a.groups (a.count, []) refl refl a.read)
 
   -- the file's number is below the count, and each of its lines is there
