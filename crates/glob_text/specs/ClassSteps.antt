@@ -8,7 +8,7 @@ use Rattle.glob_text.specs.declared.class_text.Next.{Next}
 use Rattle.glob_text.specs.declared.class_text.Next.TheVariants as next
 use Rattle.wildcards.specs.declared.range.Range.{Range}
 use Rattle.std.specs.Prelude.{◌∷◌}
-use Rattle.glob_text.specs.Names.{name_ranges}
+use Rattle.wildcards.specs.ClassName.{name_ranges}
 use Rattle.glob_text.specs.ClassText.{ClassReading, broken, closed}
 use Rattle.glob_text.specs.ClassText as text
 

@@ -2,13 +2,13 @@
 use Rattle.std.specs.Prelude.{◌≡◌, ℕ, Bool, true, false, not, nat_eq, nat_lt, ◌&&◌, ◌||◌, cond, List, [], ◌∷◌, Option, Some, None}
 use Rattle.wildcards.specs.declared.range.Range.{Range}
 use Rattle.glob_text.specs.declared.symbol.Symbol.{Symbol}
-use Rattle.glob_text.specs.declared.name.Name.{Name}
+use Rattle.wildcards.specs.declared.class_name.ClassName.{ClassName}
 use Rattle.glob_text.specs.declared.fault.PatternFault.{PatternFault}
 use Rattle.glob_text.specs.declared.fault.FaultKind.TheVariants.{UnclosedClass, ReversedRange, UnknownClassName}
 use Rattle.glob_text.specs.declared.class_text.ClassLetter.{ClassLetter}
 use Rattle.glob_text.specs.declared.class_text.Before.{Before}
 use Rattle.glob_text.specs.declared.class_text.Before.TheVariants.{First, From, Nothing}
-use Rattle.glob_text.specs.Names.{name_text, all_names, name_ranges, range}
+use Rattle.wildcards.specs.ClassName.{name_text, all_names, name_ranges, range}
 use Rattle.glob_text.specs.Reading.{ReadsLists}
 
 -- the letter, and not quoted
@@ -32,12 +32,12 @@ after_text (b ∷ bs) [] = None
 after_text (b ∷ bs) (x ∷ xs) = cond (nat_eq x.letter b) (after_text bs xs) None
 
 -- the name, where there is something after it, or else another
-abbrev pub or_name : Name → Option (List Symbol) → Option (Name × List Symbol) → Option (Name × List Symbol)
+abbrev pub or_name : ClassName → Option (List Symbol) → Option (ClassName × List Symbol) → Option (ClassName × List Symbol)
 or_name name (Some rest) other = Some (name, rest)
 or_name name None other = other
 
 -- the first of the names that the symbols begin with, and what comes after it
-abbrev pub known_name : List Name → List Symbol → Option (Name × List Symbol)
+abbrev pub known_name : List ClassName → List Symbol → Option (ClassName × List Symbol)
 known_name [] xs = None
 known_name (name ∷ names) xs = or_name name (after_text (name_text name) xs) (known_name names xs)
 
@@ -80,7 +80,7 @@ pub data ClassReading : Type 0 where
   member : List Range → Before → List Symbol → ClassReading
 
 -- a named class, whose name has to be known
-abbrev pub with_name : ℕ → Option (Name × List Symbol) → ClassReading
+abbrev pub with_name : ℕ → Option (ClassName × List Symbol) → ClassReading
 with_name index (Some known) = member (name_ranges known.0) Nothing known.1
 with_name index None = broken (record { kind = UnknownClassName; index = index })
 

@@ -4,7 +4,7 @@ use Rattle.wildcards.specs.declared.range.Range.{Range}
 use Rattle.wildcards.specs.Ranges.{is_in}
 use Rattle.ucd_case.specs.CaseFolding.{simple_fold}
 use Rattle.glob_text.specs.Marks.{Mark, literal, any, star, one_of, opens, comma, closes}
-use Rattle.glob_text.specs.Names.{range}
+use Rattle.wildcards.specs.ClassName.{range}
 
 -- a letter of the ranges is alike
 abbrev pub HasAlike : List Range → ℕ → Type 0

@@ -1,6 +1,5 @@
 pub mod Reading
 pub mod Symbols
-pub mod Names
 pub mod ClassText
 pub mod ClassSteps
 pub mod Marks

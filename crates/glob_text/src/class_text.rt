@@ -4,10 +4,10 @@ ghost use Rattle.glob_text.specs.ClassText.{is_plain, letter_at, ends_name, name
 ghost use Rattle.glob_text.specs.ClassSteps.{first_end, member_ranges, reading_of, IsEndBefore, IsFirstEnd, LeavesLess};
 
 use crate::fault::{FaultKind, PatternFault};
-use crate::name::{Name, known_name};
+use crate::name::{known_name, push_named};
 use crate::symbol::Symbol;
 use std::alloc::{AllocError, Allocator, Global};
-use wildcards::Range;
+use wildcards::{ClassName, Range};
 
 /// A letter of a class's text, and whether a backslash quotes it.
 #[derive(Clone, Copy)]
@@ -33,7 +33,7 @@ enum Member {
     /// A letter, or a range.
     Letters(Range),
     /// `[:alpha:]` and the like.
-    Named(Name),
+    Named(ClassName),
 }
 
 /// What comes next in a class.
@@ -86,7 +86,7 @@ impl Member {
                 ranges.push(range)?;
                 Ok(())
             }
-            Member::Named(name) => name.push_to(ranges),
+            Member::Named(name) => push_named(name, ranges),
         }
     }
 }

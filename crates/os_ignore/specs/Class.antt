@@ -1,14 +1,14 @@
 -- Which bytes a class permits (git's wildmatch.c).
 use Rattle.std.specs.Prelude.{ℕ, Bool, true, false, not, nat_eq, nat_le, ◌&&◌, ◌||◌, List, [], ◌∷◌}
 use Rattle.std.specs.Char.{is_ascii_alphanumeric, is_ascii_alphabetic, is_ascii_control, is_ascii_digit, is_ascii_graphic, is_ascii_lowercase, is_ascii_punctuation, is_ascii_uppercase, is_ascii_hexdigit, to_ascii_uppercase}
-use Rattle.os_ignore.specs.declared.class.Name.{Name}
-use Rattle.os_ignore.specs.declared.class.Name.TheVariants.{Alnum, Alpha, Blank, Cntrl, Digit, Graph, Lower, Print, Punct, Space, Upper, Xdigit}
+use Rattle.wildcards.specs.declared.class_name.ClassName.{ClassName}
+use Rattle.wildcards.specs.declared.class_name.ClassName.TheVariants.{Alnum, Alpha, Blank, Cntrl, Digit, Graph, Lower, Print, Punct, Space, Upper, Xdigit}
 use Rattle.os_ignore.specs.declared.class.Member.{Member}
 use Rattle.os_ignore.specs.declared.class.Member.TheVariants.{Single, Range, Named}
 use Rattle.os_ignore.specs.Letters.{folded}
 
 -- the named class, over ASCII, has the byte: git's `space` is blank, tab, line feed and carriage return
-abbrev pub is_named : Name → ℕ → Bool
+abbrev pub is_named : ClassName → ℕ → Bool
 is_named Alnum b = is_ascii_alphanumeric b
 is_named Alpha b = is_ascii_alphabetic b
 is_named Blank b = nat_eq b 0x20 || nat_eq b 0x9
@@ -29,7 +29,7 @@ is_exactly (Range from to) b = nat_le from b && nat_le b to
 is_exactly (Named name) b = is_named name b
 
 -- the named class is that of capitals
-abbrev pub is_upper : Name → Bool
+abbrev pub is_upper : ClassName → Bool
 is_upper Alnum = false
 is_upper Alpha = false
 is_upper Blank = false

@@ -1,8 +1,10 @@
 -- What the reader of a class returns, and the ranges that it compiles members to: only private contracts name this.
 use Rattle.std.specs.Prelude.{◌≡◌, ℕ, ◌<◌, ◌≤◌, ◌+◌, ◌-◌, max, min, Bool, true, false, nat_eq, cond, length, List, [], ◌∷◌, ◌++◌}
 use Rattle.wildcards.specs.declared.range.Range.{Range}
-use Rattle.os_ignore.specs.declared.class.Name.{Name}
-use Rattle.os_ignore.specs.declared.class.Name.TheVariants.{Alnum, Alpha, Blank, Cntrl, Digit, Graph, Lower, Print, Punct, Space, Upper, Xdigit}
+use Rattle.wildcards.specs.declared.class_name.ClassName.{ClassName}
+use Rattle.wildcards.specs.declared.class_name.ClassName.TheVariants.{Space}
+use Rattle.wildcards.specs.ClassName.{range, smalls}
+use Rattle.wildcards.specs.ClassName as posix
 use Rattle.os_ignore.specs.declared.class.Member.{Member}
 use Rattle.os_ignore.specs.declared.class.Member.TheVariants as written
 use Rattle.os_ignore.specs.declared.letter.Letter.{Letter}
@@ -36,34 +38,10 @@ AreNameless n letters = (front ys : List Letter) → letters ≡ front ++ ys →
 abbrev pub AreNamelessWithin : ℕ → List Letter → Type 0
 AreNamelessWithin n letters = (front ys : List Letter) → letters ≡ front ++ ys → 1 < length front → n ≤ length ys → ends_name false ys ≡ false
 
--- the letters from the first to the last
-abbrev pub range : ℕ → ℕ → Range
-range first last = record { first = first; last = last }
-
--- digits, and small and capital letters
-abbrev pub digits : Range
-digits = range 0x30 0x39
-
-abbrev pub capitals : Range
-capitals = range 0x41 0x5A
-
-abbrev pub smalls : Range
-smalls = range 0x61 0x7A
-
--- the ranges of a named class
-abbrev pub name_ranges : Name → List Range
-name_ranges Alnum = digits ∷ capitals ∷ smalls ∷ []
-name_ranges Alpha = capitals ∷ smalls ∷ []
-name_ranges Blank = range 0x20 0x20 ∷ range 0x9 0x9 ∷ []
-name_ranges Cntrl = range 0x0 0x1F ∷ range 0x7F 0x7F ∷ []
-name_ranges Digit = digits ∷ []
-name_ranges Graph = range 0x21 0x7E ∷ []
-name_ranges Lower = smalls ∷ []
-name_ranges Print = range 0x20 0x20 ∷ range 0x21 0x7E ∷ []
-name_ranges Punct = range 0x21 0x2F ∷ range 0x3A 0x40 ∷ range 0x5B 0x60 ∷ range 0x7B 0x7E ∷ []
+-- the ranges of a named class, as git has it: `space` is blank, tab, line feed and carriage return
+abbrev pub name_ranges : ClassName → List Range
 name_ranges Space = range 0x20 0x20 ∷ range 0x9 0x9 ∷ range 0xA 0xA ∷ range 0xD 0xD ∷ []
-name_ranges Upper = capitals ∷ []
-name_ranges Xdigit = digits ∷ range 0x41 0x46 ∷ range 0x61 0x66 ∷ []
+name_ranges name = posix.name_ranges name
 
 -- those of a member
 abbrev pub exact_ranges : Member → List Range

@@ -1,10 +1,10 @@
 -- How a class is written (git's wildmatch.c): `[`, then `!` or `^` if it is negated, members, and `]`, which is a member if it comes first.
-use Rattle.std.specs.Prelude.{◌≡◌, ℕ, Bool, true, false, not, nat_eq, ◌&&◌, ◌||◌, cond, List, [], ◌∷◌, Option, Some, None, codes}
+use Rattle.std.specs.Prelude.{◌≡◌, ℕ, Bool, true, false, not, nat_eq, ◌&&◌, ◌||◌, cond, List, [], ◌∷◌, Option, Some, None}
 use Rattle.wildcards.specs.declared.class.Class.{Class}
 use Rattle.wildcards.specs.Classes.{permitted}
 use Rattle.os_ignore.specs.declared.letter.Letter.{Letter}
-use Rattle.os_ignore.specs.declared.class.Name.{Name}
-use Rattle.os_ignore.specs.declared.class.Name.TheVariants.{Alnum, Alpha, Blank, Cntrl, Digit, Graph, Lower, Print, Punct, Space, Upper, Xdigit}
+use Rattle.wildcards.specs.declared.class_name.ClassName.{ClassName}
+use Rattle.wildcards.specs.ClassName.{name_text, all_names}
 use Rattle.os_ignore.specs.declared.class.Member.{Member}
 use Rattle.os_ignore.specs.declared.class.Member.TheVariants.{Single, Range, Named}
 use Rattle.os_ignore.specs.declared.class_text.Before.{Before}
@@ -13,24 +13,6 @@ use Rattle.os_ignore.specs.Class.{permits}
 use Rattle.os_ignore.specs.Letters.{is_plain}
 use Rattle.os_ignore.specs.Reading.{Reads}
 
--- the names of classes, with what closes them
-abbrev pub name_text : Name → List ℕ
-name_text Alnum = codes "alnum:]"
-name_text Alpha = codes "alpha:]"
-name_text Blank = codes "blank:]"
-name_text Cntrl = codes "cntrl:]"
-name_text Digit = codes "digit:]"
-name_text Graph = codes "graph:]"
-name_text Lower = codes "lower:]"
-name_text Print = codes "print:]"
-name_text Punct = codes "punct:]"
-name_text Space = codes "space:]"
-name_text Upper = codes "upper:]"
-name_text Xdigit = codes "xdigit:]"
-
-abbrev pub all_names : List Name
-all_names = Alnum ∷ Alpha ∷ Blank ∷ Cntrl ∷ Digit ∷ Graph ∷ Lower ∷ Print ∷ Punct ∷ Space ∷ Upper ∷ Xdigit ∷ []
-
 -- what comes after the bytes, where the letters begin with them and none is quoted
 abbrev pub after_text : List ℕ → List Letter → Option (List Letter)
 after_text [] ls = Some ls
@@ -38,12 +20,12 @@ after_text (b ∷ bs) [] = None
 after_text (b ∷ bs) (l ∷ ls) = cond (is_plain l b) (after_text bs ls) None
 
 -- the name, where there is something after it, or else another
-abbrev pub or_name : Name → Option (List Letter) → Option (Name × List Letter) → Option (Name × List Letter)
+abbrev pub or_name : ClassName → Option (List Letter) → Option (ClassName × List Letter) → Option (ClassName × List Letter)
 or_name name (Some rest) other = Some (name, rest)
 or_name name None other = other
 
 -- the first of the names that the letters begin with, and what comes after it
-abbrev pub known_name : List Name → List Letter → Option (Name × List Letter)
+abbrev pub known_name : List ClassName → List Letter → Option (ClassName × List Letter)
 known_name [] ls = None
 known_name (name ∷ names) ls = or_name name (after_text (name_text name) ls) (known_name names ls)
 
@@ -77,7 +59,7 @@ pub data Reading : Type 0 where
   member : Member → Before → List Letter → Reading
 
 -- a named class, whose name has to be known
-abbrev pub with_name : Option (Name × List Letter) → Reading
+abbrev pub with_name : Option (ClassName × List Letter) → Reading
 with_name (Some known) = member (Named known.0) Nothing known.1
 with_name None = broken
 

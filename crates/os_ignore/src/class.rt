@@ -3,29 +3,13 @@ ghost use Rattle.std.specs.Prelude.{◌≡◌, ◌++◌, ℕ, IfOk};
 ghost use Rattle.wildcards.specs.Classes.{permitted};
 ghost use Rattle.wildcards.specs.Ranges.{permits};
 ghost use Rattle.os_ignore.specs.Class.{is_upper};
-ghost use Rattle.os_ignore.specs.ClassSteps.{range, small_range, name_ranges, exact_ranges, small_ranges, member_ranges, both_cases, all_cases};
+ghost use Rattle.wildcards.specs.ClassName.{range};
+ghost use Rattle.os_ignore.specs.ClassSteps.{small_range, name_ranges, exact_ranges, small_ranges, member_ranges, both_cases, all_cases};
 ghost use Rattle.os_ignore.specs.Letters.{folded};
 ghost use Rattle.os_ignore.specs.PatternText.{FitsCases};
 
 use std::alloc::{AllocError, Allocator};
-use wildcards::{Class, Item, Range};
-
-/// A class of POSIX, over ASCII, as git has it.
-#[derive(Clone, Copy)]
-pub enum Name {
-    Alnum,
-    Alpha,
-    Blank,
-    Cntrl,
-    Digit,
-    Graph,
-    Lower,
-    Print,
-    Punct,
-    Space,
-    Upper,
-    Xdigit,
-}
+use wildcards::{Class, ClassName, Item, Range};
 
 /// What a class is written with.
 #[derive(Clone, Copy)]
@@ -35,7 +19,7 @@ pub enum Member {
     /// `-` and a byte: the bytes from the one before to this one.
     Range(u8, u8),
     /// `[:alpha:]` and the like.
-    Named(Name),
+    Named(ClassName),
 }
 
 /// The bytes from the first to the last.
@@ -58,68 +42,43 @@ fn small_range(from: u8, to: u8) -> Range
     }
 }
 
-/// A list of ranges, each from its first to its last.
-macro_rules! ranges {
-    ($($first:literal to $last:literal),*) => {
-        [$(Range { first: $first, last: $last }),*]
-    };
+/// What git has as `[:space:]`: no vertical tab and no form feed.
+const SPACE: [Range; 4] = [
+    Range {
+        first: 0x20,
+        last: 0x20,
+    },
+    Range {
+        first: 0x9,
+        last: 0x9,
+    },
+    Range {
+        first: 0xA,
+        last: 0xA,
+    },
+    Range {
+        first: 0xD,
+        last: 0xD,
+    },
+];
+
+/// The letters of a named class, as git has it.
+fn named_ranges(name: ClassName) -> &'static [Range]
+    ensures { result.now ≡ name_ranges name }
+{
+    match name {
+        ClassName::Space => &SPACE,
+        _ => name.ranges(),
+    }
 }
 
-const ALNUM: [Range; 3] = ranges!(0x30 to 0x39, 0x41 to 0x5A, 0x61 to 0x7A);
-
-const ALPHA: [Range; 2] = ranges!(0x41 to 0x5A, 0x61 to 0x7A);
-
-const BLANK: [Range; 2] = ranges!(0x20 to 0x20, 0x09 to 0x09);
-
-const CNTRL: [Range; 2] = ranges!(0 to 0x1F, 0x7F to 0x7F);
-
-const DIGIT: [Range; 1] = ranges!(0x30 to 0x39);
-
-const GRAPH: [Range; 1] = ranges!(0x21 to 0x7E);
-
-const LOWER: [Range; 1] = ranges!(0x61 to 0x7A);
-
-const PRINT: [Range; 2] = ranges!(0x20 to 0x20, 0x21 to 0x7E);
-
-const PUNCT: [Range; 4] = ranges!(0x21 to 0x2F, 0x3A to 0x40, 0x5B to 0x60, 0x7B to 0x7E);
-
-const SPACE: [Range; 4] = ranges!(0x20 to 0x20, 0x09 to 0x09, 0x0A to 0x0A, 0x0D to 0x0D);
-
-const UPPER: [Range; 1] = ranges!(0x41 to 0x5A);
-
-const XDIGIT: [Range; 3] = ranges!(0x30 to 0x39, 0x41 to 0x46, 0x61 to 0x66);
-
-impl Name {
-    /// Its letters.
-    fn ranges(self) -> &'static [Range]
-        ensures { result.now ≡ name_ranges self }
-    {
-        match self {
-            Name::Alnum => &ALNUM,
-            Name::Alpha => &ALPHA,
-            Name::Blank => &BLANK,
-            Name::Cntrl => &CNTRL,
-            Name::Digit => &DIGIT,
-            Name::Graph => &GRAPH,
-            Name::Lower => &LOWER,
-            Name::Print => &PRINT,
-            Name::Punct => &PUNCT,
-            Name::Space => &SPACE,
-            Name::Upper => &UPPER,
-            Name::Xdigit => &XDIGIT,
-        }
-    }
-
-    /// Whether it is the class of capitals.
-    fn is_upper(self) -> bool
-        ensures { result ≡ is_upper self }
-    {
-        match self {
-            Name::Upper => true,
-            Name::Alnum | Name::Alpha | Name::Blank | Name::Cntrl | Name::Digit | Name::Graph =>
-                false,
-            Name::Lower | Name::Print | Name::Punct | Name::Space | Name::Xdigit => false,
-        }
+/// Whether it is the class of capitals.
+fn is_upper(name: ClassName) -> bool
+    ensures { result ≡ is_upper name }
+{
+    match name {
+        ClassName::Upper => true,
+        _ => false,
     }
 }
 
@@ -137,7 +96,7 @@ impl Member {
                 ranges.push(range(from, to))?;
                 Ok(())
             }
-            Member::Named(name) => ranges.extend_from_slice(name.ranges()),
+            Member::Named(name) => ranges.extend_from_slice(named_ranges(name)),
         }
     }
 
@@ -152,8 +111,8 @@ impl Member {
                 Ok(())
             }
             Member::Named(name) => {
-                if name.is_upper() {
-                    ranges.extend_from_slice(&LOWER)?;
+                if is_upper(name) {
+                    ranges.extend_from_slice(ClassName::Lower.ranges())?;
                 }
                 Ok(())
             }

@@ -1,12 +1,12 @@
 //! Classes as they are written in a line.
 ghost use Rattle.std.specs.Prelude.{◌≡◌, ◌∷◌, ◌<◌, ◌≤◌, false, true, length, None, Some, MatchOption, IfOk, IfSome};
-ghost use Rattle.os_ignore.specs.ClassText.{all_names, name_text, after_text, known_name, ends_name, named_text, closes, range_at, member_at, negation, IsClass, IsBrokenClass};
+ghost use Rattle.os_ignore.specs.ClassText.{after_text, known_name, ends_name, named_text, closes, range_at, member_at, negation, IsClass, IsBrokenClass};
 ghost use Rattle.os_ignore.specs.ClassSteps.{from_bracket, AreNameless, AreNamelessWithin, reading_of, LeavesLess};
 
-use crate::class::{Member, Name, class_of};
+use crate::class::{Member, class_of};
 use crate::letter::Letter;
 use std::alloc::{AllocError, Allocator};
-use wildcards::Class;
+use wildcards::{Class, ClassName};
 
 /// What comes before a letter of a class.
 #[derive(Clone, Copy)]
@@ -28,28 +28,6 @@ enum Next<'a> {
     Closed(&'a [Letter]),
     /// A member, what it is for the next, and what comes after it.
     Member(Member, Before, &'a [Letter]),
-}
-
-impl Name {
-    /// The name, with what closes it.
-    fn text(self) -> &'static [u8]
-        ensures { result.now ≡ name_text self }
-    {
-        match self {
-            Name::Alnum => b"alnum:]",
-            Name::Alpha => b"alpha:]",
-            Name::Blank => b"blank:]",
-            Name::Cntrl => b"cntrl:]",
-            Name::Digit => b"digit:]",
-            Name::Graph => b"graph:]",
-            Name::Lower => b"lower:]",
-            Name::Print => b"print:]",
-            Name::Punct => b"punct:]",
-            Name::Space => b"space:]",
-            Name::Upper => b"upper:]",
-            Name::Xdigit => b"xdigit:]",
-        }
-    }
 }
 
 impl Before {
@@ -85,7 +63,7 @@ fn after_text<'a>(text: &[u8], letters: &'a [Letter]) -> Option<&'a [Letter]>
 }
 
 /// The first of the names that letters begin with, and what comes after it.
-fn known_name<'a>(names: &[Name], letters: &'a [Letter]) -> Option<(Name, &'a [Letter])>
+fn known_name<'a>(names: &[ClassName], letters: &'a [Letter]) -> Option<(ClassName, &'a [Letter])>
     ensures name { MatchOption result (known_name names.entry.now letters.now ≡ None)
         (λ p. known_name names.entry.now letters.now ≡ Some (p.0, p.1.now)) }
     ensures shorter { IfSome result (λ p. length p.1.now ≤ length letters.now) }
@@ -196,21 +174,7 @@ fn next_member<'a>(before: Before, text: &'a [Letter], nameless: &mut usize) -> 
     let Some(name) = named_text(*first, rest, nameless) else {
         return Next::Member(Member::Single(first.byte), Before::Byte(first.byte), rest);
     };
-    let names = [
-        Name::Alnum,
-        Name::Alpha,
-        Name::Blank,
-        Name::Cntrl,
-        Name::Digit,
-        Name::Graph,
-        Name::Lower,
-        Name::Print,
-        Name::Punct,
-        Name::Space,
-        Name::Upper,
-        Name::Xdigit,
-    ];
-    match known_name(&names, name) {
+    match known_name(ClassName::all(), name) {
         Some((name, more)) => Next::Member(Member::Named(name), Before::Nothing, more),
         None => Next::Broken,
     }

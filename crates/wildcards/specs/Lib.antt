@@ -1,4 +1,5 @@
 pub mod Ranges
+pub mod ClassName
 pub mod Classes
 pub mod Components
 pub mod Wild

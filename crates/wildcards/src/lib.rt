@@ -10,6 +10,7 @@
 
 mod candidates;
 mod class;
+mod class_name;
 mod component;
 mod digest;
 mod enough;
@@ -31,6 +32,7 @@ mod separators;
 mod set;
 
 pub use class::Class;
+pub use class_name::ClassName;
 pub use letters::{Bytes, Letters};
 pub use options::Options;
 pub use part::Part;

@@ -20,7 +20,7 @@ use Rattle.glob_text.specs.ClassText.{broken, closed, member, after_letter, memb
 use Rattle.glob_text.specs.Escape.{is_literal, quoted, escaped_letter, escaped}
 use Rattle.glob_text.specs.Marks.{Mark, literal, one_of, is_quoting, kind_of, MarkAt, MarkFault, IsMark, IsFaultHere, IsMarkFault, AreMarks}
 use Rattle.glob_text.specs.Meaning.{FitsMark, mark_piece, begins_dotted}
-use Rattle.glob_text.specs.Names.{range}
+use Rattle.wildcards.specs.ClassName.{range}
 use Rattle.glob_text.specs.Parts.{is_separator, is_doubled}
 use Rattle.glob_text.specs.Reading.{Reads, concat_of}
 use Rattle.glob_text.proofs.lemmas.EscapedLetters.{special, plain_letter, special_letter}

@@ -12,7 +12,7 @@ use Rattle.wildcards.specs.Ranges.{is_in, lies_in}
 use Rattle.glob_text.specs.Folded.{HasAlike, AreFolded, IsAlone, IsFolded, AreCased}
 use Rattle.glob_text.specs.FoldSteps.{AddsAlike, IsFirstPair}
 use Rattle.glob_text.specs.Marks.{Mark}
-use Rattle.glob_text.specs.Names.{range}
+use Rattle.wildcards.specs.ClassName.{range}
 
 same_or_not : (a b : ℕ) → (a ≡ b) ⊎ (a ≢ b)
 same_or_not a b = by_eqb (eqb a b) refl

@@ -3,13 +3,13 @@ use Rattle.std.proofs.Common.{◌≡◌, ℕ, ◌<◌, ◌≤◌, nat_eq, nat_lt
 use Rattle.std.proofs.lemmas.Bool.{eqb-true, cond_both, le-ltb, lt-ltb}
 use Rattle.wildcards.specs.declared.range.Range.{Range}
 use Rattle.glob_text.specs.declared.symbol.Symbol.{Symbol}
-use Rattle.glob_text.specs.declared.name.Name.{Name}
+use Rattle.wildcards.specs.declared.class_name.ClassName.{ClassName}
 use Rattle.glob_text.specs.declared.class_text.Before.{Before}
 use Rattle.glob_text.specs.declared.class_text.Before.TheVariants.{First, From, Nothing}
 use Rattle.glob_text.specs.declared.class_text.ClassLetter.{ClassLetter}
 use Rattle.glob_text.specs.declared.class_text.NameEnd.{NameEnd}
 use Rattle.glob_text.specs.declared.fault.FaultKind.TheVariants.{ReversedRange}
-use Rattle.glob_text.specs.Names.{name_text, all_names, range}
+use Rattle.wildcards.specs.ClassName.{name_text, all_names, range}
 use Rattle.glob_text.specs.ClassText.{broken, closed, is_plain, quoted_letter, letter_at, after_text, or_name, known_name, ends_name, named_text, closes, range_end, from_to, range_at, member, with_name, with_text, with_range, after_letter, member_at}
 use Rattle.glob_text.specs.ClassSteps.{first_end, IsFirstEnd, EndsWith, IsEndBefore}
 
@@ -126,7 +126,7 @@ text_left (b ∷ bs) (x ∷ xs) rest e = by_letter (nat_eq x.letter b) (λ f. te
     by_letter true more f = further x xs rest (more f)
     by_letter false more f = absurd (none_some f)
 
-known_left : (names : List Name) (xs : List Symbol) (p : Name × List Symbol) → known_name names xs ≡ Some p → EndsWith xs p.1
+known_left : (names : List ClassName) (xs : List Symbol) (p : ClassName × List Symbol) → known_name names xs ≡ Some p → EndsWith xs p.1
 known_left [] xs p e = absurd (none_some e)
 known_left (name ∷ names) xs p e = by_name (after_text (name_text name) xs) refl (λ g. known_left names xs p g) e
   where
@@ -162,7 +162,7 @@ range_left quotes (From s) l xs p e = by_dash (is_plain l 0x2D) e
 pub member_left : (quotes : Bool) (index : ℕ) (before : Before) (text : List Symbol) (ranges : List Range) (after : Before) (rest : List Symbol) → member ranges after rest ≡ member_at quotes index before text → EndsWith text rest
 member_left quotes index before text ranges after rest e = by_letter (letter_at quotes text) refl (sym e)
   where
-    by_name : (n : ℕ) (names : List Symbol) (o : Option (Name × List Symbol)) → known_name all_names names ≡ o → with_name n o ≡ member ranges after rest → EndsWith names rest
+    by_name : (n : ℕ) (names : List Symbol) (o : Option (ClassName × List Symbol)) → known_name all_names names ≡ o → with_name n o ≡ member ranges after rest → EndsWith names rest
     by_name n names (Some known) f g = let same : known.1 ≡ rest = cc in subst (λ z. EndsWith names z) same (known_left all_names names known f)
     by_name n names None f g = absurd cc
 

@@ -10,19 +10,20 @@ use Rattle.wildcards.specs.declared.range.Range.{Range}
 use Rattle.wildcards.specs.Classes.{permitted}
 use Rattle.wildcards.specs.Ranges as ranges
 use Rattle.os_ignore.specs.declared.letter.Letter.{Letter}
-use Rattle.os_ignore.specs.declared.class.Name.{Name}
-use Rattle.os_ignore.specs.declared.class.Name.TheVariants.{Alnum, Alpha, Blank, Cntrl, Digit, Graph, Lower, Print, Punct, Space, Upper, Xdigit}
+use Rattle.wildcards.specs.declared.class_name.ClassName.{ClassName}
+use Rattle.wildcards.specs.declared.class_name.ClassName.TheVariants.{Alnum, Alpha, Blank, Cntrl, Digit, Graph, Lower, Print, Punct, Space, Upper, Xdigit}
 use Rattle.os_ignore.specs.declared.class.Member.{Member}
 use Rattle.os_ignore.specs.declared.class.Member.TheVariants.{Single, Range as From, Named}
 use Rattle.os_ignore.specs.declared.class_text.Before.{Before}
 use Rattle.os_ignore.specs.declared.class_text.Before.TheVariants.{First}
 use Rattle.os_ignore.specs.Class.{is_named, is_upper, is_exactly, has_capital, is_member, is_in}
-use Rattle.os_ignore.specs.ClassSteps.{name_ranges, smalls, small_range, exact_ranges, small_ranges, member_ranges, both_cases, all_cases}
+use Rattle.wildcards.specs.ClassName.{smalls}
+use Rattle.os_ignore.specs.ClassSteps.{name_ranges, small_range, exact_ranges, small_ranges, member_ranges, both_cases, all_cases}
 use Rattle.os_ignore.specs.Letters.{folded}
 use Rattle.os_ignore.specs.ClassText.{IsMember, AreMembers, negation}
 use Rattle.os_ignore.proofs.lemmas.Readings.{more_items}
 
-same_name : (name : Name) (b : ℕ) → ranges.is_in (name_ranges name) b ≡ is_named name b
+same_name : (name : ClassName) (b : ℕ) → ranges.is_in (name_ranges name) b ≡ is_named name b
 same_name Alnum b = grind (arith, nat_tests)
 same_name Alpha b = grind (arith, nat_tests)
 same_name Blank b = grind (arith, nat_tests)

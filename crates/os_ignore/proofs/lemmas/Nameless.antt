@@ -1,12 +1,13 @@
 -- Where no name of a class ends.
 use Rattle.std.proofs.Common.{◌≡◌, ◌<◌, ◌≤◌, ◌+◌, ◌&&◌, not, nat_eq, cond, ℕ, Bool, true, false, Option, Some, None, List, [], ◌∷◌, ◌++◌, length, refl, sym, ap, ◌∙◌, subst, arith, append_assoc, length-append}
 use Rattle.os_ignore.specs.declared.letter.Letter.{Letter}
-use Rattle.os_ignore.specs.declared.class.Name.{Name}
+use Rattle.wildcards.specs.declared.class_name.ClassName.{ClassName}
 use Rattle.os_ignore.specs.declared.class.Member.{Member}
 use Rattle.os_ignore.specs.declared.class_text.Before.{Before}
 use Rattle.os_ignore.specs.declared.class_text.Before.TheVariants.{First, Byte, Nothing}
 use Rattle.os_ignore.specs.Letters.{is_plain}
-use Rattle.os_ignore.specs.ClassText.{Reading, member, all_names, name_text, after_text, or_name, known_name, ends_name, named_text, closes, range_at, with_name, with_text, with_range, member_at}
+use Rattle.wildcards.specs.ClassName.{all_names, name_text}
+use Rattle.os_ignore.specs.ClassText.{Reading, member, after_text, or_name, known_name, ends_name, named_text, closes, range_at, with_name, with_text, with_range, member_at}
 use Rattle.os_ignore.specs.ClassSteps.{from_bracket, AreNameless, AreNamelessWithin}
 
 at_start : (colon : Bool) (letters : List Letter) → ends_name colon letters ≡ false → ends_name false letters ≡ false
@@ -65,7 +66,7 @@ text_rest (b ∷ bs) (l ∷ ls) rest e = go (λ f. text_rest bs ls rest f) (is_p
     go more true f = one_less l ls rest (more f)
     go more false f = absurd cc
 
-name_rest : (names : List Name) (letters : List Letter) (known : Name × List Letter) → known_name names letters ≡ Some known → IsRest letters known.1
+name_rest : (names : List ClassName) (letters : List Letter) (known : ClassName × List Letter) → known_name names letters ≡ Some known → IsRest letters known.1
 name_rest [] letters known e = absurd cc
 name_rest (name ∷ names) letters known e = go (λ g. name_rest names letters known g) (after_text (name_text name) letters) refl e
   where
@@ -95,7 +96,7 @@ member_rest : (before : Before) (letters : List Letter) (m : Member) (after : Be
 member_rest before [] m after rest e = absurd cc
 member_rest before (l ∷ ls) m after rest e = closing (closes before l) e
   where
-    known : (o : Option (Name × List Letter)) (text : List Letter) → known_name all_names text ≡ o → with_name o ≡ member m after rest → IsRest text rest
+    known : (o : Option (ClassName × List Letter)) (text : List Letter) → known_name all_names text ≡ o → with_name o ≡ member m after rest → IsRest text rest
     known None text f g = absurd cc
     known (Some name) text f g = let same : name.1 ≡ rest = cc in subst (IsRest text) same (name_rest all_names text name f)
 

@@ -2,7 +2,7 @@ use Rattle.std.proofs.Common.{◌≡◌, ◌<◌, ◌≤◌, ℕ, List, ◌∷�
 use Rattle.std.proofs.lemmas.List.{get_or_default}
 use Rattle.ucd_case.specs.CaseFolding.{fold_pairs, IsFoldPairs}
 use Rattle.wildcards.specs.Ranges.{lies_in}
-use Rattle.glob_text.specs.Names.{range}
+use Rattle.wildcards.specs.ClassName.{range}
 use Rattle.glob_text.proofs.lemmas.Folding.{added_below, all_added, none_added, none_more, one_added}
 use Rattle.glob_text.proofs.fold.push_alike.Goals as goal
 

@@ -1,11 +1,11 @@
 -- The named classes of POSIX, over ASCII ("Base Definitions", 7.3.1, the POSIX locale).
 use Rattle.std.specs.Prelude.{ℕ, List, [], ◌∷◌, codes}
 use Rattle.wildcards.specs.declared.range.Range.{Range}
-use Rattle.glob_text.specs.declared.name.Name.{Name}
-use Rattle.glob_text.specs.declared.name.Name.TheVariants.{Alnum, Alpha, Blank, Cntrl, Digit, Graph, Lower, Print, Punct, Space, Upper, Xdigit}
+use Rattle.wildcards.specs.declared.class_name.ClassName.{ClassName}
+use Rattle.wildcards.specs.declared.class_name.ClassName.TheVariants.{Alnum, Alpha, Blank, Cntrl, Digit, Graph, Lower, Print, Punct, Space, Upper, Xdigit}
 
 -- the names of classes, with what closes them
-abbrev pub name_text : Name → List ℕ
+abbrev pub name_text : ClassName → List ℕ
 name_text Alnum = codes "alnum:]"
 name_text Alpha = codes "alpha:]"
 name_text Blank = codes "blank:]"
@@ -19,7 +19,7 @@ name_text Space = codes "space:]"
 name_text Upper = codes "upper:]"
 name_text Xdigit = codes "xdigit:]"
 
-abbrev pub all_names : List Name
+abbrev pub all_names : List ClassName
 all_names = Alnum ∷ Alpha ∷ Blank ∷ Cntrl ∷ Digit ∷ Graph ∷ Lower ∷ Print ∷ Punct ∷ Space ∷ Upper ∷ Xdigit ∷ []
 
 -- the letters from the first to the last
@@ -37,7 +37,7 @@ abbrev pub smalls : Range
 smalls = range 0x61 0x7A
 
 -- the letters of a named class
-abbrev pub name_ranges : Name → List Range
+abbrev pub name_ranges : ClassName → List Range
 name_ranges Alnum = digits ∷ capitals ∷ smalls ∷ []
 name_ranges Alpha = capitals ∷ smalls ∷ []
 name_ranges Blank = range 0x9 0x9 ∷ range 0x20 0x20 ∷ []
