@@ -2,7 +2,7 @@
 use Rattle.std.specs.Prelude.{◌≡◌, ℕ, Bool}
 use Rattle.wildcards.specs.declared.class.Class.{Class}
 use Rattle.wildcards.specs.declared.piece.Item.{Item}
-use Rattle.wildcards.specs.declared.piece.Item.TheVariants.{Any, Literal, OneOf}
+use Rattle.wildcards.specs.declared.piece.Item.TheVariants.{Any, Literal, EitherCase, OneOf}
 use Rattle.wildcards.specs.Ranges.{permits}
 
 module _ {A : Type 0} where
@@ -18,4 +18,5 @@ module _ {A : Type 0} where
   abbrev pub IsItemClone : Item A → Item A → Type 0
   IsItemClone Any item = item ≡ Any
   IsItemClone (Literal letter) item = item ≡ Literal letter
+  IsItemClone (EitherCase small) item = item ≡ EitherCase small
   IsItemClone (OneOf class) item = (clone : Class A) × (item ≡ OneOf clone) × AreAlike class clone

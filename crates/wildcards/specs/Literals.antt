@@ -2,7 +2,7 @@
 use Rattle.std.specs.Prelude.{Bool, true, false, ℕ, nat_eq, nat_lt, ◌&&◌, List, [], ◌∷◌, Option, Some, None}
 use Rattle.std.specs.declared.vec.Vec.{Vec}
 use Rattle.wildcards.specs.declared.piece.Item.{Item}
-use Rattle.wildcards.specs.declared.piece.Item.TheVariants.{Any, Literal, OneOf}
+use Rattle.wildcards.specs.declared.piece.Item.TheVariants.{Any, Literal, EitherCase, OneOf}
 use Rattle.wildcards.specs.declared.piece.Piece.{Piece}
 use Rattle.wildcards.specs.declared.piece.Piece.TheVariants.{Many, One}
 
@@ -13,6 +13,7 @@ module _ {A : Type 0} where
   spells [] (b ∷ bytes) = false
   spells (Many ∷ pieces) bytes = false
   spells (One Any ∷ pieces) bytes = false
+  spells (One (EitherCase small) ∷ pieces) bytes = false
   spells (One (OneOf class) ∷ pieces) bytes = false
   spells (One (Literal letter) ∷ pieces) [] = false
   spells (One (Literal letter) ∷ pieces) (b ∷ bytes) = nat_eq letter b && (nat_lt b 0x80 && spells pieces bytes)

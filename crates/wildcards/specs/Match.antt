@@ -1,7 +1,8 @@
 -- Which paths a compiled pattern matches.
 use Rattle.std.specs.Prelude.{◌≡◌, Bool, true, false, ℕ, nat_eq, List, [], ◌∷◌, IsTrue}
+use Rattle.std.specs.Char.{to_ascii_lowercase}
 use Rattle.wildcards.specs.declared.piece.Item.{Item}
-use Rattle.wildcards.specs.declared.piece.Item.TheVariants.{Any, Literal, OneOf}
+use Rattle.wildcards.specs.declared.piece.Item.TheVariants.{Any, Literal, EitherCase, OneOf}
 use Rattle.wildcards.specs.declared.piece.Piece.{Piece}
 use Rattle.wildcards.specs.declared.piece.Piece.TheVariants.{Many, One}
 use Rattle.wildcards.specs.declared.part.Part.{Part}
@@ -23,6 +24,7 @@ module _ {A : Type 0} where
   abbrev pub Fits : Item A → ℕ → Type 0
   Fits Any letter = Unit {0}
   Fits (Literal own) letter = own ≡ letter
+  Fits (EitherCase small) letter = to_ascii_lowercase letter ≡ small
   Fits (OneOf class) letter = IsTrue (permitted class letter)
 
   -- the pieces begin with a literal dot
@@ -31,6 +33,7 @@ module _ {A : Type 0} where
   begins_with_dot (Many ∷ pieces) = false
   begins_with_dot (One Any ∷ pieces) = false
   begins_with_dot (One (Literal own) ∷ pieces) = nat_eq own 0x2E
+  begins_with_dot (One (EitherCase small) ∷ pieces) = false
   begins_with_dot (One (OneOf class) ∷ pieces) = false
 
   -- the pieces match a whole component; a hidden one only if they begin with a literal dot

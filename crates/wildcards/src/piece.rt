@@ -1,5 +1,6 @@
 //! What a pattern is made of.
-ghost use Rattle.std.specs.Prelude.{◌↔◌, IsTrue};
+ghost use Rattle.std.specs.Prelude.{◌≡◌, ◌↔◌, IsTrue};
+ghost use Rattle.std.specs.Char.{to_ascii_lowercase};
 ghost use Rattle.wildcards.specs.Match.{Fits};
 
 use crate::class::Class;
@@ -21,8 +22,25 @@ pub enum Item<A: Allocator = Global> {
     Any,
     /// A letter that matches itself.
     Literal(u32),
+    /// A small letter of ASCII, which matches itself and its capital: it matches each letter whose small
+    /// letter it is. A capital is no letter's small letter, and matches nothing.
+    EitherCase(u32),
     /// A class, as `[a-z]`.
     OneOf(Class<A>),
+}
+
+/// The small letter of a capital of ASCII, and any other letter itself.
+#[inline(always)]
+fn small_letter(letter: u32) -> u32
+    ensures { result ≡ to_ascii_lowercase letter }
+{
+    if letter < 0x41 {
+        letter
+    } else if letter < 0x5B {
+        letter + 0x20
+    } else {
+        letter
+    }
 }
 
 impl<A: Allocator> Item<A> {
@@ -34,6 +52,7 @@ impl<A: Allocator> Item<A> {
         match self {
             Item::Any => true,
             Item::Literal(own) => *own == letter,
+            Item::EitherCase(small) => small_letter(letter) == *small,
             Item::OneOf(class) => class.permits(letter),
         }
     }
@@ -53,6 +72,7 @@ impl<A: Allocator> Clone for Item<A> {
         match self {
             Item::Any => Ok(Item::Any),
             Item::Literal(letter) => Ok(Item::Literal(*letter)),
+            Item::EitherCase(small) => Ok(Item::EitherCase(*small)),
             Item::OneOf(class) => Ok(Item::OneOf(class.clone()?)),
         }
     }

@@ -3,7 +3,7 @@ use Rattle.std.proofs.Common.{ℕ, Bool, true, false, not, nat_eq, ◌≡◌, Li
 use Rattle.wildcards.specs.declared.piece.Piece.{Piece}
 use Rattle.wildcards.specs.declared.piece.Piece.TheVariants.{Many, One}
 use Rattle.wildcards.specs.declared.piece.Item.{Item}
-use Rattle.wildcards.specs.declared.piece.Item.TheVariants.{Any, Literal, OneOf}
+use Rattle.wildcards.specs.declared.piece.Item.TheVariants.{Any, Literal, EitherCase, OneOf}
 use Rattle.wildcards.specs.declared.part.Part.{Part}
 use Rattle.wildcards.specs.Components.{is_hidden}
 use Rattle.wildcards.specs.Match.{Fits, TakesLetter, begins_with_dot, TakesComponent, FitsComponent}
@@ -30,6 +30,7 @@ module _ {A : Type 0} where
       starts [] c e m = let never : false ≡ true = e in cc
       starts (Many ∷ ps) c e m = let never : false ≡ true = e in cc
       starts (One Any ∷ ps) c e m = let never : false ≡ true = e in cc
+      starts (One (EitherCase small) ∷ ps) c e m = let never : false ≡ true = e in cc
       starts (One (OneOf class) ∷ ps) c e m = let never : false ≡ true = e in cc
       starts (One (Literal d) ∷ ps) c e m = subst (λ z. is_hidden true z ≡ true) (sym m.joined) (subst (λ z. nat_eq z 0x2E ≡ true) m.fits e)
 

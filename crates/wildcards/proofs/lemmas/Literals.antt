@@ -3,7 +3,7 @@ use Rattle.std.proofs.Common.{◌≡◌, ◌↔◌, ◌<◌, Bool, true, false, 
 use Rattle.std.specs.List.{AllByRecursion}
 use Rattle.std.specs.Cmp.Lexicographic.{pointwise, same_text, other_text}
 use Rattle.wildcards.specs.declared.piece.Item.{Item}
-use Rattle.wildcards.specs.declared.piece.Item.TheVariants.{Any, Literal, OneOf}
+use Rattle.wildcards.specs.declared.piece.Item.TheVariants.{Any, Literal, EitherCase, OneOf}
 use Rattle.wildcards.specs.declared.piece.Piece.{Piece}
 use Rattle.wildcards.specs.declared.piece.Piece.TheVariants.{Many, One}
 use Rattle.wildcards.specs.Components.{is_hidden}
@@ -47,6 +47,7 @@ module _ (A : Type 0) where
   spelled [] (b ∷ bytes) e = let never : false ≡ true = e in absurd (cc)
   spelled (Many ∷ pieces) bytes e = let never : false ≡ true = e in absurd (cc)
   spelled (One Any ∷ pieces) bytes e = let never : false ≡ true = e in absurd (cc)
+  spelled (One (EitherCase small) ∷ pieces) bytes e = let never : false ≡ true = e in absurd (cc)
   spelled (One (OneOf class) ∷ pieces) bytes e = let never : false ≡ true = e in absurd (cc)
   spelled (One (Literal letter) ∷ pieces) [] e = let never : false ≡ true = e in absurd (cc)
   spelled (One (Literal letter) ∷ pieces) (b ∷ bytes) e =
