@@ -17,12 +17,15 @@ use crate::rules::Rules;
 #[inline(always)]
 fn first_part(rules: Rules, body: &[u8]) -> Option<(&[u8], Component<&[u8]>, &[u8])>
     ensures items { MatchOption result (components_in rules body.now ≡ [])
-        (λ first. components_in rules body.now ≡ item_of first.1 ∷ components_in rules first.2.now) }
-    ensures same { IfSome result (λ first. components_in rules body.now ≡ components_in rules first.0.now) }
+        (λ first. components_in rules body.now
+        ≡ item_of first.1 ∷ components_in rules first.2.now) }
+    ensures same { IfSome result
+        (λ first. components_in rules body.now ≡ components_in rules first.0.now) }
     ensures from { IfSome result (λ first. IsTail body.now first.0.now) }
     ensures named { IfSome result (λ first. BeginsNamed rules first.0.now) }
     ensures after { IfSome result (λ first. IsTail body.now first.2.now) }
-    ensures first { IfSome result (λ first. IsFirstPart rules body.now (item_of first.1) first.2.now) }
+    ensures first { IfSome result
+        (λ first. IsFirstPart rules body.now (item_of first.1) first.2.now) }
 {
     let mut left = body;
     loop {
@@ -43,7 +46,8 @@ fn first_part(rules: Rules, body: &[u8]) -> Option<(&[u8], Component<&[u8]>, &[u
 /// before it, the part, and the component.
 fn last_part(rules: Rules, body: &[u8]) -> Option<(&[u8], &[u8], &[u8], Component<&[u8]>)>
     ensures items { MatchOption result (components_in rules body.now ≡ [])
-        (λ last. components_in rules body.now ≡ components_in rules last.1.now ++ item_of last.3 ∷ []) }
+        (λ last. components_in rules body.now
+        ≡ components_in rules last.1.now ++ item_of last.3 ∷ []) }
     ensures before { IfSome result (λ last. (last.1.now ≡ []) ⊎ IsUpTo rules body.now last.1.now) }
     ensures below { IfSome result (λ last. IsBelow (item_of last.3)) }
     ensures part { IfSome result (λ last. IsLastPart rules body.now last.0.now last.2.now) }
@@ -78,9 +82,11 @@ fn last_part(rules: Rules, body: &[u8]) -> Option<(&[u8], &[u8], &[u8], Componen
 #[inline(always)]
 pub fn next_in(rules: Rules, body: &[u8]) -> Option<(Component<&[u8]>, &[u8])>
     ensures items { MatchOption result (components_in rules body.now ≡ [])
-        (λ first. components_in rules body.now ≡ item_of first.0 ∷ components_in rules first.1.now) }
+        (λ first. components_in rules body.now
+        ≡ item_of first.0 ∷ components_in rules first.1.now) }
     ensures after { IfSome result (λ first. IsTail body.now first.1.now) }
-    ensures first { IfSome result (λ first. IsFirstPart rules body.now (item_of first.0) first.1.now) }
+    ensures first { IfSome result
+        (λ first. IsFirstPart rules body.now (item_of first.0) first.1.now) }
 {
     match first_part(rules, body) {
         Some((_, item, rest)) => Some((item, rest)),
@@ -91,7 +97,8 @@ pub fn next_in(rules: Rules, body: &[u8]) -> Option<(Component<&[u8]>, &[u8])>
 /// The last component, and what comes before it.
 pub fn next_back_in(rules: Rules, body: &[u8]) -> Option<(&[u8], Component<&[u8]>)>
     ensures items { MatchOption result (components_in rules body.now ≡ [])
-        (λ last. components_in rules body.now ≡ components_in rules last.0.now ++ item_of last.1 ∷ []) }
+        (λ last. components_in rules body.now
+        ≡ components_in rules last.0.now ++ item_of last.1 ∷ []) }
     ensures before { IfSome result (λ last. (last.0.now ≡ []) ⊎ IsUpTo rules body.now last.0.now) }
     ensures below { IfSome result (λ last. IsBelow (item_of last.1)) }
 {
