@@ -96,22 +96,7 @@ pub fn are_alike(a: Component<&[u8]>, b: Component<&[u8]>) -> bool
             Component::Prefix(t) => are_alike_prefixes(s, t),
             _ => false,
         },
-        Component::RootDir => match b {
-            Component::RootDir => true,
-            _ => false,
-        },
-        Component::CurDir => match b {
-            Component::CurDir => true,
-            _ => false,
-        },
-        Component::ParentDir => match b {
-            Component::ParentDir => true,
-            _ => false,
-        },
-        Component::Normal(s) => match b {
-            Component::Normal(t) => s == t,
-            _ => false,
-        },
+        _ => a == b,
     }
 }
 
@@ -132,30 +117,5 @@ fn are_alike_prefixes(s: &[u8], t: &[u8]) -> bool
 fn are_same(p: Prefix<&[u8]>, q: Prefix<&[u8]>) -> bool
     ensures { IsTrue result ↔ (kind_of p.entry ≡ kind_of q.entry) }
 {
-    match p {
-        Prefix::Verbatim(s) => match q {
-            Prefix::Verbatim(t) => s == t,
-            _ => false,
-        },
-        Prefix::VerbatimUnc(s, u) => match q {
-            Prefix::VerbatimUnc(t, v) => s == t && u == v,
-            _ => false,
-        },
-        Prefix::VerbatimDisk(a) => match q {
-            Prefix::VerbatimDisk(b) => a == b,
-            _ => false,
-        },
-        Prefix::Device(s) => match q {
-            Prefix::Device(t) => s == t,
-            _ => false,
-        },
-        Prefix::Unc(s, u) => match q {
-            Prefix::Unc(t, v) => s == t && u == v,
-            _ => false,
-        },
-        Prefix::Disk(a) => match q {
-            Prefix::Disk(b) => a == b,
-            _ => false,
-        },
-    }
+    p == q
 }

@@ -5,11 +5,10 @@ ghost use Rattle.path_rules.specs.Views.{item_of};
 ghost use Rattle.path_rules.specs.Components.{AreComponents};
 ghost use Rattle.path_rules.specs.Left.{GivesFirst, GivesLast, IsLeft};
 
-use crate::body::{next_back_in, next_in, trimmed};
+use crate::body::{next_back_in, next_in, start_trimmed, trimmed};
 use crate::component::Component;
 use crate::head::{Head, Start, head_of};
 use crate::rules::Style;
-use crate::stripped::start_trimmed;
 use std::marker::Model;
 
 /// An iterator over the components of a path, from both ends (std's `Components`).

@@ -1,8 +1,8 @@
 //! The common start of two paths.
-ghost use Rattle.std.specs.Prelude.{◌≡◌, ◌<◌, ◌≤◌, length, MatchOption};
+ghost use Rattle.std.specs.Prelude.{◌≡◌, ◌≤◌, length, MatchOption};
 ghost use Rattle.path_rules.specs.Shared.{SharesItems, AreAlikeBelow};
 
-use crate::lanes::{BLOCK, LANES, alike_len, are_alike};
+use crate::lanes::{LANES, alike_len};
 use crate::rules::Rules;
 
 /// The rests of two bodies after the last separator of their common prefix; `None` if they are the
@@ -37,94 +37,25 @@ fn shared_len(a: &[u8], b: &[u8]) -> usize
     ensures second { result ≤ length b.now }
     ensures same { AreAlikeBelow a.now b.now result }
 {
-    let end = a.len().min(b.len());
-    if end >= 64 {
-        shared_by_blocks(a, b, end)
-    } else if end >= 16 {
-        shared_by::<16>(a, b, 0, end)
-    } else if end >= 8 {
-        shared_by::<8>(a, b, 0, end)
-    } else {
-        shared_by_bytes(a, b, end)
-    }
+    shared_before(a, b, a.len().min(b.len()))
 }
 
-/// The length of the common prefix, found by blocks. The first 64 bytes are compared separately, so
-/// that slices that differ early take no longer.
+/// The number of bytes before an index that both slices begin with.
 #[inline(always)]
-fn shared_by_blocks(a: &[u8], b: &[u8], end: usize) -> usize
-    requires room { 64 ≤ end }
-    requires first { end ≤ length a.now }
-    requires second { end ≤ length b.now }
-    ensures within { result ≤ end }
-    ensures same { AreAlikeBelow a.now b.now result }
-{
-    let len = alike_len::<64>(a, b, 0);
-    if len < 64 {
-        return len;
-    }
-    shared_by::<64>(a, b, alike_blocks(a, b, 64, end), end)
-}
-
-/// An index up to which all bytes are alike, found by whole blocks. All bytes before `from` are
-/// known to be alike.
-#[inline(always)]
-fn alike_blocks(a: &[u8], b: &[u8], from: usize, end: usize) -> usize
-    requires inside { from ≤ end }
-    requires before { AreAlikeBelow a.now b.now from }
-    requires first { end ≤ length a.now }
-    requires second { end ≤ length b.now }
-    ensures within { result ≤ end }
-    ensures same { AreAlikeBelow a.now b.now result }
-{
-    let mut at = from;
-    while end - at >= BLOCK && are_alike(a, b, at) {
-        at += BLOCK;
-    }
-    at
-}
-
-/// The length of the common prefix, found by N bytes at once. All bytes before `from` are known to
-/// be alike. The last step compares the last N bytes, or the last 16 if no more remain. It may
-/// compare some bytes again.
-#[inline(always)]
-fn shared_by<const N: usize>(a: &[u8], b: &[u8], from: usize, end: usize) -> usize
-    requires room { N ≤ end }
-    requires few { N ≤ 64 }
-    requires some { 0 < N }
-    requires inside { from ≤ end }
-    requires before { AreAlikeBelow a.now b.now from }
-    requires first { end ≤ length a.now }
-    requires second { end ≤ length b.now }
-    ensures within { result ≤ end }
-    ensures same { AreAlikeBelow a.now b.now result }
-{
-    let mut at = from;
-    while end - at > N {
-        let len = alike_len::<N>(a, b, at);
-        if len < N {
-            return at + len;
-        }
-        // not `len`, so that the next vectors are loaded before it is known
-        at += N;
-    }
-    if N > LANES && end - at <= LANES {
-        let last = end - LANES;
-        return last + alike_len::<LANES>(a, b, last);
-    }
-    let last = end - N;
-    last + alike_len::<N>(a, b, last)
-}
-
-/// The length of the common prefix, found byte by byte.
-#[inline(always)]
-fn shared_by_bytes(a: &[u8], b: &[u8], end: usize) -> usize
+fn shared_before(a: &[u8], b: &[u8], end: usize) -> usize
     requires first { end ≤ length a.now }
     requires second { end ≤ length b.now }
     ensures within { result ≤ end }
     ensures same { AreAlikeBelow a.now b.now result }
 {
     let mut at = 0;
+    while end - at >= LANES {
+        let len = alike_len::<LANES>(a, b, at);
+        if len < LANES {
+            return at + len;
+        }
+        at += LANES;
+    }
     while at < end && a[at] == b[at] {
         at += 1;
     }

@@ -1,17 +1,17 @@
 //! The rest of a path after the components of a base.
 ghost use Rattle.std.specs.Prelude.{◌≡◌, ◌∷◌, [], List, MatchOption, IfSome};
-ghost use Rattle.path_rules.specs.Component.{Item, components_in};
+ghost use Rattle.path_rules.specs.Component.{Item};
 ghost use Rattle.path_rules.specs.Views.{item_of};
 ghost use Rattle.path_rules.specs.Heads.{items_of};
 ghost use Rattle.path_rules.specs.HeadParts.{IsHead};
 ghost use Rattle.path_rules.specs.Compare.{StartsAlike, StartsWith};
-ghost use Rattle.path_rules.specs.Body.{BeginsNamed, IsEndTrimmed};
+ghost use Rattle.path_rules.specs.Body.{IsEndTrimmed};
 ghost use Rattle.path_rules.specs.Strip.{IsStripped};
-ghost use Rattle.path_rules.specs.Taken.{IsTail, Takes, AreTaken};
+ghost use Rattle.path_rules.specs.Taken.{Takes, AreTaken};
 
-use crate::body::trimmed;
+use crate::body::{next_in, start_trimmed, trimmed};
 use crate::compare::are_alike;
-use crate::component::{Component, component_of};
+use crate::component::Component;
 use crate::components::Components;
 use crate::head::{Head, Start, head_of};
 use crate::rules::{Rules, Style};
@@ -114,7 +114,7 @@ pub(crate) fn first_of(head: Head<'_>) -> Option<(Component<&[u8]>, Head<'_>)>
         Start::Root => Some((Component::RootDir, below(rules, Start::Nothing, body))),
         Start::Dot => Some((Component::CurDir, below(rules, Start::Nothing, body))),
         Start::Nothing => {
-            let Some((item, rest)) = first_in(rules, body) else {
+            let Some((item, rest)) = next_in(rules, body) else {
                 return None;
             };
             Some((item, below(rules, Start::Nothing, rest)))
@@ -134,40 +134,5 @@ fn below(rules: Rules, start: Start, body: &[u8]) -> Head<'_>
         prefix: b"".as_slice(),
         start,
         body,
-    }
-}
-
-/// The first component, and what follows its part.
-fn first_in(rules: Rules, body: &[u8]) -> Option<(Component<&[u8]>, &[u8])>
-    ensures items { MatchOption result (components_in rules body.now ≡ [])
-        (λ first. components_in rules body.now ≡ item_of first.0 ∷ components_in rules first.1.now) }
-    ensures after { IfSome result (λ first. IsTail body.now first.1.now) }
-{
-    let left = start_trimmed(rules, body);
-    let (part, rest) = rules.split_field(left);
-    match component_of(rules, part) {
-        Some(item) => Some((item, rest)),
-        None => None,
-    }
-}
-
-/// The body without the separators and parts at its start that name nothing.
-pub(crate) fn start_trimmed(rules: Rules, body: &[u8]) -> &[u8]
-    ensures items { components_in rules body.now ≡ components_in rules result.now }
-    ensures after { IsTail body.now result.now }
-    ensures named { BeginsNamed rules result.now }
-{
-    let mut left = body;
-    loop {
-        let Some((part, rest)) = rules.split_first(left) else {
-            return match component_of(rules, left) {
-                Some(_) => left,
-                None => b"".as_slice(),
-            };
-        };
-        if let Some(_) = component_of(rules, part) {
-            return left;
-        }
-        left = rest;
     }
 }

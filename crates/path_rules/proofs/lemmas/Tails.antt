@@ -6,7 +6,7 @@ use Rattle.path_rules.specs.Component.{Item, named, components_in}
 use Rattle.path_rules.specs.Body.{BeginsNamed}
 use Rattle.path_rules.specs.Taken.{IsTail}
 use Rattle.path_rules.specs.Cut.{IsAsciiCut, at_start, at_end, before_ascii, after_ascii}
-use Rattle.path_rules.proofs.lemmas.Ascii.{ascii_separators, edge_cut}
+use Rattle.path_rules.proofs.lemmas.Ascii.{ascii_separators}
 use Rattle.path_rules.proofs.lemmas.Bodies.{cut_items, one_item}
 use Rattle.path_rules.proofs.lemmas.Fields.{one_field}
 
@@ -36,9 +36,6 @@ module _ (r : Rules) where
     joined = c.joined ∙ sym (append_assoc part (c.separator ∷ []) rest);
     cut = after_ascii part c.separator refl (ascii_separators r c.separator c.parts);
   }
-
-  pub field_tail : (s part rest : List ℕ) → IsField r s part rest → IsTail s rest
-  field_tail s part rest f = record { before = part; joined = f.joined; cut = edge_cut r part rest f.edge }
 
   named_field : (s p q t u : List ℕ) (x : Item) → IsField r s p t → Some x ≡ named r p → IsField r s q u → named r q ≢ None
   named_field s p q t u x a e b = λ none. let same = (one_field r s p q t u a b).0 in let never : Some x ≡ None = e ∙ ap (named r) same ∙ none in cc

@@ -1,9 +1,9 @@
 use Rattle.std.proofs.Common.{◌∙◌, refl}
 use Rattle.path_rules.proofs.lemmas.Bodies.{only_first, first_item, no_first_item}
-use Rattle.path_rules.proofs.lemmas.Tails.{whole_tail, cut_tail, tail_again, empty_tail}
+use Rattle.path_rules.proofs.lemmas.Tails.{whole_tail, cut_tail, tail_again, empty_tail, begins_alone, begins_cut}
 use Rattle.path_rules.proofs.lemmas.FirstParts.{nothing_skipped, one_skipped, last_first, cut_first}
 use Rattle.path_rules.specs.Views.{item_of}
-use Rattle.path_rules.proofs.body.next_in.Goals as goal
+use Rattle.path_rules.proofs.body.first_part.Goals as goal
 
 pub loop-part-init : goal.loop-part-init
 loop-part-init c = (refl, (whole_tail c.args.body.now, nothing_skipped c.args.rules c.args.body.now))
@@ -32,6 +32,14 @@ returns-in-Some-component_of-clause-first c =
 pub returns-in-Some-component_of-2-clause-first : goal.returns-in-Some-component_of-2-clause-first
 returns-in-Some-component_of-2-clause-first c =
     cut_first c.args.rules c.args.body.now c.loop-part.left.now c.in-Some.part.now c.in-Some.rest.now (item_of c.in-Some-component_of-2.item) c.loop-part.invariant.1.1 c.in-Some.ensures c.in-Some-component_of-2.ensures.names
+
+pub returns-in-Some-component_of-clause-named : goal.returns-in-Some-component_of-clause-named
+returns-in-Some-component_of-clause-named c =
+    begins_alone c.args.rules c.loop-part.left.now (item_of c.in-Some-component_of.item) c.in_default.ensures c.in-Some-component_of.ensures.names
+
+pub returns-in-Some-component_of-2-clause-named : goal.returns-in-Some-component_of-2-clause-named
+returns-in-Some-component_of-2-clause-named c =
+    begins_cut c.args.rules c.loop-part.left.now c.in-Some.part.now c.in-Some.rest.now (item_of c.in-Some-component_of-2.item) c.in-Some.ensures c.in-Some-component_of-2.ensures.names
 
 pub loop-part-preserved : goal.loop-part-preserved
 loop-part-preserved c = (
