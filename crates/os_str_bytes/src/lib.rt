@@ -59,8 +59,9 @@ pub use os_str_ext::{
     ByteCow, ByteVec, Direction, Encoded, EncodedChar, EncodingError, FromEnd, FromStart, HasBytes,
     NonUnicodeOsStr, OsStr, OsStrBytes, OsStrBytesExt, OsStrCow, OsStrDisplay, OsString,
     OsStringBytes, OsUnit, OsUnits, Path, PathBuf, PathCow, Pattern, Pieces, Platform, RSplit,
-    SliceIndex, Split, StrCow, Symbol, Symbols, Unix, Utf8Chunks, Wasm, WideUnits, Windows,
-    Writeable, chunk_laws, part_laws, search_laws, symbol_laws, write_filled,
+    Sink, SliceIndex, Split, StrCow, Symbol, Symbols, TruncatedBuffer, Unix, Utf8Chunks, Wasm,
+    WideUnits, Windows, Writeable, chunk_laws, part_laws, search_laws, string_at, symbol_laws,
+    write_filled, write_number,
 };
 pub use raw_box::RawOsStrBox;
 pub use raw_cow::{CowRawOsStr, RawOsStrCow};

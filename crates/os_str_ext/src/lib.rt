@@ -43,8 +43,9 @@ pub use os_units::{NonUnicodeOsStr, OsUnit, OsUnits};
 pub use pattern::{Encoded, EncodedChar, Pattern};
 pub use platform_str::{
     ByteCow, ByteVec, EncodingError, HasBytes, OsStr, OsStrBytes, OsStrCow, OsStrDisplay, OsString,
-    OsStringBytes, Path, PathBuf, PathCow, Platform, StrCow, Unix, Wasm, WideUnits, Windows,
-    Writeable, laws, unix, wasm, windows, write_filled,
+    OsStringBytes, Path, PathBuf, PathCow, Platform, Sink, StrCow, TruncatedBuffer, Unix, Wasm,
+    WideUnits, Windows, Writeable, laws, string_at, unix, wasm, windows, write_filled,
+    write_number,
 };
 pub use slice_index::SliceIndex;
 pub use symbols::{Symbol, Symbols};

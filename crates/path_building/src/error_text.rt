@@ -21,8 +21,8 @@ pub(crate) fn write_at_byte<W: fmt::Write>(
     f.write_str(of)
 }
 
-/// Writes the decimal digits of a number, and ignores the width of the formatter. Crates whose
-/// errors print an index have a copy each, since sharing these lines would take a public call.
+/// Writes the decimal digits of a number, and ignores the width of the formatter. `platform_str` has
+/// this call, too, and this crate doesn't use it, since it is for paths as bytes.
 pub(crate) fn write_number<W: fmt::Write>(number: usize, f: &mut fmt::Formatter<W>) -> fmt::Result
     ensures { WritesStyledOnOk W.write_str_gives f.old result (decimal number) f.new }
 {

@@ -10,3 +10,5 @@ pub mod FromWideCounts
 pub mod SixteenLanes
 pub mod ToWide
 pub mod Choices
+pub mod InlineTexts
+pub mod Taking

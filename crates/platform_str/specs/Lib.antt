@@ -9,3 +9,7 @@ pub mod Lossy
 pub mod Strings
 pub mod Display
 pub mod Cows
+pub mod Sinks
+pub mod FormatterSink
+pub mod BufferSink
+pub mod VectorSink
