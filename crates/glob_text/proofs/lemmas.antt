@@ -12,4 +12,5 @@ pub mod Pieces
 pub mod Readings
 pub mod Sizes
 pub mod Nodes
+pub mod OneMeaning
 pub mod Written

@@ -18,8 +18,8 @@ pub enum FaultKind {
     UnclosedAlternatives,
     /// A `}` closes no alternatives. The index is its own.
     UnopenedAlternatives,
-    /// Written out, the alternatives are more than 1,024 patterns, or several patterns that have more
-    /// than 65,536 marks together. A mark is a letter, a wildcard or a class. The index is 0.
+    /// Written out, the alternatives are more than 1,024 patterns, or several patterns that have
+    /// more than 65,536 marks together. A mark is a letter, a wildcard or a class. The index is 0.
     TooManyChoices,
 }
 

@@ -1,5 +1,5 @@
 //! Laws of the text of patterns. Each is the contract of a function that does nothing.
-ghost use Rattle.std.specs.Prelude.{◌≡◌, ◌↔◌, ◌<◌, ◌∷◌, ◌++◌, List, ℕ};
+ghost use Rattle.std.specs.Prelude.{◌≡◌, ◌↔◌, ◌<◌, ◌∷◌, ◌++◌, false, List, ℕ};
 ghost use Rattle.wildcards.specs.declared.options.Options.{Options};
 ghost use Rattle.wildcards.specs.declared.pattern.Choice.{Choice};
 ghost use Rattle.wildcards.specs.Sets.{MatchesChoice};
@@ -9,6 +9,7 @@ ghost use Rattle.glob_text.specs.Escape.{escaped, IsPatternOf};
 ghost use Rattle.glob_text.specs.Marks.{Mark, is_quoting};
 ghost use Rattle.glob_text.specs.Meaning.{MatchesWrittenOut};
 ghost use Rattle.glob_text.specs.Parts.{AreCompiled};
+ghost use Rattle.glob_text.specs.Texts.{AreWrittenOut};
 
 use std::alloc::Allocator;
 use wildcards::Letters;
@@ -34,4 +35,14 @@ pub fn escaped_alone<L: Letters>()
 pub fn written_once()
     ensures { (marks : List Mark) → (choices : List (List Mark)) → (others : List (List Mark))
         → AreChoices marks choices → AreChoices marks others → choices ≡ others }
+{}
+
+/// A text has one meaning: two lists of choices that it is written out as match the same paths.
+/// Where case matters, they are one list.
+pub fn one_meaning<L: Letters>()
+    ensures { (o : Syntax) → (text : List ℕ) → (choices : List (List Mark))
+        → (others : List (List Mark)) → AreWrittenOut L.formed L.letters o text choices
+        → AreWrittenOut L.formed L.letters o text others
+        → ((p : Options) → (path : List ℕ) → MatchesWrittenOut p choices path
+        ↔ MatchesWrittenOut p others path) × (o.case_insensitive ≡ false → choices ≡ others) }
 {}

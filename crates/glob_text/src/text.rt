@@ -61,8 +61,8 @@ fn compile_symbols<A: Allocator + Copy>(
 /// first fault of a backslash or a class, else that of a brace, else that of its size.
 ///
 /// A pattern is too large if it is written out as more than 1,024 patterns. It is also too large if
-/// it is written out as several, and these have more than 65,536 marks together. A mark is a letter,
-/// a wildcard or a class.
+/// it is written out as several, and these have more than 65,536 marks together. A mark is a
+/// letter, a wildcard or a class.
 ///
 /// What is written out is counted first, in time and memory in proportion to the text. So
 /// compiling takes memory in proportion to the bytes of the text and at most 65,536 marks. On a

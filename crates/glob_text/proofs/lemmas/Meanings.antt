@@ -22,7 +22,7 @@ use Rattle.glob_text.specs.Reading.{Reads, concat_of}
 
 -- pieces that are alike, one after the other
 module _ {X Y : Type 0} (R : X → Y → Type 0) where
-  abbrev AreAlike : List (Piece X) → List (Piece Y) → Type 0
+  abbrev pub AreAlike : List (Piece X) → List (Piece Y) → Type 0
   AreAlike [] [] = Unit {0}
   AreAlike [] (q ∷ qs) = ⊥
   AreAlike (Many ∷ ps) [] = ⊥
@@ -32,7 +32,7 @@ module _ {X Y : Type 0} (R : X → Y → Type 0) where
   AreAlike (One x ∷ ps) (Many ∷ qs) = ⊥
   AreAlike (One x ∷ ps) (One y ∷ qs) = R x y × AreAlike ps qs
 
-  both_alike : (ps ms : List (Piece X)) (qs ns : List (Piece Y)) → AreAlike ps qs → AreAlike ms ns → AreAlike (ps ++ ms) (qs ++ ns)
+  pub both_alike : (ps ms : List (Piece X)) (qs ns : List (Piece Y)) → AreAlike ps qs → AreAlike ms ns → AreAlike (ps ++ ms) (qs ++ ns)
   both_alike [] ms [] ns h k = k
   both_alike [] ms (q ∷ qs) ns h k = absurd h
   both_alike (Many ∷ ps) ms [] ns h k = absurd h
@@ -43,7 +43,7 @@ module _ {X Y : Type 0} (R : X → Y → Type 0) where
   both_alike (One x ∷ ps) ms (One y ∷ qs) ns h k = (h.0, both_alike ps ms qs ns h.1 k)
 
   module _ {A : Type 0} (T : A → Type 0) (F : X → A → Type 0) (G : Y → A → Type 0) (same : (x : X) (y : Y) → R x y → (a : A) → F x a ↔ G y a) where
-    alike : (ps : List (Piece X)) (qs : List (Piece Y)) → AreAlike ps qs → (ls : List A) → Wild T F ps ls ↔ Wild T G qs ls
+    pub alike : (ps : List (Piece X)) (qs : List (Piece Y)) → AreAlike ps qs → (ls : List A) → Wild T F ps ls ↔ Wild T G qs ls
     alike [] [] h ls = (λ e. e, λ e. e)
     alike [] (q ∷ qs) h ls = absurd h
     alike (Many ∷ ps) [] h ls = absurd h
