@@ -6,10 +6,9 @@ ghost use Rattle.os_ignore.specs.Class.{is_upper};
 ghost use Rattle.wildcards.specs.ClassName.{range};
 ghost use Rattle.os_ignore.specs.ClassSteps.{small_range, name_ranges, exact_ranges, small_ranges, member_ranges, both_cases, all_cases};
 ghost use Rattle.os_ignore.specs.Letters.{folded};
-ghost use Rattle.os_ignore.specs.PatternText.{FitsCases};
 
 use std::alloc::{AllocError, Allocator};
-use wildcards::{Class, ClassName, Item, Range};
+use wildcards::{Class, ClassName, Range};
 
 /// What a class is written with.
 #[derive(Clone, Copy)]
@@ -184,16 +183,4 @@ pub(crate) fn class_of<A: Allocator + Copy>(
     } else {
         Class::new(alloc, negated, ranges)
     }
-}
-
-/// The item that fits the bytes whose small letter is this byte.
-pub(crate) fn either_case<A: Allocator + Copy>(alloc: A, own: u8) -> Result<Item<A>, AllocError>
-    ensures { IfOk result (λ item. FitsCases own item) }
-{
-    if !own.is_ascii_alphabetic() {
-        return Ok(Item::Literal(u32::from(own)));
-    }
-    let mut ranges = Vec::new(alloc);
-    ranges.push(range(own, own))?;
-    Ok(Item::OneOf(class_of(alloc, true, false, ranges)?))
 }

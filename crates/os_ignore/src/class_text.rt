@@ -1,4 +1,8 @@
 //! Classes as they are written in a line.
+//!
+//! `glob_text` has a reader of its own. A trait for the letters of both would let them share the search for a
+//! name and the negation. With its impls and contracts it has as many lines as it would replace. Ranges, what
+//! ends a name, and faults would stay apart.
 ghost use Rattle.std.specs.Prelude.{◌≡◌, ◌∷◌, ◌<◌, ◌≤◌, false, true, length, None, Some, MatchOption, IfOk, IfSome};
 ghost use Rattle.os_ignore.specs.ClassText.{after_text, known_name, ends_name, named_text, closes, range_at, member_at, negation, IsClass, IsBrokenClass};
 ghost use Rattle.os_ignore.specs.ClassSteps.{from_bracket, AreNameless, AreNamelessWithin, reading_of, LeavesLess};

@@ -99,8 +99,7 @@ impl<A: Allocator + Copy> Ignore<A> {
     /// capital that a backslash quotes matches nothing, nor does a capital alone in a class: `[A]` has
     /// neither `a` nor `A`, and `[a]` has both. The directory of the file is compared exactly.
     ///
-    /// In such a file each letter after the first wildcard of a line takes about 300 bytes, and each path
-    /// is tried with each line.
+    /// A file takes no more memory than with regard to case. Each path is tried with each line of it.
     ///
     /// # Errors
     ///

@@ -1,5 +1,5 @@
 //! A line of an ignore file, as it is written.
-ghost use Rattle.std.specs.Prelude.{◌≡◌, IfOk, ◌++◌, ◌∷◌};
+ghost use Rattle.std.specs.Prelude.{◌≡◌, IfOk};
 ghost use Rattle.os_ignore.specs.Files.{SaysLine, LettersSayLine};
 ghost use Rattle.os_ignore.specs.Tags.{IsTag};
 ghost use Rattle.os_ignore.specs.Lines.{IsTrimmed, strip_first, StripsSlash, has_slash, is_comment, literal_prefix, after_literal};

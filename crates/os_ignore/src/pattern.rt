@@ -3,9 +3,8 @@ ghost use Rattle.std.specs.Prelude.{◌≡◌, ◌++◌, ◌<◌, ◌≤◌, ◌
 ghost use Rattle.wildcards.specs.declared.piece.Piece.TheVariants.{One};
 ghost use Rattle.os_ignore.specs.Components.{left_size};
 ghost use Rattle.os_ignore.specs.Letters.{kind_of};
-ghost use Rattle.os_ignore.specs.PatternText.{PieceAt, IsLiteral, IsBrokenPiece, IsPart, IsBrokenPart, is_deep, all_stars, group, is_joined, IsPattern, IsBrokenPattern, left_after};
+ghost use Rattle.os_ignore.specs.PatternText.{PieceAt, FitsCases, IsLiteral, IsBrokenPiece, IsPart, IsBrokenPart, is_deep, all_stars, group, is_joined, IsPattern, IsBrokenPattern, left_after};
 
-use crate::class::either_case;
 use crate::class_text::read_class;
 use crate::letter::{Kind, Letter};
 use std::alloc::{AllocError, Allocator};
@@ -42,18 +41,25 @@ impl<'a> After<'a> {
     }
 }
 
+/// The item that fits the bytes whose small letter is this byte.
+fn either_case<A: Allocator>(own: u8) -> Item<A>
+    ensures { FitsCases own result }
+{
+    if own.is_ascii_alphabetic() {
+        Item::EitherCase(u32::from(own))
+    } else {
+        Item::Literal(u32::from(own))
+    }
+}
+
 /// The item that matches a letter alone, without regard to case if the file folds.
-fn literal<A: Allocator + Copy>(
-    alloc: A,
-    folds: bool,
-    letter: Letter,
-) -> Result<Item<A>, AllocError>
-    ensures { IfOk result (λ item. IsLiteral folds letter (One item)) }
+fn literal<A: Allocator>(folds: bool, letter: Letter) -> Item<A>
+    ensures { IsLiteral folds letter (One result) }
 {
     if folds {
-        either_case(alloc, letter.own_byte(true))
+        either_case(letter.own_byte(true))
     } else {
-        Ok(Item::Literal(u32::from(letter.byte)))
+        Item::Literal(u32::from(letter.byte))
     }
 }
 
@@ -77,10 +83,7 @@ fn read_piece<'a, A: Allocator + Copy>(
             };
             Ok(Some((Piece::One(Item::OneOf(class)), after)))
         }
-        Kind::Literal | Kind::Slash => {
-            let item = literal(alloc, folds, first)?;
-            Ok(Some((Piece::One(item), rest)))
-        }
+        Kind::Literal | Kind::Slash => { Ok(Some((Piece::One(literal(folds, first)), rest))) }
     }
 }
 

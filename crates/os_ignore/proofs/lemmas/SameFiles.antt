@@ -12,12 +12,12 @@ use Rattle.os_ignore.specs.Components.{pieces}
 use Rattle.os_ignore.specs.Files.{IsWithoutReturn, IsLineText, SaysLine, IsNextLine, NextLine, IsLineRead, AreLines, list_of, without_mark}
 use Rattle.os_ignore.specs.Ignores.{IsFileAt, AreOfOneText, IsBlanked}
 use Rattle.os_ignore.specs.Lines as lines
-use Rattle.os_ignore.specs.Lines.{IsTrimmed, IsBody, SaysNothing}
+use Rattle.os_ignore.specs.Lines.{IsBody, SaysNothing}
 use Rattle.os_ignore.specs.Matching.{LineMatches}
 use Rattle.os_ignore.specs.PatternText.{concat_of}
 use Rattle.os_ignore.specs.Reading.{Reads}
 use Rattle.os_ignore.specs.Verdicts as rule
-use Rattle.os_ignore.specs.Verdicts.{IsBelow, NoneMatches, IsLastMatch, FileIsSilent, Decides, IsOwn, IsShown, AreShown, IsHidden, IsVerdict}
+use Rattle.os_ignore.specs.Verdicts.{IsBelow, NoneMatches, IsLastMatch, FileIsSilent, Decides, IsOwn, AreShown, IsVerdict}
 use Rattle.os_ignore.proofs.lemmas.OneMeaning.{one_meaning, not_both}
 use Rattle.os_ignore.proofs.lemmas.OneReading.{same_items, zip_concat}
 use Rattle.os_ignore.proofs.lemmas.OneVerdict.{one_verdict}

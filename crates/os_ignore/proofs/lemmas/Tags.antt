@@ -29,7 +29,7 @@ use Rattle.os_ignore.specs.Matching.{IsTarget, MatchesText, by_slashes}
 use Rattle.os_ignore.specs.PatternText.{PieceAt, IsPiece, IsPart, EndsPart, NextGroup, IsPattern, is_deep, all_stars, is_joined, group, concat_of, left_after, text_of}
 use Rattle.os_ignore.specs.Reading.{Reads}
 use Rattle.os_ignore.specs.Tags as tags
-use Rattle.os_ignore.specs.Tags.{HasTag, IsTag, IsTagOf, AreTags, IsExtension, tag_of}
+use Rattle.os_ignore.specs.Tags.{IsTag, IsTagOf, AreTags, IsExtension, tag_of}
 
 -- a list ends with the last list of which it is joined
 joined_last : (c : ℕ) (front : List (List ℕ)) (last : List ℕ) → (before : List ℕ) × (join_with_byte c (front ++ last ∷ []) ≡ before ++ last)
