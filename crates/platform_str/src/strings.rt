@@ -12,8 +12,8 @@ use crate::platform::Platform;
 /// use os_str_bytes::{OsStr, Unix, string_at};
 ///
 /// let strings = [OsStr::<Unix>::new("a"), OsStr::new("b")];
-/// assert_eq!(rt; string_at(&strings, 1), Some(OsStr::new("b")));
-/// assert_eq!(rt; string_at(&strings, 2), None);
+/// assert!(rt; string_at(&strings, 1) == Some(OsStr::new("b")));
+/// assert!(rt; string_at(&strings, 2).is_none());
 /// ```
 pub fn string_at<'a, E: Platform>(strings: &[OsStr<'a, E>], index: usize) -> Option<OsStr<'a, E>>
     ensures first { MatchOption result (drop index (map bytes strings.now) ≡ [])
