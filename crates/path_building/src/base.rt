@@ -7,9 +7,8 @@ ghost use Rattle.path_rules.specs.PrefixViews.{kind_of};
 ghost use Rattle.path_building.specs.Written.{BeginsAsObject};
 ghost use Rattle.path_building.specs.Base.{unc, HasNoNul, IsFirstNul, HasAllParts, BeginsTwice, LacksPart, IsVerbatimAlone};
 
-use crate::joining::is_verbatim_rule;
 use memchr::memchr;
-use path_rules::parts::begins_with_separator;
+use path_rules::parts::{begins_with_separator, is_verbatim};
 use path_rules::{Prefix, Rules, Style, windows_prefix};
 
 /// The index of the first NUL.
@@ -105,7 +104,7 @@ fn is_windows_verbatim_alone(path: &[u8]) -> bool
     ensures { IsTrue result ↔ IsVerbatimAlone whose.Windows path.now }
 {
     match windows_prefix(path) {
-        Some((prefix, rest)) => is_verbatim_rule(prefix.rules()) && rest.is_empty(),
+        Some((_, rest)) => is_verbatim(path) && rest.is_empty(),
         None => false,
     }
 }

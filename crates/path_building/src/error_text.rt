@@ -13,7 +13,8 @@ pub(crate) fn write_at_byte<W: fmt::Write>(
     of: &str,
     f: &mut fmt::Formatter<W>,
 ) -> fmt::Result
-    ensures { WritesStyledOnOk W.write_str_gives f.old result (at_byte what.now index of.now) f.new }
+    ensures { WritesStyledOnOk W.write_str_gives f.old result
+        (at_byte what.now index of.now) f.new }
 {
     f.write_str(what)?;
     f.write_str(" at byte ")?;

@@ -10,9 +10,10 @@ ghost use Rattle.path_building.specs.FullPath.{IsDeviceKind, IsDevicePath, HasFr
 
 use crate::base::lacks_part;
 use crate::checked::are_free;
+use crate::cleaning::clean;
 use crate::collected::push_all;
 use crate::joining::join;
-use crate::normal::{add_all, clean};
+use crate::normal::add_all;
 use crate::relative::after_dot;
 use crate::trailing::end_as;
 use path_rules::parts::{begins_with_separator, head_of};
@@ -254,7 +255,8 @@ fn pushed<A: Allocator + Clone>(
     start: &[u8],
     items: &[Component<&[u8]>],
 ) -> Result<Vec<u8, A>, AllocError>
-    ensures { IfOk result (λ mid. ArePushed whose.Unix start.now (map item_of items.now) mid.items) }
+    ensures { IfOk result
+        (λ mid. ArePushed whose.Unix start.now (map item_of items.now) mid.items) }
 {
     let mut mid = Vec::from_slice(alloc, start)?;
     push_all(Style::Unix, &mut mid, items)?;

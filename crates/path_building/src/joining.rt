@@ -1,15 +1,14 @@
 //! A path after another.
 ghost use Rattle.std.specs.Prelude.{◌≡◌, ◌≢◌, ◌↔◌, ◌++◌, ◌≤◌, ℕ, [], ◌∷◌, length, take, IsTrue, IfOk, OnOk, OnErr, MatchOption, vec_len};
 ghost use Rattle.path_rules.specs.declared.rules.Style.TheVariants as whose;
-ghost use Rattle.path_rules.specs.declared.rules.Rules.TheVariants as rule;
 ghost use Rattle.path_rules.specs.Prefix.{Disk, IsPrefixed, IsRawPrefix};
 ghost use Rattle.path_rules.specs.PrefixViews.{kind_of};
 ghost use Rattle.path_rules.specs.StyleRules.{main_separator};
 ghost use Rattle.path_building.specs.Join.{IsVerbatimPath, IsDriveAlone, NeedsNoSeparator, IsJoin};
 
 use crate::resolving::resolve;
-use path_rules::parts::begins_with_separator;
-use path_rules::{Prefix, Rules, Style, has_trailing_sep, windows_prefix};
+use path_rules::parts::{begins_with_separator, is_verbatim};
+use path_rules::{Prefix, Style, has_trailing_sep, windows_prefix};
 use std::alloc::{AllocError, Allocator};
 
 /// How many of the base's bytes are kept, and what is written between them and the path.
@@ -133,7 +132,8 @@ fn kept_part(style: Style, base: &[u8], path: &[u8]) -> Option<Kept>
     ensures { MatchOption result
         ((¬ (IsPrefixed style path.now)) × (IsVerbatimPath style base.now × (path.now ≢ [])))
         (λ kept. (kept.len ≤ length base.now) × (length kept.separator.now ≤ 1)
-        × IsJoin style base.now path.now (take kept.len base.now ++ (kept.separator.now ++ path.now))) }
+        × IsJoin style base.now path.now
+        (take kept.len base.now ++ (kept.separator.now ++ path.now))) }
 {
     if is_prefixed(style, path) {
         return Some(Kept {
@@ -166,7 +166,7 @@ fn kept_part(style: Style, base: &[u8], path: &[u8]) -> Option<Kept>
 fn is_resolved(style: Style, base: &[u8], path: &[u8]) -> bool
     ensures { IsTrue result ↔ (IsVerbatimPath style base.now × (path.now ≢ [])) }
 {
-    is_verbatim(style, base) && !path.is_empty()
+    is_verbatim_path(style, base) && !path.is_empty()
 }
 
 /// The separator that is written between a base and a path.
@@ -197,34 +197,12 @@ pub(crate) fn is_prefixed(style: Style, path: &[u8]) -> bool
 }
 
 /// Whether a path begins with a prefix after which only `\` separates.
-fn is_verbatim(style: Style, path: &[u8]) -> bool
+fn is_verbatim_path(style: Style, path: &[u8]) -> bool
     ensures { IsTrue result ↔ IsVerbatimPath style path.now }
 {
     match style {
         Style::Unix => false,
-        Style::Windows => is_windows_verbatim(path),
-    }
-}
-
-/// Whether a Windows path begins with a prefix after which only `\` separates. It reads the prefix,
-/// as the definition of a join does. `path_rules::parts::is_verbatim` compares the four bytes that
-/// each such prefix begins with.
-fn is_windows_verbatim(path: &[u8]) -> bool
-    ensures { IsTrue result ↔ IsVerbatimPath whose.Windows path.now }
-{
-    match windows_prefix(path) {
-        Some((prefix, _)) => is_verbatim_rule(prefix.rules()),
-        None => false,
-    }
-}
-
-/// Whether only `\` separates.
-pub(crate) fn is_verbatim_rule(rules: Rules) -> bool
-    ensures { IsTrue result ↔ (rules ≡ rule.Verbatim) }
-{
-    match rules {
-        Rules::Verbatim => true,
-        _ => false,
+        Style::Windows => is_verbatim(path),
     }
 }
 

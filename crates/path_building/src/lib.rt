@@ -20,6 +20,7 @@
 mod base;
 mod checked;
 mod checked_ends;
+mod cleaning;
 mod collected;
 mod common_bases;
 mod error_text;
@@ -37,6 +38,7 @@ mod writing;
 
 pub use checked::{JoinError, join_checked};
 pub use checked_ends::join_checked_keeping_sep;
+pub use cleaning::clean;
 pub use collected::from_components;
 pub use common_bases::{CommonBaseError, common_base};
 pub use file_names::{
@@ -46,7 +48,7 @@ pub use file_names::{
 pub use file_stems::with_file_stem;
 pub use full_paths::{AbsoluteError, absolute};
 pub use joining::{join, push};
-pub use normal::{NormalizeError, clean, normalize};
+pub use normal::{NormalizeError, normalize};
 pub use relative::relative_from;
 pub use styles::{StyleError, with_style};
 pub use trailing::with_trailing_sep;

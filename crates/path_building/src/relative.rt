@@ -10,8 +10,9 @@ ghost use Rattle.path_rules.specs.Compare.{AreAllAlike};
 ghost use Rattle.path_building.specs.Relative.{IsPlace, AreOnePlace, AreApart, up_from, BeginsAtTop, BeginsUp, AreWritten, IsWhole, IsWay, IsCandidateOrNone, IsRelativeFrom};
 
 use crate::checked::add_names;
+use crate::cleaning::cleaned;
 use crate::joining::join;
-use crate::normal::{add_all, all_names, begins_as_prefix, cleaned, is_root, written_as};
+use crate::normal::{add_all, all_names, begins_as_prefix, is_root, written_as};
 use crate::writing::written;
 use path_rules::parts::{Head, Start, are_alike, head_of, is_verbatim};
 use path_rules::{Component, Components, Style, is_absolute};

@@ -9,7 +9,8 @@ ghost use Rattle.path_building.specs.Join.{IsVerbatimPath};
 ghost use Rattle.path_building.specs.Resolved.{IsResolved};
 ghost use Rattle.path_building.specs.Spelled.{kept_names, start_below};
 
-use crate::normal::{add_cleaned, all_names};
+use crate::cleaning::add_cleaned;
+use crate::normal::all_names;
 use crate::writing::written;
 use path_rules::parts::{Start, head_of};
 use path_rules::{Component, Style};

@@ -1,5 +1,5 @@
 -- What is known of a path after another.
-use Rattle.std.proofs.Common.{◌≡◌, ◌≢◌, ◌↔◌, ◌⊎◌, inl, inr, ℕ, Bool, true, false, IsTrue, if◌then◌else◌, Result, Ok, Err, IfOk, List, [], ◌∷◌, ◌++◌, None, refl, sym, ap, ◌∙◌, subst, append_assoc, append-nil}
+use Rattle.std.proofs.Common.{◌≡◌, ◌≢◌, ◌↔◌, ◌⊎◌, inl, inr, ℕ, Bool, true, false, IsTrue, if◌then◌else◌, Result, Ok, Err, IfOk, List, [], ◌∷◌, ◌++◌, None, drop, refl, sym, ap, ◌∙◌, subst, append_assoc, append-nil}
 use Rattle.std.proofs.lemmas.List.{append_cancel_left}
 use Rattle.path_rules.specs.declared.rules.Rules.{Rules}
 use Rattle.path_rules.specs.declared.rules.Rules.TheVariants as rules
@@ -10,13 +10,16 @@ use Rattle.path_rules.specs.Separators.{separates}
 use Rattle.path_rules.specs.StyleRules.{rules_of_style, main_separator}
 use Rattle.path_rules.specs.Component.{Item, Prefix, dot, components_in}
 use Rattle.path_rules.specs.Heads.{start_items}
-use Rattle.path_rules.specs.Prefix.{Kind, Verbatim, VerbatimUnc, VerbatimDisk, Device, Unc, Disk, IsPrefixOf, rules_of, IsPrefixed, IsRawPrefix}
+use Rattle.path_rules.specs.Prefix.{Kind, Verbatim, VerbatimUnc, VerbatimDisk, Device, Unc, Disk, IsPrefixOf, rules_of, begins_verbatim, IsPrefixed, IsRawPrefix}
 use Rattle.path_rules.specs.Components.{plain_components, implied_root, root_of, after_root, AreComponents, prefixed, bare}
 use Rattle.path_rules.specs.Root.{BeginsWithSeparator}
 use Rattle.path_rules.specs.Trailing.{EndsWithSeparator}
 use Rattle.path_building.specs.Join.{IsVerbatimPath, IsDriveAlone, IsBetween, IsJoinAfter, IsJoin, replacing, resolving, at_root, after, without_dot, HaveTheSamePrefix, IsRelativeTo}
 use Rattle.path_building.proofs.lemmas.Follows.{Follows, apart, beside, suffix_ends, body_items, plain_items, relative_items}
 use Rattle.path_rules.proofs.lemmas.OneList.{one_prefix, one_components}
+use Rattle.path_rules.proofs.lemmas.OwnRules.{prefixed_rules}
+use Rattle.path_rules.proofs.lemmas.Simple.{begun}
+use Rattle.path_rules.proofs.lemmas.Totals.{verbatim_some}
 
 -- a relative path follows a base that isn't verbatim
 pub follows_base : (w : whose.Style) (base path joined : List ℕ) → ¬ (IsVerbatimPath w base) → IsRelativeTo w path → IsJoin w base path joined → IsJoinAfter w base path joined
@@ -193,12 +196,28 @@ join_to_empty w path joined (after p b i) = i.is ∙ ap (λ x. x ++ path) (nothi
     nothing (inl (n, e)) = e
     nothing (inr (n, e)) = absurd (n (inl refl))
 
+-- what separates after the prefix of a path, by the bytes that it begins with
+pub begun_rules : (s : List ℕ) (kind : Kind) (rest : List ℕ) → IsPrefixOf s kind rest → begins_verbatim s ≡ true → rules_of kind ≡ rules.Verbatim
+begun_rules s kind rest h e = prefixed_rules s kind rest h ∙ ap (λ v. if v then rules.Verbatim else rules.Either) e
+
+pub other_rules : (s : List ℕ) (kind : Kind) (rest : List ℕ) → IsPrefixOf s kind rest → begins_verbatim s ≡ false → ¬ (rules_of kind ≡ rules.Verbatim)
+other_rules s kind rest h e v =
+    let other : rules_of kind ≡ rules.Either = prefixed_rules s kind rest h ∙ ap (λ b. if b then rules.Verbatim else rules.Either) e in
+    let never : rules.Either ≡ rules.Verbatim = sym other ∙ v in cc
+
 -- what the tests of a base tell
-pub verbatim_prefix : (s : List ℕ) (kind : Kind) (rest : List ℕ) → IsPrefixOf s kind rest → (rules_of kind ≡ rules.Verbatim) ↔ IsVerbatimPath style.Windows s
-verbatim_prefix s kind rest p = (
-  λ e. (kind, (rest, (p, e))),
-  λ v. ap rules_of ((one_prefix s kind v.0 rest v.1.0 p v.1.1.0).0) ∙ v.1.1.1,
-)
+pub verbatim_begins : (s : List ℕ) → IsTrue (begins_verbatim s) ↔ IsVerbatimPath style.Windows s
+verbatim_begins s = (there, λ v. back v (begins_verbatim s) refl)
+  where
+    there : IsTrue (begins_verbatim s) → IsVerbatimPath style.Windows s
+    there e =
+        let p = verbatim_some (drop 4 s) in
+        let found : IsPrefixOf s p.0 p.1.0 = subst (λ x. IsPrefixOf x p.0 p.1.0) (sym (begun s e)) p.1.1 in
+        (p.0, (p.1.0, (found, begun_rules s p.0 p.1.0 found e)))
+
+    back : IsVerbatimPath style.Windows s → (v : Bool) → begins_verbatim s ≡ v → IsTrue (begins_verbatim s)
+    back h true e = e
+    back h false e = absurd (other_rules s h.0 h.1.0 h.1.1.0 e h.1.1.1)
 
 pub drive_alone : (s : List ℕ) (kind : Kind) (rest : List ℕ) → IsPrefixOf s kind rest → (((letter : ℕ) × (kind ≡ Disk letter)) × (rest ≡ [])) ↔ IsDriveAlone style.Windows s
 drive_alone s kind rest p = (

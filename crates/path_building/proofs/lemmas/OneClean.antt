@@ -1,5 +1,5 @@
 -- Windows paths that differ in the spelling of their separators have one clean form.
-use Rattle.std.proofs.Common.{◌≡◌, inl, inr, ℕ, Bool, true, false, List, [], ◌∷◌, ◌++◌, length, map, reverse, drop, refl, sym, ap, ◌∙◌, subst, arith, length-append}
+use Rattle.std.proofs.Common.{◌≡◌, inl, inr, ℕ, Bool, true, false, List, [], ◌∷◌, ◌++◌, length, map, reverse, refl, sym, ap, ◌∙◌, subst, arith, length-append}
 use Rattle.std.proofs.lemmas.List.{reverse-reverse}
 use Rattle.path_rules.specs.declared.rules.Rules.{Rules}
 use Rattle.path_rules.specs.declared.rules.Rules.TheVariants as rules
@@ -8,15 +8,13 @@ use Rattle.path_rules.specs.declared.rules.Style.TheVariants as style
 use Rattle.path_rules.specs.Component.{Item, Prefix, components_in}
 use Rattle.path_rules.specs.Heads.{start_items}
 use Rattle.path_rules.specs.Components.{AreWindowsComponents, prefixed, bare, root_of, after_root, start_of, after_start}
-use Rattle.path_rules.specs.Prefix.{Kind, IsPrefixOf, rules_of, begins_verbatim}
+use Rattle.path_rules.specs.Prefix.{Kind, rules_of, begins_verbatim}
 use Rattle.path_building.specs.Join.{IsVerbatimPath}
 use Rattle.path_building.specs.Normalized.{AreVerbatim, IsShielded}
 use Rattle.path_building.specs.Cleaned.{CleansTo, or_dot, spelled, IsCleanForm, IsCleaned, DifferInSeparators}
 use Rattle.path_building.specs.Written.{IsWrittenOut, IsWritten}
 use Rattle.path_rules.proofs.lemmas.OneList.{one_prefix}
-use Rattle.path_rules.proofs.lemmas.OwnRules.{prefixed_rules}
-use Rattle.path_rules.proofs.lemmas.Simple.{begun}
-use Rattle.path_rules.proofs.lemmas.Totals.{verbatim_some}
+use Rattle.path_building.proofs.lemmas.Joins.{verbatim_begins}
 use Rattle.path_building.proofs.lemmas.Again.{one_clean}
 use Rattle.path_building.proofs.lemmas.CleanPrefixes.{either_by}
 use Rattle.path_building.proofs.lemmas.Forms.{verbatim_no}
@@ -35,12 +33,7 @@ not_begun : (s : List ℕ) → ¬ (IsVerbatimPath style.Windows s) → begins_ve
 not_begun s n = cases (begins_verbatim s) refl
   where
     cases : (v : Bool) → begins_verbatim s ≡ v → begins_verbatim s ≡ false
-    cases true e =
-        let u = drop 4 s in
-        let is : s ≡ 0x5C ∷ 0x5C ∷ 0x3F ∷ 0x5C ∷ u = begun s e in
-        let p = verbatim_some u in
-        let there : IsPrefixOf (0x5C ∷ 0x5C ∷ 0x3F ∷ 0x5C ∷ u) p.0 p.1.0 = p.1.1 in
-        absurd (n (subst (IsVerbatimPath style.Windows) (sym is) (p.0, (p.1.0, (there, prefixed_rules (0x5C ∷ 0x5C ∷ 0x3F ∷ 0x5C ∷ u) p.0 p.1.0 there)))))
+    cases true e = absurd (n ((verbatim_begins s).0 e))
     cases false e = e
 
 begins_on : (raw rest : List ℕ) → begins_verbatim raw ≡ true → begins_verbatim (raw ++ rest) ≡ true

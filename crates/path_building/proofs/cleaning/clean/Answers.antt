@@ -6,7 +6,7 @@ use Rattle.path_building.specs.Spelled.{AreSpelled}
 use Rattle.path_building.specs.Cleaned.{spelled, IsCleaned}
 use Rattle.path_building.proofs.lemmas.Forms.{if_ok, nothing_after, kept_clean, no_dot_after, cleaned_clean, cleaned_names_spelled, cleaned_none}
 use Rattle.path_building.proofs.lemmas.Spelling.{body_spelled}
-use Rattle.path_building.proofs.normal.clean.Goals as goal
+use Rattle.path_building.proofs.cleaning.clean.Goals as goal
 
 pub written_as-requires-clause-spelled : goal.written_as-requires-clause-spelled
 written_as-requires-clause-spelled g c =

@@ -2,7 +2,7 @@ use Rattle.std.proofs.Common.{map}
 use Rattle.path_rules.specs.Views.{item_of}
 use Rattle.path_rules.proofs.lemmas.Fields.{empty_from}
 use Rattle.path_building.proofs.lemmas.Forms.{clean_after, clean_bare, some_bytes}
-use Rattle.path_building.proofs.normal.clean_start.Goals as goal
+use Rattle.path_building.proofs.cleaning.clean_start.Goals as goal
 
 pub returns-then-not-is_empty-clause-shield : goal.returns-then-not-is_empty-clause-shield
 returns-then-not-is_empty-clause-shield c =

@@ -8,7 +8,7 @@ use Rattle.path_building.specs.Cleaned.{one_spelling, spelled}
 use Rattle.path_rules.proofs.lemmas.Fields.{empty_from}
 use Rattle.path_building.proofs.lemmas.Forms.{if_ok, some_bytes}
 use Rattle.path_building.proofs.lemmas.CleanPrefixes.{spelled_path_of, bare_spelled}
-use Rattle.path_building.proofs.normal.spelled_as.Goals as goal
+use Rattle.path_building.proofs.cleaning.spelled_as.Goals as goal
 
 pub returns-then-is_empty : goal.returns-then-is_empty
 returns-then-is_empty g c =
