@@ -1,6 +1,7 @@
 use Rattle.std.proofs.Common.{◌≡◌, ℕ, List, true, refl, sym, ap, ◌∙◌, ◌++◌, codes, append_assoc}
 use Rattle.std.proofs.Output.{has_written_styled_append, has_written_styled_of_eq}
 use Rattle.std.specs.Option.{option_map}
+use Rattle.os_args.proofs.lemmas.Plain.{plainly}
 use Rattle.platform_str.specs.Strings.{bytes}
 use Rattle.os_args.specs.Kinds.{kind_of}
 use Rattle.os_args.specs.ErrorText.{shown, after_text, fault_text}
@@ -30,3 +31,14 @@ returns-in_ok-write_str-in-MissingValue-clause-styled g c = λ flush ok.
 
 pub returns-in-UnexpectedArgument-clause-styled : goal.returns-in-UnexpectedArgument-clause-styled
 returns-in-UnexpectedArgument-clause-styled g c = λ flush ok. has_written_styled_of_eq _ _ _ _ _ (sym (ap (λ e. fault_text g.E.Platform.units (fault_of e)) c.in-UnexpectedArgument.is)) (c.write_word_between.ensures flush ok)
+
+pub returns-in_ok-write_between-in-UnexpectedValue-clause-writes :
+    goal.returns-in_ok-write_between-in-UnexpectedValue-clause-writes
+returns-in_ok-write_between-in-UnexpectedValue-clause-writes g c = λ plain ok. plainly plain (returns-in_ok-write_between-in-UnexpectedValue-clause-styled g c plain.flush ok)
+
+pub returns-in_ok-write_str-in-MissingValue-clause-writes :
+    goal.returns-in_ok-write_str-in-MissingValue-clause-writes
+returns-in_ok-write_str-in-MissingValue-clause-writes g c = λ plain ok. plainly plain (returns-in_ok-write_str-in-MissingValue-clause-styled g c plain.flush ok)
+
+pub returns-in-UnexpectedArgument-clause-writes : goal.returns-in-UnexpectedArgument-clause-writes
+returns-in-UnexpectedArgument-clause-writes g c = λ plain ok. plainly plain (returns-in-UnexpectedArgument-clause-styled g c plain.flush ok)
