@@ -5,7 +5,7 @@ ghost use Rattle.path_rules.specs.declared.head.Start.TheVariants.{Root, Dot, No
 ghost use Rattle.path_rules.specs.declared.rules.Rules.TheVariants.{Verbatim};
 ghost use Rattle.path_rules.specs.Component.{components_in};
 ghost use Rattle.path_rules.specs.HeadParts.{IsHead};
-ghost use Rattle.path_rules.specs.Heads.{prefix_items, start_items};
+ghost use Rattle.path_rules.specs.Heads.{prefix_items, start_items, items_of};
 ghost use Rattle.path_rules.specs.Views.{item_of};
 ghost use Rattle.path_building.specs.Written.{IsPathOf};
 ghost use Rattle.path_building.specs.Spelled.{resolve, cleaned, go_up, cleaned_start, AreSpelled, DoublesRoot, MayStart};
@@ -104,8 +104,7 @@ pub fn normalize<A: Allocator + Clone>(
 {
     let head = head_of(style, path);
     if is_verbatim(head.prefix) {
-        let names = all_names(alloc.clone()?, head.rules, head.body)?;
-        return Ok(written_as(alloc, style, path, head, head.start, &names)?);
+        return Ok(rewritten(alloc, style, path, head)?);
     }
     let Some(names) = resolved(alloc.clone()?, head.rules, head.body)? else {
         return Err(NormalizeError::NoName);
@@ -155,8 +154,7 @@ pub fn clean<A: Allocator + Clone>(
 {
     let head = head_of(style, path);
     if is_verbatim(head.prefix) {
-        let names = all_names(alloc.clone()?, head.rules, head.body)?;
-        return written_as(alloc, style, path, head, head.start, &names);
+        return rewritten(alloc, style, path, head);
     }
     let names = cleaned(alloc.clone()?, head.rules, is_root(head.start), head.body)?;
     let kept = names.as_slice();
@@ -190,6 +188,20 @@ fn spelled_as<A: Allocator>(
     push_spelled(&mut clean, head.prefix)?;
     push_after(&mut clean, style.main_separator(), start, false, names)?;
     Ok(clean)
+}
+
+/// The path with all its components, written with the main separator.
+pub(crate) fn rewritten<A: Allocator + Clone>(
+    alloc: A,
+    style: Style,
+    path: &[u8],
+    head: Head<'_>,
+) -> Result<Vec<u8, A>, AllocError>
+    requires { IsHead style path.now head }
+    ensures { IfOk result (λ written. IsPathOf style (items_of head.entry) written.items) }
+{
+    let names = all_names(alloc.clone()?, head.rules, head.body)?;
+    written_as(alloc, style, path, head, head.start, &names)
 }
 
 /// The path with this start and these names after its prefix.
