@@ -21,9 +21,9 @@ returns-in-Value g c = record { writes = λ plain ok. plainly plain (has_written
 pub returns-in_ok-write_flag-in-Short : goal.returns-in_ok-write_flag-in-Short
 returns-in_ok-write_flag-in-Short g c = record {
   writes = λ plain ok.
-    let head = c.in_ok-write_flag-in-Short.ensures plain.flush (refl {a = true}) in
-    let end = c.write_str.ensures.styled head.flush ok in
-    let flag = shown g.E.Platform.units (encode_utf8 c.in-Short.flag) in
-    let texts = append_assoc (codes "Short('") flag (codes "')") ∙ sym (ap (λ w. word_debug g.E.Platform.units (kind_of w)) c.in-Short.is) in
-    plainly plain (has_written_styled_of_eq _ _ _ _ _ texts (has_written_styled_append _ _ _ _ _ _ head end));
+      let head = c.in_ok-write_flag-in-Short.ensures plain.flush (refl {a = true}) in
+      let end = c.write_str.ensures.styled head.flush ok in
+      let flag = shown g.E.Platform.units (encode_utf8 c.in-Short.flag) in
+      let texts = append_assoc (codes "Short('") flag (codes "')") ∙ sym (ap (λ w. word_debug g.E.Platform.units (kind_of w)) c.in-Short.is) in
+      plainly plain (has_written_styled_of_eq _ _ _ _ _ texts (has_written_styled_append _ _ _ _ _ _ head end));
 }

@@ -28,8 +28,7 @@ invariant_of-self-2 g c =
 pub returns-clause-steps : goal.returns-clause-steps
 returns-clause-steps g c =
     let steps = c.in-Some.ensures.steps in
-    let new = c.next_back.new.self in
-    (
+    let new = c.next_back.new.self in (
       ap (λ l. l.items) (sym c.self.view_is) ∙ steps.0 ∙ ap (λ item. new.items ++ item ∷ []) (sym c.formed_component.ensures),
       subst (λ l. GoesOn l new l.taken) c.self.view_is steps.1,
     )
