@@ -6,3 +6,4 @@ pub mod Joined
 pub mod OneEscape
 pub mod Steps
 pub mod OneOutcome
+pub mod Plain

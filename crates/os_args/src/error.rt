@@ -6,7 +6,7 @@ ghost use Rattle.os_args.specs.Kinds.{kind_of};
 ghost use Rattle.os_args.specs.ErrorText.{after_text, fault_text};
 ghost use Rattle.os_args.specs.Views.{fault_of};
 
-use crate::shown::{write_string, write_word};
+use crate::shown::{write_between, write_word_between};
 use crate::word::Word;
 use os_str_ext::{OsStr, Platform};
 use std::error::Error;
@@ -70,9 +70,7 @@ impl<'a, E: Platform> fmt::Display for ArgumentError<'a, OsStr<'a, E>> {
     fn fmt<W: fmt::Write>(&self, f: &mut fmt::Formatter<W>) -> fmt::Result {
         match *self {
             ArgumentError::UnexpectedValue(last, value) => {
-                f.write_str("unexpected value '")?;
-                write_string(value, f)?;
-                f.write_str("'")?;
+                write_between("unexpected value '", value, "'", f)?;
                 write_after(last, f)
             }
             ArgumentError::MissingValue(last) => {
@@ -80,9 +78,7 @@ impl<'a, E: Platform> fmt::Display for ArgumentError<'a, OsStr<'a, E>> {
                 write_after(last, f)
             }
             ArgumentError::UnexpectedArgument(word) => {
-                f.write_str("unexpected argument '")?;
-                write_word(word, f)?;
-                f.write_str("'")
+                write_word_between("unexpected argument '", word, "'", f)
             }
         }
     }
@@ -108,10 +104,6 @@ fn write_after<'a, E: Platform, W: fmt::Write>(
 {
     match last {
         None => f.write_str(""),
-        Some(word) => {
-            f.write_str(" after '")?;
-            write_word(word, f)?;
-            f.write_str("'")
-        }
+        Some(word) => write_word_between(" after '", word, "'", f),
     }
 }

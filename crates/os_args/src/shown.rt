@@ -1,5 +1,5 @@
 //! Strings and words as errors print them: on one line, whatever they hold.
-ghost use Rattle.std.specs.Prelude.{◌++◌, Some, codes};
+ghost use Rattle.std.specs.Prelude.{◌++◌, Some};
 ghost use Rattle.std.specs.Char.{encode_utf8};
 ghost use Rattle.std.specs.Fmt.{WritesStyledOnOk};
 ghost use Rattle.platform_str.specs.Strings.{bytes};
@@ -22,17 +22,34 @@ pub(crate) fn write_string<'a, E: Platform, W: fmt::Write>(
     escaped_line(string).write_to(f)
 }
 
-/// Writes a flag in the same way.
-fn write_flag<E: Platform, W: fmt::Write>(flag: char, f: &mut fmt::Formatter<W>) -> fmt::Result
-    ensures { WritesStyledOnOk W.write_str_gives f.old result (shown E.units (encode_utf8 flag))
-        f.new }
+/// Writes a string after a prefix.
+fn write_after_prefix<'a, E: Platform, W: fmt::Write>(
+    before: &str,
+    string: OsStr<'a, E>,
+    f: &mut fmt::Formatter<W>,
+) -> fmt::Result
+    ensures { WritesStyledOnOk W.write_str_gives f.old result
+        (before.now ++ shown E.units (bytes string.entry)) f.new }
+{
+    f.write_str(before)?;
+    write_string(string, f)
+}
+
+/// Writes a flag after a prefix.
+fn write_flag<E: Platform, W: fmt::Write>(
+    before: &str,
+    flag: char,
+    f: &mut fmt::Formatter<W>,
+) -> fmt::Result
+    ensures { WritesStyledOnOk W.write_str_gives f.old result
+        (before.now ++ shown E.units (encode_utf8 flag)) f.new }
 {
     let mut buffer = [0; 4];
-    write_string(OsStr::<E>::new(flag.encode_utf8(&mut buffer)), f)
+    write_after_prefix(before, OsStr::<E>::new(flag.encode_utf8(&mut buffer)), f)
 }
 
 /// Writes a string between a prefix and a suffix.
-fn write_between<'a, E: Platform, W: fmt::Write>(
+pub(crate) fn write_between<'a, E: Platform, W: fmt::Write>(
     before: &str,
     string: OsStr<'a, E>,
     after: &str,
@@ -47,7 +64,7 @@ fn write_between<'a, E: Platform, W: fmt::Write>(
 }
 
 /// Writes a word as it was given, without its value.
-pub(crate) fn write_word<'a, E: Platform, W: fmt::Write>(
+fn write_word<'a, E: Platform, W: fmt::Write>(
     word: Word<'a, OsStr<'a, E>>,
     f: &mut fmt::Formatter<W>,
 ) -> fmt::Result
@@ -55,24 +72,27 @@ pub(crate) fn write_word<'a, E: Platform, W: fmt::Write>(
         (word_text E.units (kind_of word.entry)) f.new }
 {
     match word {
-        Word::Long(name) => {
-            f.write_str("--")?;
-            write_string(OsStr::<E>::new(name), f)
-        }
-        Word::LongBytes(name) => {
-            f.write_str("--")?;
-            write_string(name, f)
-        }
-        Word::Short(flag) => {
-            f.write_str("-")?;
-            write_flag::<E, W>(flag, f)
-        }
-        Word::ShortBytes(rest) => {
-            f.write_str("-")?;
-            write_string(rest, f)
-        }
+        Word::Long(name) => write_after_prefix("--", OsStr::<E>::new(name), f),
+        Word::LongBytes(name) => write_after_prefix("--", name, f),
+        Word::Short(flag) => write_flag::<E, W>("-", flag, f),
+        Word::ShortBytes(rest) => write_after_prefix("-", rest, f),
         Word::Value(value) => write_string(value, f),
     }
+}
+
+/// Writes a word as it was given, without its value, between a prefix and a suffix.
+pub(crate) fn write_word_between<'a, E: Platform, W: fmt::Write>(
+    before: &str,
+    word: Word<'a, OsStr<'a, E>>,
+    after: &str,
+    f: &mut fmt::Formatter<W>,
+) -> fmt::Result
+    ensures { WritesStyledOnOk W.write_str_gives f.old result
+        (before.now ++ (word_text E.units (kind_of word.entry) ++ after.now)) f.new }
+{
+    f.write_str(before)?;
+    write_word(word, f)?;
+    f.write_str(after)
 }
 
 /// `Long("output")`, with the escape of a string on one line between the quotes.
@@ -84,8 +104,7 @@ impl<'a, E: Platform> fmt::Debug for Word<'a, OsStr<'a, E>> {
             Word::Long(name) => write_between("Long(\"", OsStr::<E>::new(name), "\")", f),
             Word::LongBytes(name) => write_between("LongBytes(\"", name, "\")", f),
             Word::Short(flag) => {
-                f.write_str("Short('")?;
-                write_flag::<E, W>(flag, f)?;
+                write_flag::<E, W>("Short('", flag, f)?;
                 f.write_str("')")
             }
             Word::ShortBytes(rest) => write_between("ShortBytes(\"", rest, "\")", f),

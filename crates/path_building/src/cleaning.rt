@@ -12,7 +12,7 @@ ghost use Rattle.path_building.specs.Spelled.{cleaned, go_up, cleaned_start, Are
 ghost use Rattle.path_building.specs.Normalized.{BeginsAsPrefix, IsShielded};
 ghost use Rattle.path_building.specs.Cleaned.{or_dot, spelled, IsCleaned};
 
-use crate::normal::{all_names, is_root, shielded, written_as};
+use crate::normal::{is_root, rewritten, shielded, written_as};
 use crate::writing::{push_after, push_spelled};
 use path_rules::parts::{Head, Start, head_of, is_verbatim, next_in};
 use path_rules::{Component, Rules, Style};
@@ -58,8 +58,7 @@ pub fn clean<A: Allocator + Clone>(
 {
     let head = head_of(style, path);
     if is_verbatim(head.prefix) {
-        let names = all_names(alloc.clone()?, head.rules, head.body)?;
-        return written_as(alloc, style, path, head, head.start, &names);
+        return rewritten(alloc, style, path, head);
     }
     let names = cleaned(alloc.clone()?, head.rules, is_root(head.start), head.body)?;
     let kept = names.as_slice();

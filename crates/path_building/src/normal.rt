@@ -5,7 +5,7 @@ ghost use Rattle.path_rules.specs.declared.head.Start.TheVariants.{Root, Nothing
 ghost use Rattle.path_rules.specs.declared.rules.Rules.TheVariants.{Verbatim};
 ghost use Rattle.path_rules.specs.Component.{components_in};
 ghost use Rattle.path_rules.specs.HeadParts.{IsHead};
-ghost use Rattle.path_rules.specs.Heads.{prefix_items, start_items};
+ghost use Rattle.path_rules.specs.Heads.{prefix_items, start_items, items_of};
 ghost use Rattle.path_rules.specs.Views.{item_of};
 ghost use Rattle.path_building.specs.Written.{IsPathOf};
 ghost use Rattle.path_building.specs.Spelled.{resolve, AreSpelled, DoublesRoot, MayStart};
@@ -102,8 +102,7 @@ pub fn normalize<A: Allocator + Clone>(
 {
     let head = head_of(style, path);
     if is_verbatim(head.prefix) {
-        let names = all_names(alloc.clone()?, head.rules, head.body)?;
-        return Ok(written_as(alloc, style, path, head, head.start, &names)?);
+        return Ok(rewritten(alloc, style, path, head)?);
     }
     let Some(names) = resolved(alloc.clone()?, head.rules, head.body)? else {
         return Err(NormalizeError::NoName);
@@ -111,6 +110,20 @@ pub fn normalize<A: Allocator + Clone>(
     let kept = names.as_slice();
     let start = shielded_start(style, head, kept);
     Ok(written_as(alloc, style, path, head, start, kept)?)
+}
+
+/// The path with all its components, written with the main separator.
+pub(crate) fn rewritten<A: Allocator + Clone>(
+    alloc: A,
+    style: Style,
+    path: &[u8],
+    head: Head<'_>,
+) -> Result<Vec<u8, A>, AllocError>
+    requires { IsHead style path.now head }
+    ensures { IfOk result (λ written. IsPathOf style (items_of head.entry) written.items) }
+{
+    let names = all_names(alloc.clone()?, head.rules, head.body)?;
+    written_as(alloc, style, path, head, head.start, &names)
 }
 
 /// The path with this start and these names after its prefix.

@@ -12,7 +12,7 @@ ghost use Rattle.path_building.specs.Relative.{IsPlace, AreOnePlace, AreApart, u
 use crate::checked::add_names;
 use crate::cleaning::cleaned;
 use crate::joining::join;
-use crate::normal::{add_all, all_names, begins_as_prefix, is_root, written_as};
+use crate::normal::{add_all, begins_as_prefix, is_root, rewritten, written_as};
 use crate::writing::written;
 use path_rules::parts::{Head, Start, are_alike, head_of, is_verbatim};
 use path_rules::{Component, Components, Style, is_absolute};
@@ -140,8 +140,7 @@ fn whole<A: Allocator + Clone>(
         let names = cleaned(alloc.clone()?, head.rules, is_root(head.start), head.body)?;
         return written_as(alloc, style, path, head, head.start, &names);
     }
-    let names = all_names(alloc.clone()?, head.rules, head.body)?;
-    written_as(alloc, style, path, head, head.start, &names)
+    rewritten(alloc, style, path, head)
 }
 
 /// Components below a prefix and a root, as they are written.

@@ -1,7 +1,8 @@
 //! A path of one style as a path of the other.
-ghost use Rattle.std.specs.Prelude.{◌↔◌, true, map, IsTrue, MatchOption, IfOk, IfErr};
+ghost use Rattle.std.specs.Prelude.{◌≢◌, ◌↔◌, true, List, map, IsTrue, MatchOption, IfOk, IfErr};
 ghost use Rattle.path_rules.specs.Views.{item_of};
-ghost use Rattle.path_rules.specs.Component.{Normal};
+ghost use Rattle.path_rules.specs.Component.{Item, Normal};
+ghost use Rattle.path_rules.specs.Components.{AreComponents};
 ghost use Rattle.path_building.specs.Restyled.{IsHad, AreHad, IsFirstUnlike, IsRestyled, IsStyleFault};
 
 use crate::error_text::write_number;
@@ -107,19 +108,34 @@ pub fn with_style<A: Allocator + Clone>(
     if let Some(index) = first_unlike(to, &items) {
         return Err(StyleError::Component(index));
     }
+    Ok(restyled(alloc, from, to, path)?)
+}
+
+/// The path of another style, which has each of its components.
+fn restyled<A: Allocator + Clone>(
+    alloc: A,
+    from: Style,
+    to: Style,
+    path: &[u8],
+) -> Result<Vec<u8, A>, AllocError>
+    requires unlike { from ≢ to }
+    requires had { (items : List Item) × AreComponents from path.now items × AreHad to true items }
+    ensures { IfOk result (λ made. IsRestyled from to path.now made.items) }
+{
     let head = head_of(from, path);
     let names = all_names(alloc.clone()?, head.rules, head.body)?;
     let none = b"".as_slice();
     let before = before_start(to, none, head.start, &names);
-    Ok(written(
+    let separator = to.main_separator();
+    written(
         alloc,
         path.len(),
-        to.main_separator(),
+        separator,
         before,
         head.start,
         false,
         &names,
-    )?)
+    )
 }
 
 /// The index of the first component that a style can't have.

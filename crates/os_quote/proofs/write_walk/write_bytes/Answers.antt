@@ -23,6 +23,30 @@ loop-len-preserved g c =
 parts : {whole texts before : List ℕ} (len : ℕ) (left : List ℕ) {taken : List ℕ} → whole ≡ take len before ++ left → texts ≡ before → taken ≡ take len texts → whole ≡ taken ++ left
 parts len left all same is = all ∙ ap (λ t. t ++ left) (sym (is ∙ ap (take len) same))
 
+pub loop-len-smaller : goal.loop-len-smaller
+loop-len-smaller g c = c.in-Some.ensures.2.shorter
+
+pub from_utf8_unchecked-requires : goal.from_utf8_unchecked-requires
+from_utf8_unchecked-requires g c =
+    let same : c.loop-len-test.texts ≡ c.loop-len.texts = elim c.loop-len-test.branch [
+      | then-loop-len-test+else-shown-lt-SHOWN w ↦ w.texts-is
+      | else-loop-len-test w ↦ w.texts-is
+      | then-loop-len-test+then-shown-lt-SHOWN+in_default w ↦ w.texts-is ∙ w.in_default.ensures
+    ] in
+    subst (λ t. IsUtf8 (take c.loop-len.len t)) (sym same) c.loop-len.invariant.1
+
+pub take-requires : goal.take-requires
+take-requires g c =
+    let sink = g.S.Sink.rules in
+    let old = c.args.sink.now in
+    let same : c.loop-len-test.texts ≡ c.loop-len.texts = elim c.loop-len-test.branch [
+      | then-loop-len-test+else-shown-lt-SHOWN w ↦ w.texts-is
+      | else-loop-len-test w ↦ w.texts-is
+      | then-loop-len-test+then-shown-lt-SHOWN+in_default w ↦ w.texts-is ∙ w.in_default.ensures
+    ] in
+    let all = parts c.loop-len.len _ c.loop-len.invariant.4 same c.from_utf8_unchecked.ensures in
+    sink.room_before old _ _ (subst (sink.has_room old) all c.requires.room)
+
 pub returns-in_err-take-clause-taken : goal.returns-in_err-take-clause-taken
 returns-in_err-take-clause-taken g c =
     let sink = g.S.Sink.rules in
