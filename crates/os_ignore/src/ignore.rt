@@ -99,7 +99,8 @@ impl<A: Allocator + Copy> Ignore<A> {
     /// capital that a backslash quotes matches nothing, nor does a capital alone in a class: `[A]` has
     /// neither `a` nor `A`, and `[a]` has both. The directory of the file is compared exactly.
     ///
-    /// A file takes no more memory than with regard to case. Each path is tried with each line of it.
+    /// A letter takes no more memory than with regard to case; a range of a class takes more. Each path is
+    /// tried with each line of such a file.
     ///
     /// # Errors
     ///
