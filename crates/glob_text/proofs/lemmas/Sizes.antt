@@ -1,5 +1,5 @@
 -- The sizes of choices, and their limits.
-use Rattle.std.proofs.Common.{◌≡◌, ◌↔◌, ◌⊎◌, inl, inr, ⊎_elim, ℕ, ◌+◌, ◌<◌, Bool, true, false, List, [], ◌∷◌, ◌++◌, map, length, refl, sym, ap, ◌∙◌, subst, arith, append_assoc, length-append, IsTrue}
+use Rattle.std.proofs.Common.{◌≡◌, ◌↔◌, ◌⊎◌, inl, inr, ⊎_elim, ℕ, ◌+◌, ◌<◌, Bool, true, false, List, [], ◌∷◌, ◌++◌, length, sym, ap, ◌∙◌, subst, arith, length-append, IsTrue}
 use Rattle.std.proofs.lemmas.List.{length-map}
 use Rattle.glob_text.specs.declared.size.Size.{Size}
 use Rattle.glob_text.specs.Marks.{Mark}

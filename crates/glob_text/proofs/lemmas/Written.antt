@@ -1,10 +1,9 @@
 -- Choices that are written, one node at a time.
-use Rattle.std.proofs.Common.{◌≡◌, ℕ, zero, suc, ◌+◌, ◌<◌, ◌≤◌, List, [], ◌∷◌, ◌++◌, length, map, reverse, refl, sym, ap, ◌∙◌, subst, arith, append_assoc, append-nil}
+use Rattle.std.proofs.Common.{◌≡◌, ℕ, zero, suc, ◌+◌, ◌<◌, ◌≤◌, List, [], ◌∷◌, ◌++◌, map, reverse, refl, sym, ap, ◌∙◌, subst, arith, append_assoc, append-nil}
 use Rattle.std.proofs.lemmas.List.{map-append, reverse-append}
 use Rattle.std.proofs.lemmas.Simd.{map-map}
 use Rattle.glob_text.specs.declared.choices.Chosen.{Chosen}
 use Rattle.glob_text.specs.declared.choices.Node.{Node}
-use Rattle.glob_text.specs.declared.choices.Node.TheVariants.{End, One, Both}
 use Rattle.glob_text.specs.declared.choices.Opened.{Opened}
 use Rattle.glob_text.specs.Backwards.{each_after}
 use Rattle.glob_text.specs.Chosen.{indices_of, mark_at, marks_at, choices_of}

@@ -6,7 +6,7 @@ use Rattle.glob_text.specs.Chosen.{indices_of}
 use Rattle.glob_text.specs.Marks.{mark_of}
 use Rattle.glob_text.specs.Nodes.{node_at, opened_of, stepped, writing_of}
 use Rattle.glob_text.proofs.lemmas.Sizes.{choices_are, too_large, within_limits}
-use Rattle.glob_text.proofs.lemmas.Written.{all_written, last_first, none_written, one_opened, step, weight, weights, IsWriting}
+use Rattle.glob_text.proofs.lemmas.Written.{all_written, last_first, none_written, one_opened, step, weights, IsWriting}
 use Rattle.glob_text.proofs.choices.choices.Goals as goal
 
 pub returns-then-is_too_large : goal.returns-then-is_too_large
