@@ -1,4 +1,8 @@
 //! Classes as they are written in a pattern.
+//!
+//! `os_ignore` has a reader of its own. A trait for the letters of both would let them share the search for a
+//! name and the negation. With its impls and contracts it has as many lines as it would replace. Ranges, what
+//! ends a name, and faults would stay apart.
 ghost use Rattle.std.specs.Prelude.{◌≡◌, ◌++◌, ◌<◌, ◌≤◌, true, false, length, None, Some, MatchOption, MatchResult, IfOk, IfSome};
 ghost use Rattle.glob_text.specs.ClassText.{is_plain, letter_at, ends_name, named_text, closes, range_at, member_at, negation, IsClass, IsClassFault};
 ghost use Rattle.glob_text.specs.ClassSteps.{first_end, member_ranges, reading_of, IsEndBefore, IsFirstEnd, LeavesLess};
