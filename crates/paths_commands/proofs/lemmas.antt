@@ -1,5 +1,7 @@
 pub mod After
 pub mod Answers
+pub mod AtFault
+pub mod Few
 pub mod Lines
 pub mod NeverBoth
 pub mod ReadOnce

@@ -4,16 +4,25 @@ use Rattle.std.specs.Fmt.Cut.{IsTextOrCut}
 use Rattle.std.specs.Fmt.InlineText.{inline_text}
 use Rattle.os_str_bytes.specs.FaultText.{fault_text}
 use Rattle.path_building.specs.ErrorText.{join_error_text}
+use Rattle.path_building.specs.declared.checked.JoinError.{JoinError}
 use Rattle.paths_commands.specs.declared.fault.Refusal.{Refusal}
-use Rattle.paths_commands.specs.declared.fault.Refusal.TheVariants.{NoString, NoNormalForm, NoRelativePath, NoJoin, NoComponent, NoStringThere}
+use Rattle.paths_commands.specs.declared.fault.Refusal.TheVariants.{NoString, NoNormalForm, NoRelativePath, NoJoin, NoJoinAt, NoComponent, NoStringThere}
 use Rattle.paths_commands.specs.declared.fault.CommandFault.{CommandFault}
 use Rattle.paths_commands.specs.declared.fault.CommandFault.TheVariants.{Unreadable, Misuse, PassedOver}
 use Rattle.program_frame.specs.Misuse.{misuse_text}
 use Rattle.program_frame.specs.declared.misuse.Misuse as misuse
 
--- what the program prints of a component, at this index, that the other platform can't have: its number, from 1, and its escape
+-- what the program prints of a component at this index: its number, from 1, and its escape
+abbrev pub numbered : ℕ → List ℕ → List ℕ
+numbered index text = decimal (min (index + 1) (2 ^ 64 - 1)) ++ (codes ", '" ++ (text ++ codes "'"))
+
+-- of a component that the other platform can't have
 abbrev pub unlike_text : ℕ → List ℕ → List ℕ
-unlike_text index text = codes "a path there can't have component " ++ (decimal (min (index + 1) (2 ^ 64 - 1)) ++ (codes ", '" ++ (text ++ codes "'")))
+unlike_text index text = codes "a path there can't have component " ++ numbered index text
+
+-- of a component for which the path isn't joined to a base
+abbrev pub at_fault_text : JoinError → ℕ → List ℕ → List ℕ
+at_fault_text error index text = join_error_text error ++ (codes " at component " ++ numbered index text)
 
 -- what the program prints of the reason why a path is rejected
 abbrev pub refusal_text : Refusal → List ℕ
@@ -21,6 +30,7 @@ refusal_text (NoString error) = fault_text error
 refusal_text NoNormalForm = codes "no name before a .."
 refusal_text NoRelativePath = codes "no path from the base leads there"
 refusal_text (NoJoin error) = join_error_text error
+refusal_text (NoJoinAt error index text) = at_fault_text error index (inline_text text)
 refusal_text (NoComponent index text) = unlike_text index (inline_text text)
 refusal_text (NoStringThere error) = codes "no path there: " ++ fault_text error
 

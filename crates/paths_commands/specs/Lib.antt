@@ -1,5 +1,6 @@
 pub mod Options
 pub mod Styles
+pub mod AtFault
 pub mod Task
 pub mod Fault
 pub mod Command

@@ -15,6 +15,7 @@ use Rattle.path_building.specs.Cleaned.{IsCleaned}
 use Rattle.path_building.specs.Join.{IsJoin}
 use Rattle.path_building.specs.Normalized.{IsNormalized, HasNoNormalForm}
 use Rattle.path_building.specs.Relative.{IsRelativeFrom}
+use Rattle.path_building.specs.declared.checked.JoinError.{JoinError}
 use Rattle.path_building.specs.declared.checked.JoinError.TheVariants as join
 use Rattle.path_building.specs.Restyled.{IsRestyled}
 use Rattle.path_rules.specs.StyleRules.{main_separator}
@@ -25,6 +26,7 @@ use Rattle.program_frame.specs.Os.{os_word}
 use Rattle.program_frame.specs.Strings.{strings}
 use Rattle.program_frame.specs.declared.os.Os.{Os}
 use Rattle.program_frame.specs.Rules.{ListRules}
+use Rattle.paths_commands.specs.AtFault.{IsAtFault, LacksFault}
 use Rattle.paths_commands.specs.Styles.{style_of}
 use Rattle.paths_commands.specs.declared.fault.Refusal.{Refusal}
 use Rattle.paths_commands.specs.declared.fault.Refusal.TheVariants as refusal
@@ -114,15 +116,6 @@ IsAnswer style (JoinChecked base) path answer = IsJoinedBelow style base.now pat
 IsAnswer style (Relative base) path answer = IsRelativeFrom style path base.now (Some answer)
 IsAnswer style (Convert to) path answer = (strings to).well_formed answer × IsRestyled style (style_of to) path answer
 
--- why a path isn't joined to the base, other than that an allocation failed
-abbrev pub IsUnjoined : Style → List ℕ → List ℕ → Refusal → Type 0
-IsUnjoined style base path (refusal.NoString error) = ⊥
-IsUnjoined style base path refusal.NoNormalForm = ⊥
-IsUnjoined style base path refusal.NoRelativePath = ⊥
-IsUnjoined style base path (refusal.NoJoin error) = (error ≢ join.Memory) × IsJoinFault style base path error
-IsUnjoined style base path (refusal.NoComponent index text) = ⊥
-IsUnjoined style base path (refusal.NoStringThere error) = ⊥
-
 -- the component at this index is this one
 abbrev pub IsAt : List Item → ℕ → Item → Type 0
 IsAt items index item = (before : List Item) × ((after : List Item) × ((items ≡ before ++ item ∷ after) × (length before ≡ index)))
@@ -164,12 +157,27 @@ module _ {E : Type 0} (p : Ghosts E) (style : Style) where
   abbrev pub IsShownOf : List ℕ → ℕ → List ℕ → Type 0
   IsShownOf path index text = (items : List Item) × (AreComponents style path items × IsShown items index text)
 
+  -- the reason for an error: it has the first component of the path with the fault and what is shown of it, or neither if no component has the fault
+  abbrev pub IsReasonOf : List ℕ → JoinError → Refusal → Type 0
+  IsReasonOf path error (refusal.NoString other) = ⊥
+  IsReasonOf path error refusal.NoNormalForm = ⊥
+  IsReasonOf path error refusal.NoRelativePath = ⊥
+  IsReasonOf path error (refusal.NoJoin other) = (other ≡ error) × LacksFault style error path
+  IsReasonOf path error (refusal.NoJoinAt other index text) = (other ≡ error) × (IsAtFault style error path index × IsShownOf path index (inline_text text))
+  IsReasonOf path error (refusal.NoComponent index text) = ⊥
+  IsReasonOf path error (refusal.NoStringThere other) = ⊥
+
+  -- why a path isn't joined to the base, other than that an allocation failed
+  abbrev pub IsUnjoined : List ℕ → List ℕ → Refusal → Type 0
+  IsUnjoined base path why = (error : JoinError) × (((error ≢ join.Memory) × IsJoinFault style base path error) × IsReasonOf path error why)
+
   -- why there is no path of another platform with the path's components: it can't have one of them, or the bytes aren't a string of it
   abbrev pub IsUnconverted : Style → (List ℕ → EncodingError → Type 0) → List ℕ → Refusal → Type 0
   IsUnconverted to is_fault path (refusal.NoString error) = ⊥
   IsUnconverted to is_fault path refusal.NoNormalForm = ⊥
   IsUnconverted to is_fault path refusal.NoRelativePath = ⊥
   IsUnconverted to is_fault path (refusal.NoJoin error) = ⊥
+  IsUnconverted to is_fault path (refusal.NoJoinAt error index text) = ⊥
   IsUnconverted to is_fault path (refusal.NoComponent index text) = IsConvertFault style to is_fault path (convert.Component index) × IsShownOf path index (inline_text text)
   IsUnconverted to is_fault path (refusal.NoStringThere error) = IsConvertFault style to is_fault path (convert.Encoding error)
 
@@ -178,7 +186,8 @@ module _ {E : Type 0} (p : Ghosts E) (style : Style) where
   IsUnanswered task path (refusal.NoString error) = ⊥
   IsUnanswered task path refusal.NoNormalForm = (task ≡ Normalize) × HasNoNormalForm style path
   IsUnanswered task path refusal.NoRelativePath = (base : Bor (List ℕ)) × ((task ≡ Relative base) × IsRelativeFrom style path base.now None)
-  IsUnanswered task path (refusal.NoJoin error) = (base : Bor (List ℕ)) × ((task ≡ JoinChecked base) × IsUnjoined style base.now path (refusal.NoJoin error))
+  IsUnanswered task path (refusal.NoJoin error) = (base : Bor (List ℕ)) × ((task ≡ JoinChecked base) × IsUnjoined base.now path (refusal.NoJoin error))
+  IsUnanswered task path (refusal.NoJoinAt error index text) = (base : Bor (List ℕ)) × ((task ≡ JoinChecked base) × IsUnjoined base.now path (refusal.NoJoinAt error index text))
   IsUnanswered task path (refusal.NoComponent index text) = (to : Os) × ((task ≡ Convert to) × IsUnconverted (style_of to) (strings to).first_fault path (refusal.NoComponent index text))
   IsUnanswered task path (refusal.NoStringThere error) = (to : Os) × ((task ≡ Convert to) × IsUnconverted (style_of to) (strings to).first_fault path (refusal.NoStringThere error))
 
@@ -188,6 +197,7 @@ module _ {E : Type 0} (p : Ghosts E) (style : Style) where
   IsRefusal task path refusal.NoNormalForm = IsUnanswered task path refusal.NoNormalForm
   IsRefusal task path refusal.NoRelativePath = IsUnanswered task path refusal.NoRelativePath
   IsRefusal task path (refusal.NoJoin error) = IsUnanswered task path (refusal.NoJoin error)
+  IsRefusal task path (refusal.NoJoinAt error index text) = IsUnanswered task path (refusal.NoJoinAt error index text)
   IsRefusal task path (refusal.NoComponent index text) = IsUnanswered task path (refusal.NoComponent index text)
   IsRefusal task path (refusal.NoStringThere error) = IsUnanswered task path (refusal.NoStringThere error)
 

@@ -2,7 +2,7 @@
 ghost use Rattle.std.specs.Prelude.{◌++◌, codes};
 ghost use Rattle.std.specs.Fmt.{WritesStyledOnOk};
 ghost use Rattle.std.specs.Fmt.InlineText.{inline_text};
-ghost use Rattle.paths_commands.specs.Fault.{IsOfMisuse, unlike_text};
+ghost use Rattle.paths_commands.specs.Fault.{IsOfMisuse, at_fault_text, numbered, unlike_text};
 
 use os_path::JoinError;
 use os_str_bytes::EncodingError;
@@ -26,8 +26,12 @@ pub enum Refusal {
     NoNormalForm,
     /// No path leads to it from the base.
     NoRelativePath,
-    /// It isn't joined to the base, for this reason, which is never that an allocation failed.
+    /// It isn't joined to the base, for this reason, which is never that an allocation failed. The
+    /// base is at fault, or the path has a NUL.
     NoJoin(JoinError),
+    /// It isn't joined to the base, for this reason: the component at this index is the first that
+    /// has the fault. The text is its escape.
+    NoJoinAt(JoinError, usize, InlineText<SHOWN>),
     /// The other platform's paths can't have the component at this index, the first such. The text
     /// is its escape.
     NoComponent(usize, InlineText<SHOWN>),
@@ -88,6 +92,7 @@ impl ItemRefusal for Refusal {
             Refusal::NoNormalForm => f.write_str("no name before a .."),
             Refusal::NoRelativePath => f.write_str("no path from the base leads there"),
             Refusal::NoJoin(error) => error.fmt(f),
+            Refusal::NoJoinAt(error, index, text) => write_at_fault(error, index, &text, f),
             Refusal::NoComponent(index, text) => write_component(index, &text, f),
             Refusal::NoStringThere(error) => {
                 f.write_str("no path there: ")?;
@@ -97,7 +102,7 @@ impl ItemRefusal for Refusal {
     }
 }
 
-/// Writes which component a path of another platform can't have, counted from 1.
+/// Writes which component a path of another platform can't have.
 fn write_component<W: fmt::Write>(
     index: usize,
     text: &InlineText<SHOWN>,
@@ -107,6 +112,33 @@ fn write_component<W: fmt::Write>(
         (unlike_text index (inline_text text.now)) f.new }
 {
     f.write_str("a path there can't have component ")?;
+    write_numbered(index, text, f)
+}
+
+/// Writes why a path isn't joined to a base, and for which of its components.
+fn write_at_fault<W: fmt::Write>(
+    error: JoinError,
+    index: usize,
+    text: &InlineText<SHOWN>,
+    f: &mut fmt::Formatter<W>,
+) -> fmt::Result
+    ensures { WritesStyledOnOk W.write_str_gives f.old result
+        (at_fault_text error index (inline_text text.now)) f.new }
+{
+    error.fmt(f)?;
+    f.write_str(" at component ")?;
+    write_numbered(index, text, f)
+}
+
+/// Writes the number of a component, counted from 1, and its escape.
+fn write_numbered<W: fmt::Write>(
+    index: usize,
+    text: &InlineText<SHOWN>,
+    f: &mut fmt::Formatter<W>,
+) -> fmt::Result
+    ensures { WritesStyledOnOk W.write_str_gives f.old result
+        (numbered index (inline_text text.now)) f.new }
+{
     write_number(index.saturating_add(1), f)?;
     write_quoted(text.as_str(), f)
 }

@@ -8,15 +8,15 @@ ghost use Rattle.path_building.specs.Relative.{IsRelativeFrom};
 ghost use Rattle.path_building.specs.Restyled.{IsRestyled};
 ghost use Rattle.path_building.specs.declared.checked.JoinError.TheVariants as join_error;
 ghost use Rattle.paths_commands.specs.declared.fault.Refusal as why;
-ghost use Rattle.paths_commands.specs.declared.fault.Refusal.TheVariants.{NoJoin, NoNormalForm, NoRelativePath};
+ghost use Rattle.paths_commands.specs.declared.fault.Refusal.TheVariants.{NoNormalForm, NoRelativePath};
 ghost use Rattle.program_frame.specs.Rules.{IsItemFault};
 ghost use Rattle.program_frame.specs.Strings.{strings};
 ghost use Rattle.paths_commands.specs.Styles.{style_of};
-ghost use Rattle.paths_commands.specs.Task.{rules_of, IsText, IsPathText, IsComponentsText, IsJoinedBelow, IsUnanswered, IsUnconverted, IsUnjoined};
+ghost use Rattle.paths_commands.specs.Task.{rules_of, IsText, IsPathText, IsComponentsText, IsJoinedBelow, IsReasonOf, IsUnanswered, IsUnconverted, IsUnjoined};
 ghost use Rattle.platform_str.specs.Strings.{path_bytes};
 
 use crate::answers::{parent, part};
-use crate::components::{push_components, shown_component};
+use crate::components::{component_at_fault, push_components, shown_component};
 use crate::fault::Refusal;
 use crate::task::Task;
 use os_path::{ConvertError, JoinError, NormalizeError, PathExt, PathStyle};
@@ -162,23 +162,35 @@ fn write_checked<E: PathStyle, A: Allocator + Copy>(
         × (IsJoinedBelow E.follows base.now (path_bytes path.entry) joined
         × (output.new.items ≡ output.old.items ++ (joined ++ 0 ∷ [])))) }
     ensures fault { IfErr result (λ fault. (fault ≡ Memory) ⊎ ((why : why.Refusal)
-        × ((fault ≡ Refused why) × IsUnjoined E.follows base.now (path_bytes path.entry) why))) }
+        × ((fault ≡ Refused why) × IsUnjoined ⟦<E as Platform>⟧ E.follows base.now
+        (path_bytes path.entry) why))) }
     ensures unchanged { OnErr result (output.new.items ≡ output.old.items) }
 {
     match Path::new(OsStr::new(base)).join_checked(alloc, path) {
         Ok(joined) => write_answer(joined.as_os_str().as_encoded_bytes(), output),
-        Err(error) => Err(unjoined(error)),
+        Err(error) => Err(unjoined::<E>(path, error)),
     }
 }
 
 /// The fault of a path that isn't joined to a base.
-fn unjoined(error: JoinError) -> ItemFault<Refusal>
-    ensures { (result ≡ Memory)
-        ⊎ ((error ≢ join_error.Memory) × (result ≡ Refused (NoJoin error))) }
+fn unjoined<E: PathStyle>(path: Path<'_, E>, error: JoinError) -> ItemFault<Refusal>
+    ensures { (result ≡ Memory) ⊎ ((error ≢ join_error.Memory) × ((why : why.Refusal)
+        × ((result ≡ Refused why)
+        × IsReasonOf ⟦<E as Platform>⟧ E.follows (path_bytes path.entry) error why))) }
 {
     match error {
         JoinError::Memory => ItemFault::Memory,
-        reason => ItemFault::Refused(Refusal::NoJoin(reason)),
+        reason => ItemFault::Refused(reason_of::<E>(path, reason)),
+    }
+}
+
+/// The reason for an error, with the first component that has the fault, if one has it.
+fn reason_of<E: PathStyle>(path: Path<'_, E>, error: JoinError) -> Refusal
+    ensures { IsReasonOf ⟦<E as Platform>⟧ E.follows (path_bytes path.entry) error result }
+{
+    match component_at_fault::<E>(path, error) {
+        Some(index) => Refusal::NoJoinAt(error, index, shown_component::<E>(path, index)),
+        None => Refusal::NoJoin(error),
     }
 }
 

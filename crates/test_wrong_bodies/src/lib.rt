@@ -22,7 +22,10 @@ mod splits;
 mod wild;
 mod words;
 
-pub use built_paths::{clean, join_checked, normalize, relative_from};
+pub use built_paths::{
+    clean, from_components, join_checked, join_checked_keeping_sep, normalize, relative_from,
+    with_file_stem,
+};
 pub use checks::{check_in_two, check_windows, copied, from_raw_bytes, from_raw_vec};
 pub use chunks::first_chunk;
 pub use command_lines::{argument_text, arguments, line_words, quote};

@@ -1,5 +1,5 @@
 -- Which end is to blame after a run that passed over paths.
-use Rattle.std.proofs.Common.{◌≡◌, ◌⊎◌, inl, inr, ℕ, ◌<◌, Result, Ok, Err, sym, subst}
+use Rattle.std.proofs.Common.{◌≡◌, inl, inr, ℕ, Result, Ok, Err, sym, subst}
 use Rattle.std.specs.Prelude.{Bool, true, false, ⊤}
 use Rattle.program_frame.specs.ProgramFault.{BlamesEnds}
 use Rattle.program_frame.specs.declared.lists.fault.ListFault.{ListFault}

@@ -1,13 +1,12 @@
 -- Options and operands that request a command aren't rejected.
-use Rattle.std.proofs.Common.{◌≡◌, ◌⊎◌, ⊎_elim, inl, inr, ◌∙◌, ℕ, Bool, List, [], ◌∷◌, codes, refl, sym, subst}
-use Rattle.program_frame.specs.Arguments.{HasOption, operands_of}
+use Rattle.std.proofs.Common.{◌≡◌, ⊎_elim, inl, inr, ◌∙◌, ℕ, List, [], ◌∷◌, codes, refl, sym, subst}
+use Rattle.program_frame.specs.Arguments.{HasOption}
 use Rattle.program_frame.specs.Os.{os_word}
 use Rattle.program_frame.specs.declared.misuse.Misuse.{Misuse}
 use Rattle.program_frame.specs.declared.misuse.Misuse.TheVariants.{Argument, Missing, Invalid, Misplaced}
 use Rattle.program_frame.specs.declared.os.Os.{Os}
-use Rattle.paths_commands.specs.Command.{AsksFor, HasOperands, IsInvalid, IsMisplaced, IsMissing, IsMisuse, IsOfPaths, IsTooMany, Line, Needs, RequestsNothing}
-use Rattle.paths_commands.specs.Task.{IsChecked, name_of, name_word, operands_of_task}
-use Rattle.paths_commands.specs.declared.command.Command.{Command}
+use Rattle.paths_commands.specs.Command.{HasOperands, IsInvalid, IsMisplaced, IsMissing, IsMisuse, IsOfPaths, IsTooMany, Line, Needs, RequestsNothing}
+use Rattle.paths_commands.specs.Task.{IsChecked, name_of, operands_of_task}
 use Rattle.paths_commands.specs.declared.command.Command.TheVariants.{Ask, Help, Version}
 use Rattle.paths_commands.specs.declared.command.Name.{Name as DeclaredName}
 use Rattle.paths_commands.specs.declared.command.Name.TheVariants as name

@@ -7,7 +7,7 @@ use Rattle.os_args.proofs.lemmas.OneOutcome.{one_word}
 use Rattle.program_frame.specs.Arguments.{AreGiven, FailsAt, HasFault, HasOption, IsOption, Takes, TakesAll, operands_of, unread}
 use Rattle.program_frame.specs.declared.arguments.Given.{Given}
 use Rattle.program_frame.specs.declared.arguments.Given.TheVariants.{Operand, Flag, Valued}
-use Rattle.paths_commands.specs.Command.{AsksFor, IsOfPaths, Line, RequestsNothing}
+use Rattle.paths_commands.specs.Command.{AsksFor, Line, RequestsNothing}
 use Rattle.paths_commands.specs.Options.{IsFlagOf, has_value, name_of, spelled}
 use Rattle.paths_commands.specs.declared.command.Command.{Command}
 use Rattle.paths_commands.specs.declared.command.Command.TheVariants.{Ask, Help as HelpCommand, Version as VersionCommand}

@@ -8,7 +8,7 @@ use Rattle.program_frame.specs.declared.os.Os.{Os}
 use Rattle.paths_commands.specs.Styles.{style_of}
 use Rattle.paths_commands.specs.Task.{IsRefusal, IsUnanswered, IsUnconverted, IsUnjoined}
 use Rattle.paths_commands.specs.declared.fault.Refusal.{Refusal}
-use Rattle.paths_commands.specs.declared.fault.Refusal.TheVariants.{NoString, NoNormalForm, NoRelativePath, NoJoin, NoComponent, NoStringThere}
+use Rattle.paths_commands.specs.declared.fault.Refusal.TheVariants.{NoString, NoNormalForm, NoRelativePath, NoJoin, NoJoinAt, NoComponent, NoStringThere}
 use Rattle.paths_commands.specs.declared.task.Task.{Task}
 use Rattle.paths_commands.specs.declared.task.Task.TheVariants.{Convert, JoinChecked}
 
@@ -18,6 +18,7 @@ unanswered_refused p style task path (NoString error) none = absurd none
 unanswered_refused p style task path NoNormalForm none = none
 unanswered_refused p style task path NoRelativePath none = none
 unanswered_refused p style task path (NoJoin error) none = none
+unanswered_refused p style task path (NoJoinAt error index text) none = none
 unanswered_refused p style task path (NoComponent index text) none = none
 unanswered_refused p style task path (NoStringThere error) none = none
 
@@ -28,14 +29,17 @@ unconverted_unanswered p style task to path (NoString error) is none = none
 unconverted_unanswered p style task to path NoNormalForm is none = absurd none
 unconverted_unanswered p style task to path NoRelativePath is none = absurd none
 unconverted_unanswered p style task to path (NoJoin error) is none = absurd none
+unconverted_unanswered p style task to path (NoJoinAt error index text) is none = absurd none
 unconverted_unanswered p style task to path (NoComponent index text) is none = (to, (is, none))
 unconverted_unanswered p style task to path (NoStringThere error) is none = (to, (is, none))
 
 -- a path that isn't joined to the base has no result
-pub unjoined_unanswered : {E : Type 0} (p : Ghosts E) (style : Style) (task : Task) (base : Bor (List ℕ)) (path : List ℕ) (why : Refusal) → task ≡ JoinChecked base → IsUnjoined style base.now path why → IsUnanswered p style task path why
-unjoined_unanswered p style task base path (NoString error) is none = none
-unjoined_unanswered p style task base path NoNormalForm is none = absurd none
-unjoined_unanswered p style task base path NoRelativePath is none = absurd none
+pub unjoined_unanswered : {E : Type 0} (p : Ghosts E) (style : Style) (task : Task) (base : Bor (List ℕ)) (path : List ℕ) (why : Refusal) → task ≡ JoinChecked base
+    → IsUnjoined p style base.now path why → IsUnanswered p style task path why
+unjoined_unanswered p style task base path (NoString error) is none = none.1.1
+unjoined_unanswered p style task base path NoNormalForm is none = absurd none.1.1
+unjoined_unanswered p style task base path NoRelativePath is none = absurd none.1.1
 unjoined_unanswered p style task base path (NoJoin error) is none = (base, (is, none))
-unjoined_unanswered p style task base path (NoComponent index text) is none = absurd none
-unjoined_unanswered p style task base path (NoStringThere error) is none = absurd none
+unjoined_unanswered p style task base path (NoJoinAt error index text) is none = (base, (is, none))
+unjoined_unanswered p style task base path (NoComponent index text) is none = absurd none.1.1
+unjoined_unanswered p style task base path (NoStringThere error) is none = absurd none.1.1

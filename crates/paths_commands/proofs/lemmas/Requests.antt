@@ -1,5 +1,5 @@
 -- Arguments that request a command run it, and others are rejected.
-use Rattle.std.proofs.Common.{◌≡◌, inl, inr, ℕ, List, Option, Result}
+use Rattle.std.proofs.Common.{inl, inr, ℕ, List, Option, Result}
 use Rattle.std.specs.Prelude.{⊤}
 use Rattle.os_args.specs.Views.{fault_of}
 use Rattle.os_args.specs.declared.error.ArgumentError.{ArgumentError}

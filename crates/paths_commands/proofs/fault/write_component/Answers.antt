@@ -1,11 +1,8 @@
-use Rattle.std.proofs.Common.{◌++◌, true, refl, ap}
-use Rattle.std.proofs.Output.{has_written_styled_append, has_written_styled_of_eq}
-use Rattle.std.specs.Prelude.{codes, decimal}
+use Rattle.std.proofs.Common.{true, refl}
+use Rattle.std.proofs.Output.{has_written_styled_append}
 use Rattle.paths_commands.proofs.fault.write_component.Goals as goal
 
 pub returns : goal.returns
 returns g c = λ flush ok.
     let head = c.in_ok-write_str.ensures.styled flush (refl {a = true}) in
-    let number = has_written_styled_of_eq _ _ _ _ _ (ap decimal c.saturating_add.ensures) (c.in_ok-write_number.ensures head.flush (refl {a = true})) in
-    let tail = has_written_styled_of_eq _ _ _ _ _ (ap (λ t. codes ", '" ++ (t ++ codes "'")) c.as_str.ensures.value) (c.write_quoted.ensures number.flush ok) in
-    has_written_styled_append _ _ _ _ _ _ head (has_written_styled_append _ _ _ _ _ _ number tail)
+    has_written_styled_append _ _ _ _ _ _ head (c.write_numbered.ensures head.flush ok)

@@ -3,7 +3,6 @@ use Rattle.std.proofs.lemmas.Result.{on_ok_weaker}
 use Rattle.platform_str.specs.Strings.{path_bytes, path_vec_of}
 use Rattle.path_building.specs.Checked.{IsJoinFault}
 use Rattle.paths_commands.specs.Task.{IsJoinedBelow}
-use Rattle.paths_commands.specs.declared.fault.Refusal.TheVariants.{NoJoin}
 use Rattle.paths_commands.proofs.item.write_checked.Goals as goal
 
 pub returns-in-Ok-clause-ok : goal.returns-in-Ok-clause-ok
@@ -25,6 +24,6 @@ returns-in-Err g c =
     let fault = subst (λ b. IsJoinFault S b path error) of_base c.in-Err.ensures.err in
     record {
       ok = tt;
-      fault = ⊎_elim (λ memory. inl memory) (λ refused. inr (NoJoin error, (refused.1, (refused.0, fault)))) c.unjoined.ensures;
+      fault = ⊎_elim (λ memory. inl memory) (λ told. inr (told.1.0, (told.1.1.0, (error, ((told.0, fault), told.1.1.1))))) c.unjoined.ensures;
       unchanged = refl;
     }

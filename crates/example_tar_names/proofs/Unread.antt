@@ -1,0 +1,110 @@
+-- Archives that have a fault at their first header.
+use Rattle.std.proofs.Common.{◌≡◌, ◌≢◌, inl, inr, ℕ, ◌<◌, Bool, true, false, List, [], ◌∷◌, ◌++◌, Option, Some, None, Result, Ok, Err, length, take, refl, sym, ap, ◌∙◌, subst, arith}
+use Rattle.std.proofs.Math.Seq.{take-append_seam}
+use Rattle.std.specs.Prelude.{IfSome, ⊤}
+use Rattle.std.specs.Io.KnownBytes.{Appends}
+use Rattle.tar_names.specs.declared.fault.TarFault.{TarFault}
+use Rattle.tar_names.specs.declared.fault.TarFault.TheVariants.{CutOff, Sum, Kind, Size, Padding, Record, GnuRecord, Global, Twice, Prefix, TooLong}
+use Rattle.tar_names.specs.Fields.{after_spaces, digits_of, field}
+use Rattle.tar_names.specs.Member.{BeginsWithHeader, HasPadding, IsCut, IsMember, IsMemberFault, IsSize, block_of, is_known, type_of}
+use Rattle.tar_names.specs.Names.{AreNames, bad_member, bad_prefix, bad_said, ended, entry, said, too_long}
+use Rattle.example_tar_names.specs.declared.fault.Fault.{Fault}
+use Rattle.example_tar_names.specs.declared.fault.Fault.TheVariants.{Refused, Archive, Stopped}
+use Rattle.example_tar_names.specs.Line.{AreLines, IsReport, more, none}
+use Rattle.example_tar_names.specs.Run.{BeginsSparse, LacksSize, PrintsNothing, RejectsSizeless, RejectsSparse, Reports, ReportsAs}
+
+-- the archive begins with no member
+abbrev HasNoMember : Option ℕ → List ℕ → Type 0
+HasNoMember size archive = (header content rest : List ℕ) → ¬ (IsMember size archive header content rest)
+
+-- then it has no names, and the fault of its first header
+unread : {next : Option (List ℕ)} {size : Option ℕ} {extended : Bool} {archive : List ℕ} {names : List (List ℕ)} {end : Option TarFault} → AreNames next size extended archive names end → BeginsWithHeader archive → HasNoMember size archive
+    → (names ≡ []) × ((fault : TarFault) × ((end ≡ Some fault) × IsMemberFault size archive fault))
+unread (ended is) begins memberless = absurd (begins.some is.1)
+unread (bad_member {fault = fault} is) begins memberless = (refl, (fault, (refl, is)))
+unread (bad_said member is) begins memberless = absurd (memberless _ _ _ member)
+unread (bad_prefix member is prefix) begins memberless = absurd (memberless _ _ _ member)
+unread (too_long name member is named long) begins memberless = absurd (memberless _ _ _ member)
+unread (said member is others) begins memberless = absurd (memberless _ _ _ member)
+unread (entry member is named short others) begins memberless = absurd (memberless _ _ _ member)
+
+-- the header of a member is the first block
+first_block : (size : Option ℕ) (archive header content padding rest : List ℕ) → IsCut size archive header content padding rest → header ≡ block_of archive
+first_block size archive header content padding rest cut =
+    let behind = content ++ (padding ++ rest) in
+    sym (take-append_seam header behind) ∙ ap (λ n. take n (header ++ behind)) cut.block ∙ ap (take 512) (sym cut.joined)
+
+not_known : (archive : List ℕ) → type_of (block_of archive) ≡ 0x53 → is_known (type_of (block_of archive)) ≡ true → ⊥
+not_known archive is known = let never : false ≡ true = ap is_known (sym is) ∙ known in cc
+
+unknown_cut : (size : Option ℕ) (archive header content padding rest : List ℕ) → type_of (block_of archive) ≡ 0x53 → IsCut size archive header content padding rest → ⊥
+unknown_cut size archive header content padding rest is cut =
+    not_known archive is (subst (λ h. is_known (type_of h) ≡ true) (first_block size archive header content padding rest cut) cut.known)
+
+sparse_fault : (archive : List ℕ) (fault : TarFault) → BeginsSparse archive → IsMemberFault None archive fault → fault ≡ Kind
+sparse_fault archive CutOff sparse (inl short) = absurd (omega (arith, short, sparse.0.header.long))
+sparse_fault archive CutOff sparse (inr cut) = absurd (not_known archive sparse.1 cut.0.known)
+sparse_fault archive Sum sparse is = absurd (is.1 sparse.0.sum)
+sparse_fault archive Kind sparse is = refl
+sparse_fault archive Size sparse is = absurd (not_known archive sparse.1 is.0.known)
+sparse_fault archive Padding sparse is = absurd (unknown_cut None archive is.header is.content is.padding is.rest sparse.1 is.cut)
+sparse_fault archive Record sparse is = absurd is
+sparse_fault archive GnuRecord sparse is = absurd is
+sparse_fault archive Global sparse is = absurd is
+sparse_fault archive Twice sparse is = absurd is
+sparse_fault archive Prefix sparse is = absurd is
+sparse_fault archive TooLong sparse is = absurd is
+
+-- a size has a digit
+abbrev pub SizesHaveDigits : Type 0
+SizesHaveDigits = (size : Option ℕ) (header : List ℕ) (n : ℕ) → IsSize size header n → digits_of 8 (after_spaces (field 124 12 header)) ≢ []
+
+sizeless_cut : (archive header content padding rest : List ℕ) → SizesHaveDigits → LacksSize archive → IsCut None archive header content padding rest → ⊥
+sizeless_cut archive header content padding rest digit lacks cut =
+    digit None (block_of archive) (length content) (subst (λ h. IsSize None h (length content)) (first_block None archive header content padding rest cut) cut.sized) lacks.1
+
+sizeless_fault : (archive : List ℕ) (fault : TarFault) → SizesHaveDigits → LacksSize archive → IsMemberFault None archive fault → fault ≡ Size
+sizeless_fault archive CutOff digit lacks (inl short) = absurd (omega (arith, short, lacks.0.sum.header.long))
+sizeless_fault archive CutOff digit lacks (inr cut) = absurd (digit None (block_of archive) cut.1.0 cut.1.1.0 lacks.1)
+sizeless_fault archive Sum digit lacks is = absurd (is.1 lacks.0.sum.sum)
+sizeless_fault archive Kind digit lacks is = let never : true ≡ false = sym lacks.0.known ∙ is.1 in cc
+sizeless_fault archive Size digit lacks is = refl
+sizeless_fault archive Padding digit lacks is = absurd (sizeless_cut archive is.header is.content is.padding is.rest digit lacks is.cut)
+sizeless_fault archive Record digit lacks is = absurd is
+sizeless_fault archive GnuRecord digit lacks is = absurd is
+sizeless_fault archive Global digit lacks is = absurd is
+sizeless_fault archive Twice digit lacks is = absurd is
+sizeless_fault archive Prefix digit lacks is = absurd is
+sizeless_fault archive TooLong digit lacks is = absurd is
+
+-- no names have no lines
+no_lines : {names : List (List ℕ)} {output : List ℕ} {refused : Bool} → AreLines names output refused → names ≡ [] → output ≡ []
+no_lines none e = refl
+no_lines (more line others) e = cc
+
+same_fault : {one other : TarFault} → Some one ≡ Some other → one ≡ other
+same_fault e = cc
+
+no_fault : {fault : TarFault} → None ≡ Some fault → ⊥
+no_fault e = cc
+
+-- an archive that begins with a header but with no member, whose fault can only be this one
+module _ (archive : List ℕ) (only : TarFault) (begins : BeginsWithHeader archive) (memberless : HasNoMember None archive) (is : (fault : TarFault) → IsMemberFault None archive fault → fault ≡ only) where
+  rejected : (old new : Option (List ℕ)) (answer : Result ⊤ Fault) → ReportsAs archive old new answer → PrintsNothing only old new answer
+  rejected old new (Ok done) reports = let found = unread reports.1.0.are begins memberless in absurd (no_fault found.1.1.0)
+  rejected old new (Err Refused) reports = let found = unread reports.1.0.are begins memberless in absurd (no_fault found.1.1.0)
+  rejected old new (Err (Archive fault)) reports =
+      let report = reports.1.1.0 in
+      let found = unread report.are begins memberless in
+      (same_fault found.1.1.0 ∙ is found.1.0 found.1.1.1, subst (Appends old new) (no_lines report.lines found.0) reports.1.1.1)
+  rejected old new (Err (Stopped why)) reports = tt
+
+pub sparse_rejected : (input old new : Option (List ℕ)) (answer : Result ⊤ Fault) → Reports input old new answer → RejectsSparse input old new answer
+sparse_rejected None old new answer reports = tt
+sparse_rejected (Some archive) old new answer reports = λ sparse.
+    rejected archive Kind sparse.0.header (λ header content rest m. unknown_cut None archive header content m.padding rest sparse.1 m.cut) (λ fault is. sparse_fault archive fault sparse is) old new answer reports
+
+pub sizeless_rejected : (input old new : Option (List ℕ)) (answer : Result ⊤ Fault) → SizesHaveDigits → Reports input old new answer → RejectsSizeless input old new answer
+sizeless_rejected None old new answer digit reports = tt
+sizeless_rejected (Some archive) old new answer digit reports = λ lacks.
+    rejected archive Size lacks.0.sum.header (λ header content rest m. sizeless_cut archive header content m.padding rest digit lacks m.cut) (λ fault is. sizeless_fault archive fault digit lacks is) old new answer reports
