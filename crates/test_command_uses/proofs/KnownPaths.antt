@@ -1,7 +1,7 @@
 -- Lists of which there is one path.
 use Rattle.std.proofs.Common.{◌≡◌, ◌≢◌, ◌⊎◌, ⊎_elim, inl, inr, ℕ, ◌+◌, ◌≤◌, List, [], ◌∷◌, ◌++◌, length, sym, ap, ◌∙◌, subst, append-nil}
 use Rattle.std.specs.List.{AllByRecursion}
-use Rattle.os_str_bytes.specs.EncodingError.{EncodingError}
+use denote.Ref.{Bor}
 use Rattle.os_str_bytes.specs.Platform.{Ghosts}
 use Rattle.path_rules.specs.declared.rules.Style.{Style}
 use Rattle.program_frame.specs.Items.{Entry, Lacks, items_of, texts_of}
@@ -10,12 +10,25 @@ use Rattle.program_frame.specs.Reading.{Stops}
 use Rattle.program_frame.specs.Rules.{IsEntry}
 use Rattle.program_frame.specs.declared.fault.Failure.TheVariants.{Write}
 use Rattle.program_frame.specs.declared.lists.fault.ListFault.TheVariants.{Refused, Run}
-use Rattle.paths_commands.specs.Task.{rules_of, IsAnswer, IsComponentsText, IsPathText}
+use Rattle.paths_commands.specs.Task.{rules_of, IsAnswer, IsComponentsText, IsPathText, IsRefusal, IsUnjoined}
 use Rattle.paths_commands.specs.declared.fault.Refusal.{Refusal}
-use Rattle.paths_commands.specs.declared.fault.Refusal.TheVariants.{NoString}
+use Rattle.paths_commands.specs.declared.fault.Refusal.TheVariants.{NoString, NoNormalForm, NoRelativePath, NoJoin, NoJoinAt, NoComponent, NoStringThere}
 use Rattle.paths_commands.specs.declared.task.Task.{Task}
-use Rattle.paths_commands.specs.declared.task.Task.TheVariants.{Components}
+use Rattle.paths_commands.specs.declared.task.Task.TheVariants.{Components, JoinChecked}
 use Rattle.test_command_uses.proofs.KnownNames.{one_item, has_end, in_prefix}
+
+-- the reason is why a path isn't joined to a base
+abbrev pub IsOfJoin : Refusal → Type 0
+IsOfJoin (NoString error) = ⊥
+IsOfJoin NoNormalForm = ⊥
+IsOfJoin NoRelativePath = ⊥
+IsOfJoin (NoJoin error) = Unit {0}
+IsOfJoin (NoJoinAt error index text) = Unit {0}
+IsOfJoin (NoComponent index text) = ⊥
+IsOfJoin (NoStringThere error) = ⊥
+
+same_base : {base other : Bor (List ℕ)} → JoinChecked base ≡ JoinChecked other → base ≡ other
+same_base e = cc
 
 module _ {E : Type 0} (p : Ghosts E) (style : Style) (task : Task) (max : ℕ) where
   -- what is written for one path
@@ -33,13 +46,28 @@ module _ {E : Type 0} (p : Ghosts E) (style : Style) (task : Task) (max : ℕ) w
       (λ answer. answer)
       (known_text path output l some o)
 
-  pub known_refusal : (path output : List ℕ) (number : ℕ) (error : EncodingError) → Lacks 0 path → Stops (rules_of p style task max) start path output (Refused number (NoString error)) → (number ≡ 1) × p.first_fault path error
-  known_refusal path output number error l s = by s.entries s.item s.rest s.joined s.ended s.because
+  pub known_refusal : (path output : List ℕ) (number : ℕ) (why : Refusal) → Lacks 0 path → Stops (rules_of p style task max) start path output (Refused number why) → (number ≡ 1) × IsRefusal p style task path why
+  known_refusal path output number why l s = by s.entries s.item s.rest s.joined s.ended s.because
     where
-      by : (es : List Entry) (item rest : List ℕ) → path ≡ items_of 0 es ++ (item ++ rest) → ((rest ≡ []) × Unit {0}) ⊎ ((more : List ℕ) × (rest ≡ 0 ∷ more)) → (number ≡ 0 + length es + 1) × ((length item ≤ max) × p.first_fault item error) → (number ≡ 1) × p.first_fault path error
-      by [] item rest j (inl none) f = (f.0, subst (λ x. p.first_fault x error) (sym (j ∙ ap (λ x. item ++ x) none.0 ∙ append-nil item)) f.1.1)
+      by : (es : List Entry) (item rest : List ℕ) → path ≡ items_of 0 es ++ (item ++ rest) → ((rest ≡ []) × Unit {0}) ⊎ ((more : List ℕ) × (rest ≡ 0 ∷ more)) → (number ≡ 0 + length es + 1) × ((length item ≤ max) × IsRefusal p style task item why)
+          → (number ≡ 1) × IsRefusal p style task path why
+      by [] item rest j (inl none) f = (f.0, subst (λ x. IsRefusal p style task x why) (sym (j ∙ ap (λ x. item ++ x) none.0 ∙ append-nil item)) f.1.1)
       by [] item rest j (inr more) f = absurd (has_end 0 item more.0 (subst (Lacks 0) (j ∙ ap (λ x. item ++ x) more.1) l))
       by (e ∷ es) item rest j ended f = absurd (has_end 0 e.0 (items_of 0 es ++ (item ++ rest)) (subst (Lacks 0) (j ∙ in_prefix 0 e.0 (items_of 0 es) (item ++ rest)) l))
+
+  -- a path that isn't joined to the base
+  pub known_unjoined : (base : Bor (List ℕ)) (path output : List ℕ) (number : ℕ) (why : Refusal) → task ≡ JoinChecked base → IsOfJoin why → Lacks 0 path → Stops (rules_of p style task max) start path output (Refused number why)
+      → (number ≡ 1) × IsUnjoined p style base.now path why
+  known_unjoined base path output number why is of_join l s = let r = known_refusal path output number why l s in (r.0, by why of_join r.1)
+    where
+      by : (given : Refusal) → IsOfJoin given → IsRefusal p style task path given → IsUnjoined p style base.now path given
+      by (NoJoin error) of r = subst (λ b. IsUnjoined p style b.now path (NoJoin error)) (sym (same_base (sym is ∙ r.1.0))) r.1.1
+      by (NoJoinAt error index text) of r = subst (λ b. IsUnjoined p style b.now path (NoJoinAt error index text)) (sym (same_base (sym is ∙ r.1.0))) r.1.1
+      by (NoString error) of r = absurd of
+      by NoNormalForm of r = absurd of
+      by NoRelativePath of r = absurd of
+      by (NoComponent index text) of r = absurd of
+      by (NoStringThere error) of r = absurd of
 
 module _ {E : Type 0} (p : Ghosts E) (style : Style) (max : ℕ) where
   pub known_components : (path output : List ℕ) → Lacks 0 path → path ≢ [] → IsOutput (rules_of p style Components max) path output → IsComponentsText p style path output

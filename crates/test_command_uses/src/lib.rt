@@ -24,7 +24,9 @@ pub use names::{
     check_one, filtered, first_names_again, known_request, limit_of_two, line_before, line_of,
     names_again, unended_line,
 };
-pub use paths::{answered, asked_on, asked_one, components_of, parent_of, requests_a_command};
+pub use paths::{
+    answered, asked_on, asked_one, components_of, joined_one, parent_of, requests_a_command,
+};
 pub use plans::{kept, refuses_first, turns};
 pub use programs::{
     after_a_fault, after_success, names_silent_where_closed, names_without_arguments,
