@@ -1,5 +1,6 @@
 -- The whole program, from the words after its name to its exit status.
 use Rattle.std.specs.Prelude.{◌≡◌, ◌⊎◌, ◌+◌, ℕ, Bool, List, Option, None, Some, Result, Err, ⊤}
+use Rattle.std.specs.Fmt.InlineText.{inline_text}
 use Rattle.os_str_bytes.specs.Platform.{Ghosts}
 use Rattle.os_ignore.specs.declared.file.File.{File}
 use Rattle.glob_text.specs.declared.fault.PatternFault.{PatternFault}
@@ -37,6 +38,7 @@ use Rattle.names_commands.specs.declared.matching.Form.{Form}
 use Rattle.names_commands.specs.declared.matching.Form.TheVariants as form
 use Rattle.names_commands.specs.declared.pick.Pick.{Pick}
 use Rattle.names_commands.specs.declared.plan.Plan.{Plan}
+use Rattle.names_commands.specs.Caret.{IsPointed}
 use Rattle.names_commands.specs.Ignoring.{AreRead, IsFileIn, IsFirstUnread}
 use Rattle.names_commands.specs.Matching.{picking, AreWrittenOut, IsChosen, IsFirstFault, IsPicked}
 use Rattle.names_commands.specs.Pick.{AreChosen}
@@ -88,7 +90,7 @@ module _ (known : KnownFiles) (A : Type 0) where
   abbrev pub IsFileFault : List (List ℕ) → CommandFault → Type 0
   IsFileFault names Unreadable = ⊥
   IsFileFault names (Misuse text) = ⊥
-  IsFileFault names (Pattern number why) = ⊥
+  IsFileFault names (Pattern number why lines) = ⊥
   IsFileFault values (NoFile number) = (value : List ℕ) × IsFirstUnread A known values number value × LacksFile known value
   IsFileFault values (Unread number) = (value : List ℕ) × IsFirstUnread A known values number value
 
@@ -113,7 +115,7 @@ module _ (known : KnownFiles) (A : Type 0) where
     -- the run ends with the first of the patterns that has a fault. Or it writes the names that one of them matches, or all where there are none, but for those that the files ignore; or, inverted, the others
     abbrev pub RunsPatterns : List (List ℕ) → List (List ℕ) → Doing
     RunsPatterns globs names input left old new answer =
-        ((index : ℕ) × (fault : PatternFault) × IsFirstFault p (options_of plan.os) globs index fault × EndsAtOnce (Words (Pattern (index + 1) fault)) input left old new answer)
+        ((index : ℕ) × (fault : PatternFault) × (first : IsFirstFault p (options_of plan.os) globs index fault) × (lines : _) × IsPointed first.text fault.index (inline_text lines) × EndsAtOnce (Words (Pattern (index + 1) fault lines)) input left old new answer)
         ⊎ ((written : List (List (List Mark))) × AreWrittenOut p (options_of plan.os) globs written × RunsBut p plan.form plan.max plan.pick.inverted (IsChosen p (options_of plan.os) written) names input left old new answer)
 
   -- where these options and operands are given:

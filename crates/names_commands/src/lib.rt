@@ -15,6 +15,7 @@
 //! writer whose marks are unset, as `Marked::new` makes them.
 #![tactic(auto)]
 
+mod caret;
 pub mod command;
 pub mod fault;
 pub mod help;

@@ -7,6 +7,7 @@ ghost use Rattle.names_commands.specs.Ignoring.{text_of};
 ghost use Rattle.names_commands.specs.Matching.{IsChosenBy};
 ghost use Rattle.names_commands.specs.Program.{Did, Does, RunsBut, RunsLine, RunsPatterns, RunsPick, RunsPlan, RunsReasons, RunsTask, RunsWhy, RunsWhyOn, UnlessOutOfMemory};
 
+use crate::caret::pointed;
 use crate::command::{Command, Line, Request, options_of};
 use crate::fault::{CommandFault, Fault, Refusal};
 use crate::help::{HELP, VERSION};
@@ -307,7 +308,10 @@ fn run_patterns<E: Platform, F: Files, A: Allocator + Copy, R: Read, W: Write>(
             run_set::<E, F, A, R, W>(alloc, files, plan, globs, names, reader, writer)
         }
         Err(GlobSetError::Pattern(index, fault)) => {
-            Err(Fault::Words(CommandFault::Pattern(index + 1, fault)))
+            let Ok(lines) = pointed(alloc, globs[index].as_encoded_bytes(), fault.index) else {
+                return Err(Fault::List(ListFault::Run(Failure::Memory)));
+            };
+            Err(Fault::Words(CommandFault::Pattern(index + 1, fault, lines)))
         }
         Err(GlobSetError::Memory) => Err(Fault::List(ListFault::Run(Failure::Memory))),
     }

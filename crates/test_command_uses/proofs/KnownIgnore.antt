@@ -338,7 +338,7 @@ module _ (A : Type 0) (file bytes other : List ℕ) (plain : Lacks 0x3D other) (
   by_fault : (why : CommandFault) → IsFileFault (only file bytes) A (other ∷ []) why → EndsAtOnce (Words why) input left old new answer → EndsUnread input left old new answer
   by_fault Unreadable f ends = absurd f
   by_fault (Misuse text) f ends = absurd f
-  by_fault (Pattern number fault) f ends = absurd f
+  by_fault (Pattern number fault lines) f ends = absurd f
   by_fault (NoFile number) f ends = record { fault = inl (inl (ends.0 ∙ ap (λ n. Err (Words (NoFile n))) (number_one number f.0 f.1))); kept = ends.1.0; nothing = ends.1.1 }
   by_fault (Unread number) f ends = record { fault = inl (inr (ends.0 ∙ ap (λ n. Err (Words (Unread n))) (number_one number f.0 f.1))); kept = ends.1.0; nothing = ends.1.1 }
 
