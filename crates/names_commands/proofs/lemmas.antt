@@ -10,3 +10,4 @@ pub mod Words
 pub mod WordsBack
 pub mod Decided
 pub mod Pointed
+pub mod Wide

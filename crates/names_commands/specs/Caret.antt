@@ -1,16 +1,18 @@
 -- The lines below the fault of a pattern, which show where it is.
-use Rattle.std.specs.Prelude.{◌≡◌, ℕ, Bool, nat_lt, nat_le, ◌||◌, cond, List, [], ◌∷◌, ◌++◌, take, length, codes}
+use Rattle.std.specs.Prelude.{◌≡◌, ℕ, nat_lt, nat_le, cond, List, [], ◌∷◌, ◌++◌, take, length, codes}
+use Rattle.std.specs.Char.{encode_utf8}
+use Rattle.std.specs.List.{flat_map}
+use Rattle.std.specs.Str.{chars}
 use Rattle.os_quote.specs.Escape.{IsLineEscape}
 use Rattle.os_str_bytes.specs.UnixPlatform.TheImpl as unix
 
--- the byte begins a character of UTF-8
-abbrev pub begins_character : ℕ → Bool
-begins_character b = nat_lt b 0x80 || nat_le 0xC0 b
+-- what takes as many columns as a character: a space for one before U+0300, and else the character itself, since a terminal may show it in none, one or two
+abbrev pub as_wide : ℕ → List ℕ
+as_wide c = cond (nat_lt c 0x300) (0x20 ∷ []) (encode_utf8 c)
 
--- a space for each character
+-- what takes as many columns as a text
 abbrev pub spaces_below : List ℕ → List ℕ
-spaces_below [] = []
-spaces_below (b ∷ text) = cond (begins_character b) (0x20 ∷ spaces_below text) (spaces_below text)
+spaces_below text = flat_map as_wide (chars text)
 
 -- a text on a line, and on the next one a caret below what comes after its beginning
 abbrev pub caret_text : List ℕ → List ℕ → List ℕ

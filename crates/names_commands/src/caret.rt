@@ -3,7 +3,7 @@ ghost use Rattle.std.specs.Prelude.{◌≡◌, ◌++◌, take, string_bytes, IfO
 ghost use Rattle.std.specs.Fmt.InlineText.{inline_text};
 ghost use Rattle.os_quote.specs.Escape.{IsLineEscape};
 ghost use Rattle.os_str_bytes.specs.UnixPlatform.TheImpl.{ghosts as unix};
-ghost use Rattle.names_commands.specs.Caret.{IsPointed, begins_character, caret_text, fitting, spaces_below};
+ghost use Rattle.names_commands.specs.Caret.{IsPointed, as_wide, caret_text, fitting, spaces_below};
 
 use crate::fault::ROOM;
 use os_quote::escape_line;
@@ -40,30 +40,30 @@ fn with_caret<A: Allocator>(alloc: A, text: &str, beginning: &str) -> Result<Str
     let mut lines = String::from_str(alloc, "\n  ")?;
     lines.push_str(text)?;
     lines.push_str("\n  ")?;
-    push_spaces(beginning.as_bytes(), &mut lines)?;
+    push_spaces(beginning, &mut lines)?;
     lines.push_str("^")?;
     Ok(lines)
 }
 
-/// Appends a space for each character of a text.
-fn push_spaces<A: Allocator>(text: &[u8], line: &mut String<A>) -> Result<(), AllocError>
+/// Appends what takes as many columns as a text.
+fn push_spaces<A: Allocator>(text: &str, line: &mut String<A>) -> Result<(), AllocError>
     ensures { OnOk result (string_bytes line.new ≡ string_bytes line.old ++ spaces_below text.now) }
 {
-    let mut left = text;
-    while let [first, rest @ ..] = left {
-        if begins_character(*first) {
-            line.push_str(" ")?;
-        }
-        left = rest;
+    for character in text.chars() {
+        push_as_wide(character, line)?;
     }
     Ok(())
 }
 
-/// Whether a byte begins a character of UTF-8.
-fn begins_character(byte: u8) -> bool
-    ensures { result ≡ begins_character byte }
+/// Appends a space, or the character itself where it may not take one column.
+fn push_as_wide<A: Allocator>(character: char, line: &mut String<A>) -> Result<(), AllocError>
+    ensures { OnOk result (string_bytes line.new ≡ string_bytes line.old ++ as_wide character) }
 {
-    byte < 0x80 || 0xC0 <= byte
+    if character < '\u{300}' {
+        line.push_str(" ")
+    } else {
+        line.push(character)
+    }
 }
 
 /// The text, or nothing where it is longer than there is room for.

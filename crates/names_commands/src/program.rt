@@ -1,11 +1,14 @@
 //! The whole program, over ends of any kind.
-ghost use Rattle.std.specs.Prelude.{◌≡◌, ◌≢◌, ◌<◌, ◌+◌, ◌^◌, [], map, string_bytes, false, MatchOption};
+ghost use Rattle.std.specs.Prelude.{◌≡◌, ◌≢◌, ◌⊎◌, [], map, string_bytes, false, MatchOption};
 ghost use Rattle.os_str_bytes.specs.Strings.{bytes};
 ghost use Rattle.program_frame.specs.Marked.{has_failed};
 ghost use Rattle.program_frame.specs.ProgramFault.{BlamesEnds};
+ghost use Rattle.program_frame.specs.declared.fault.Failure.TheVariants.{Memory};
+ghost use Rattle.program_frame.specs.declared.lists.fault.ListFault.TheVariants.{Run};
+ghost use Rattle.program_frame.specs.declared.lists.program_fault.Fault.TheVariants.{List as OfList};
 ghost use Rattle.names_commands.specs.Ignoring.{text_of};
 ghost use Rattle.names_commands.specs.Matching.{IsChosenBy};
-ghost use Rattle.names_commands.specs.Program.{Did, Does, RunsBut, RunsLine, RunsPatterns, RunsPick, RunsPlan, RunsReasons, RunsTask, RunsWhy, RunsWhyOn, UnlessOutOfMemory};
+ghost use Rattle.names_commands.specs.Program.{Did, Does, IsOfPattern, RunsBut, RunsLine, RunsPatterns, RunsPick, RunsPlan, RunsReasons, RunsTask, RunsWhy, RunsWhyOn, UnlessOutOfMemory};
 
 use crate::caret::pointed;
 use crate::command::{Command, Line, Request, options_of};
@@ -14,11 +17,11 @@ use crate::help::{HELP, VERSION};
 use crate::ignoring::read_ignore;
 use crate::matching::{Form, Matching, Picker};
 use crate::option::NamesOption;
-use crate::pick::strings_of;
+use crate::pick::{added_before, strings_of, typed, typed_fault};
 use crate::plan::Plan;
 use crate::task::{OnPlatform, Settings, Task};
 use crate::why::Reasons;
-use glob_patterns::{GlobSet, GlobSetError};
+use glob_patterns::{GlobSet, GlobSetError, PatternFault};
 use os_str_bytes::{OsStr, Platform, Unix, Wasm, Windows};
 use program_frame::arguments::{ReadFault, read_arguments, values};
 use program_frame::fault::Failure;
@@ -252,17 +255,29 @@ fn run_plan_on<'a, E: Platform + 'a, F: Files, A: Allocator + Copy, R: Read, W: 
     };
     match values(alloc, given, NamesOption::Ignore) {
         Ok(names) => {
-            run_texts::<E, F, A, R, W>(alloc, files, plan, &patterns, &names, reader, writer)
+            let plain = patterns.plain;
+            run_texts::<E, F, A, R, W>(
+                alloc,
+                files,
+                plan,
+                plain,
+                &patterns.texts,
+                &names,
+                reader,
+                writer,
+            )
         }
         Err(_) => Err(Fault::List(ListFault::Run(Failure::Memory))),
     }
 }
 
-/// Returns the result for the texts of patterns, and for the names of ignore files.
+/// Returns the result for the texts of patterns, and for the names of ignore files. The first `plain`
+/// patterns come before those of `--name`.
 fn run_texts<E: Platform, F: Files, A: Allocator + Copy, R: Read, W: Write>(
     alloc: A,
     files: &F,
     plan: Plan<'_>,
+    plain: usize,
     patterns: &[String<A>],
     names: &[&str],
     reader: &mut Marked<R>,
@@ -271,24 +286,26 @@ fn run_texts<E: Platform, F: Files, A: Allocator + Copy, R: Read, W: Write>(
     requires reader_unmarked { has_failed reader.old ≡ false }
     requires writer_unmarked { has_failed writer.old ≡ false }
     ensures run { Did R.remaining W.contents (UnlessOutOfMemory
-        (RunsPatterns (F.known files.now) A ⟦<E as Platform>⟧ plan.entry
+        (RunsPatterns (F.known files.now) A ⟦<E as Platform>⟧ plan.entry plain
         (map string_bytes patterns.now) (map text_of names.now)))
         reader.old reader.new writer.old writer.new result }
     ensures ends { BlamesEnds result (has_failed reader.new) (has_failed writer.new) }
 {
     match strings_of::<E, A>(alloc, patterns) {
         Ok(globs) => {
-            run_patterns::<E, F, A, R, W>(alloc, files, plan, &globs, names, reader, writer)
+            run_patterns::<E, F, A, R, W>(alloc, files, plan, plain, &globs, names, reader, writer)
         }
         Err(_) => Err(Fault::List(ListFault::Run(Failure::Memory))),
     }
 }
 
-/// Returns the result for patterns, which are compiled once, and for the names of ignore files.
+/// Returns the result for patterns, which are compiled once, and for the names of ignore files. The
+/// first `plain` patterns come before those of `--name`.
 fn run_patterns<E: Platform, F: Files, A: Allocator + Copy, R: Read, W: Write>(
     alloc: A,
     files: &F,
     plan: Plan<'_>,
+    plain: usize,
     globs: &[OsStr<'_, E>],
     names: &[&str],
     reader: &mut Marked<R>,
@@ -297,7 +314,7 @@ fn run_patterns<E: Platform, F: Files, A: Allocator + Copy, R: Read, W: Write>(
     requires reader_unmarked { has_failed reader.old ≡ false }
     requires writer_unmarked { has_failed writer.old ≡ false }
     ensures run { Did R.remaining W.contents (UnlessOutOfMemory
-        (RunsPatterns (F.known files.now) A ⟦<E as Platform>⟧ plan.entry
+        (RunsPatterns (F.known files.now) A ⟦<E as Platform>⟧ plan.entry plain
         (map bytes globs.now) (map text_of names.now)))
         reader.old reader.new writer.old writer.new result }
     ensures ends { BlamesEnds result (has_failed reader.new) (has_failed writer.new) }
@@ -308,12 +325,28 @@ fn run_patterns<E: Platform, F: Files, A: Allocator + Copy, R: Read, W: Write>(
             run_set::<E, F, A, R, W>(alloc, files, plan, globs, names, reader, writer)
         }
         Err(GlobSetError::Pattern(index, fault)) => {
-            let Ok(lines) = pointed(alloc, globs[index].as_encoded_bytes(), fault.index) else {
-                return Err(Fault::List(ListFault::Run(Failure::Memory)));
-            };
-            Err(Fault::Words(CommandFault::Pattern(index + 1, fault, lines)))
+            let pattern = globs[index].as_encoded_bytes();
+            Err(rejection(alloc, added_before(plain, index), index + 1, pattern, fault))
         }
         Err(GlobSetError::Memory) => Err(Fault::List(ListFault::Run(Failure::Memory))),
+    }
+}
+
+/// Why the run ends where the pattern with this number has a fault. `added` bytes of it come before
+/// what was typed.
+fn rejection<A: Allocator + Copy>(
+    alloc: A,
+    added: usize,
+    number: usize,
+    pattern: &[u8],
+    fault: PatternFault,
+) -> Fault
+    ensures { (result ≡ OfList (Run Memory)) ⊎ IsOfPattern added number pattern.now fault result }
+{
+    let shown = typed_fault(added, fault);
+    match pointed(alloc, typed(pattern, added), shown.index) {
+        Ok(lines) => Fault::Words(CommandFault::Pattern(number, shown, lines)),
+        Err(_) => Fault::List(ListFault::Run(Failure::Memory)),
     }
 }
 

@@ -179,9 +179,9 @@ module _ (known : KnownFiles) (A : Type 0) (file : List ℕ) (input left old new
   no_fault (x ∷ before) after text e = let never : [] ≡ x ∷ (before ++ text ∷ after) = e in cc
 
   -- no pattern has a fault where there is none
-  ran : (plan : Plan) → plan.os ≡ Unix → plan.form ≡ Name → plan.max ≡ 1048576 → plan.pick.inverted ≡ false → RunsPatterns known A (strings Unix) plan [] (file ∷ []) input left old new answer → Filters
-  ran plan os form max kept (inl fault) = absurd (no_fault fault.2.before fault.2.after fault.2.text fault.2.joined)
-  ran plan os form max kept (inr compiled) =
+  ran : (plan : Plan) (plain : ℕ) → plan.os ≡ Unix → plan.form ≡ Name → plan.max ≡ 1048576 → plan.pick.inverted ≡ false → RunsPatterns known A (strings Unix) plan plain [] (file ∷ []) input left old new answer → Filters
+  ran plan plain os form max kept (inl fault) = absurd (no_fault fault.2.before fault.2.after fault.2.text fault.2.joined)
+  ran plan plain os form max kept (inr compiled) =
       let runs = subst (λ w. RunsBut known A (strings Unix) plan.form plan.max plan.pick.inverted (IsChosen (strings Unix) (options_of plan.os) w) (file ∷ []) input left old new answer) compiled.1 compiled.2 in
       inr (subst (λ o. RunsBut known A (strings Unix) Name 1048576 false (IsChosen (strings Unix) (options_of o) []) (file ∷ []) input left old new answer) os
       (subst (λ f. RunsBut known A (strings Unix) f 1048576 false (IsChosen (strings Unix) (options_of plan.os) []) (file ∷ []) input left old new answer) form
@@ -195,17 +195,18 @@ module _ (known : KnownFiles) (A : Type 0) (file : List ℕ) (input left old new
     picked : (pick : Pick) (max : ℕ) → max ≡ 1048576 → glob_words pick.glob ≡ [] → pick.inverted ≡ false → RunsPlan known A given (record { os = Unix; form = Name; pick = pick; max = max }) input left old new answer → Filters
     picked pick max usual none kept (inl memory) = inl memory
     picked pick max usual none kept (inr chose) =
-        let globs = chose.0 in
-        let names = chose.1 in
-        let patterns = chose.2.0 in
+        let plain = chose.0 in
+        let globs = chose.1 in
+        let names = chose.2 in
+        let patterns = chose.3.0 in
         let more : patterns.0 ≡ [] = no_values command platform value option.Glob (λ e. cc) patterns.0 patterns.2.0 in
         let of_names : patterns.1 ≡ [] = no_values command platform value option.Name (λ e. cc) patterns.1 patterns.2.1.0 in
-        let globs_are : globs ≡ [] = patterns.2.1.1 ∙ ap (λ x. (x ++ patterns.0) ++ map in_any_folder patterns.1) none ∙ ap (λ x. x ++ map in_any_folder patterns.1) more ∙ ap (map in_any_folder) of_names in
-        let names_are : names ≡ file ∷ [] = one_file command platform value names chose.2.1 ∙ ap (λ x. x ∷ []) is_file in
+        let globs_are : globs ≡ [] = patterns.2.1.1.0 ∙ ap (λ x. (x ++ patterns.0) ++ map in_any_folder patterns.1) none ∙ ap (λ x. x ++ map in_any_folder patterns.1) more ∙ ap (map in_any_folder) of_names in
+        let names_are : names ≡ file ∷ [] = one_file command platform value names chose.3.1 ∙ ap (λ x. x ∷ []) is_file in
         let plan : Plan = record { os = Unix; form = Name; pick = pick; max = max } in
-        ran plan refl refl usual kept
-        (subst (λ x. RunsPatterns known A (strings Unix) plan [] x input left old new answer) names_are
-        (subst (λ x. RunsPatterns known A (strings Unix) plan x names input left old new answer) globs_are chose.3))
+        ran plan plain refl refl usual kept
+        (subst (λ x. RunsPatterns known A (strings Unix) plan plain [] x input left old new answer) names_are
+        (subst (λ x. RunsPatterns known A (strings Unix) plan plain x names input left old new answer) globs_are chose.4))
 
     -- the operands are those of one command
     operands : HasOperands given name.Filter Unix []

@@ -1,14 +1,13 @@
-use Rattle.std.proofs.Common.{◌≡◌, ⊎_elim, inl, inr, map, refl, subst, ◌∙◌}
-use Rattle.std.specs.Fmt.InlineText.{inline_text}
+use Rattle.std.proofs.Common.{◌≡◌, ◌+◌, ⊎_elim, inl, inr, map, refl, ap, subst, ◌∙◌, Err}
 use Rattle.os_str_bytes.specs.Strings.{bytes}
 use Rattle.glob_patterns.specs.GlobSets.{AreMeanings, IsSetError}
 use Rattle.glob_patterns.specs.Letters.{letters_of}
 use Rattle.glob_patterns.specs.Options as glob
 use Rattle.program_frame.specs.Marked.{marked_inner}
-use Rattle.names_commands.specs.Caret.{IsPointed}
 use Rattle.names_commands.specs.Command.{options_of}
 use Rattle.names_commands.specs.Ignoring.{text_of}
 use Rattle.names_commands.specs.Matching.{IsChosen, IsChosenBy}
+use Rattle.names_commands.specs.Program.{IsOfPattern}
 use Rattle.names_commands.proofs.lemmas.Picked.{are_written, chosen, first_fault, same_but, where_texts, written_of}
 use Rattle.names_commands.proofs.lemmas.Pointed.{is_at, is_within}
 use Rattle.names_commands.proofs.program.run_patterns.Goals as goal
@@ -37,14 +36,19 @@ bounds-globs-index g c =
     let error = subst (IsSetError P.well_formed (letters_of P.units) (glob.syntax_of o) g.row.A.Denot texts) c.in-Err-Pattern.field-0-is made in
     is_within bytes c.args.globs.now error.before error.text error.after c.in-Err-Pattern.index error.joined error.index_is
 
-pub returns-in-Ok-pointed-clause-run : goal.returns-in-Ok-pointed-clause-run
-returns-in-Ok-pointed-clause-run g c =
+pub returns-in-Err-Pattern-clause-run : goal.returns-in-Err-Pattern-clause-run
+returns-in-Err-Pattern-clause-run g c =
     let P = g.E.Platform in
     let o = options_of c.args.plan.os in
     let texts = map bytes c.args.globs.now in
+    let index = c.in-Err-Pattern.index in
+    let fault = c.in-Err-Pattern.fault in
     let made = subst (λ z. IsSetError P.well_formed (letters_of P.units) (glob.syntax_of z) g.row.A.Denot texts c.in-Err-Pattern.field-0) c.options_of.ensures c.in-Err-Pattern.ensures in
     let error = subst (IsSetError P.well_formed (letters_of P.units) (glob.syntax_of o) g.row.A.Denot texts) c.in-Err-Pattern.field-0-is made in
-    let first = first_fault g.row.A.Denot P o texts c.in-Err-Pattern.index c.in-Err-Pattern.fault error in
-    let text = c.as_encoded_bytes.ensures.value ∙ is_at bytes c.args.globs.now first.before first.text first.after c.in-Err-Pattern.index c.index-globs-index.result first.joined first.index_is c.index-globs-index.is in
-    let lines = subst (λ pattern. IsPointed pattern c.in-Err-Pattern.fault.index (inline_text c.in-Ok-pointed.lines)) text c.in-Ok-pointed.ensures in
-    inr (inl (c.in-Err-Pattern.index, c.in-Err-Pattern.fault, first, c.in-Ok-pointed.lines, lines, (refl, (refl, refl))))
+    let first = first_fault g.row.A.Denot P o texts index fault error in
+    let text = c.as_encoded_bytes-pattern.ensures.value ∙ is_at bytes c.args.globs.now first.before first.text first.after index c.index-globs-index.result first.joined first.index_is c.index-globs-index.is in
+    let why = c.rejection.result in
+    ⊎_elim
+    (λ memory. inl (ap Err memory, (refl, refl)))
+    (λ of. inr (inl (index, fault, first, why, subst (λ added. IsOfPattern added (index + 1) first.text fault why) c.added_before.ensures (subst (λ pattern. IsOfPattern c.added_before.result (index + 1) pattern fault why) text of), (refl, (refl, refl)))))
+    c.rejection.ensures
