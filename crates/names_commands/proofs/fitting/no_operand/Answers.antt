@@ -2,7 +2,7 @@ use Rattle.std.proofs.Common.{◌∷◌, inr, ap, ◌∙◌}
 use Rattle.program_frame.specs.Arguments.{operands_of}
 use Rattle.program_frame.specs.Os.{os_word}
 use Rattle.names_commands.specs.Command.{name_word}
-use Rattle.names_commands.proofs.command.no_operand.Goals as goal
+use Rattle.names_commands.proofs.fitting.no_operand.Goals as goal
 
 pub returns-in-Some-clause-misuse : goal.returns-in-Some-clause-misuse
 returns-in-Some-clause-misuse c =

@@ -2,7 +2,7 @@ use Rattle.std.proofs.Common.{length}
 use Rattle.program_frame.specs.Arguments.{HasOption}
 use Rattle.names_commands.specs.Command.{Fits}
 use Rattle.names_commands.specs.declared.option.NamesOption.{NamesOption}
-use Rattle.names_commands.proofs.command.first_misplaced.Given as goal
+use Rattle.names_commands.proofs.fitting.first_misplaced.Given as goal
 
 -- the command takes each option of those that aren't left, and what is left was given
 abbrev pub invariant-loop-left : goal.invariant-loop-left

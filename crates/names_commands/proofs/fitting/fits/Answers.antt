@@ -1,5 +1,5 @@
 use Rattle.std.proofs.Common.{inl}
-use Rattle.names_commands.proofs.command.fits.Goals as goal
+use Rattle.names_commands.proofs.fitting.fits.Goals as goal
 
 pub returns-in-Some-clause-misuse : goal.returns-in-Some-clause-misuse
 returns-in-Some-clause-misuse c = record {

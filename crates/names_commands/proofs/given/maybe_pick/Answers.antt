@@ -2,7 +2,7 @@ use Rattle.std.proofs.Common.{◌∷◌, inl, ap, ◌∙◌}
 use Rattle.program_frame.specs.Arguments.{operands_of}
 use Rattle.program_frame.specs.Os.{os_word}
 use Rattle.names_commands.specs.Command.{name_word}
-use Rattle.names_commands.proofs.command.maybe_pick.Goals as goal
+use Rattle.names_commands.proofs.given.maybe_pick.Goals as goal
 
 pub returns-in-Some-next_operand-clause-misuse : goal.returns-in-Some-next_operand-clause-misuse
 returns-in-Some-next_operand-clause-misuse c =

@@ -1,7 +1,7 @@
 use Rattle.std.proofs.Common.{◌∷◌, [], ⊎_elim, inl, inr, refl, ap, ◌∙◌}
 use Rattle.program_frame.specs.Os.{os_word}
 use Rattle.names_commands.specs.Command.{SomePicked, name_word}
-use Rattle.names_commands.proofs.command.options_pick.Goals as goal
+use Rattle.names_commands.proofs.given.options_pick.Goals as goal
 
 pub returns-then-inverted-clause-misuse : goal.returns-then-inverted-clause-misuse
 returns-then-inverted-clause-misuse c =

@@ -3,7 +3,7 @@ use Rattle.std.specs.Fmt.InlineText.{inline_text}
 use Rattle.program_frame.specs.declared.lists.program_fault.Fault.TheVariants.{Words}
 use Rattle.names_commands.specs.Caret.{IsPointed}
 use Rattle.names_commands.specs.declared.fault.CommandFault.TheVariants.{Pattern}
-use Rattle.names_commands.proofs.program.rejection.Goals as goal
+use Rattle.names_commands.proofs.patterns.rejection.Goals as goal
 
 pub returns-in-Ok : goal.returns-in-Ok
 returns-in-Ok g c =

@@ -2,7 +2,7 @@ use Rattle.std.proofs.Common.{◌≡◌, inr, ap}
 use Rattle.os_ignore.specs.Ignores.{files_of}
 use Rattle.program_frame.specs.Marked.{marked_inner}
 use Rattle.names_commands.proofs.lemmas.Picked.{matching_runs}
-use Rattle.names_commands.proofs.program.run_set.Goals as goal
+use Rattle.names_commands.proofs.patterns.run_set.Goals as goal
 
 pub returns-in-Ok-clause-run : goal.returns-in-Ok-clause-run
 returns-in-Ok-clause-run g c =

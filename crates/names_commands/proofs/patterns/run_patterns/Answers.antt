@@ -10,7 +10,7 @@ use Rattle.names_commands.specs.Matching.{IsChosen, IsChosenBy}
 use Rattle.names_commands.specs.Program.{IsOfPattern}
 use Rattle.names_commands.proofs.lemmas.Picked.{are_written, chosen, first_fault, same_but, where_texts, written_of}
 use Rattle.names_commands.proofs.lemmas.Pointed.{is_at, is_within}
-use Rattle.names_commands.proofs.program.run_patterns.Goals as goal
+use Rattle.names_commands.proofs.patterns.run_patterns.Goals as goal
 
 pub returns-in-Ok-clause-run : goal.returns-in-Ok-clause-run
 returns-in-Ok-clause-run g c =

@@ -6,7 +6,7 @@ use Rattle.program_frame.specs.Strings.{strings}
 use Rattle.program_frame.specs.declared.os.Os.{Os}
 use Rattle.names_commands.specs.Command.{Line}
 use Rattle.names_commands.specs.Program.{Fault, RunsWhy, RunsWhyOn, UnlessOutOfMemory}
-use Rattle.names_commands.proofs.program.run_why.Goals as goal
+use Rattle.names_commands.proofs.reasons.run_why.Goals as goal
 
 -- what is so of a platform is so of an equal one
 same_run : (known : KnownFiles) (A : Type 0) (given : Line) (max : ℕ) (os other : Os) (input left old new : Option (List ℕ)) (answer : Result ⊤ Fault) → os ≡ other

@@ -7,7 +7,7 @@ use Rattle.program_frame.specs.declared.os.Os.{Os}
 use Rattle.names_commands.specs.Command.{Line}
 use Rattle.names_commands.specs.Program.{Fault, RunsPick, RunsPlan}
 use Rattle.names_commands.specs.declared.plan.Plan.{Plan}
-use Rattle.names_commands.proofs.program.run_plan.Goals as goal
+use Rattle.names_commands.proofs.patterns.run_plan.Goals as goal
 
 -- what was said of a platform is said of an equal one
 same_run : (known : KnownFiles) (A : Type 0) (given : Line) (plan : Plan) (other : Os) (input left old new : Option (List ℕ)) (answer : Result ⊤ Fault) → plan.os ≡ other

@@ -3,7 +3,7 @@ use Rattle.os_str_bytes.specs.Strings.{bytes}
 use Rattle.program_frame.specs.Marked.{marked_inner}
 use Rattle.names_commands.specs.Ignoring.{text_of}
 use Rattle.names_commands.specs.Program.{RunsPatterns, UnlessOutOfMemory}
-use Rattle.names_commands.proofs.program.run_texts.Goals as goal
+use Rattle.names_commands.proofs.patterns.run_texts.Goals as goal
 
 pub returns-in-Ok-clause-run : goal.returns-in-Ok-clause-run
 returns-in-Ok-clause-run g c =

@@ -2,7 +2,7 @@ use Rattle.std.proofs.Common.{inr, refl, sym, ap, subst}
 use Rattle.program_frame.specs.Os.{os_word}
 use Rattle.names_commands.specs.Pick.{TakesIgnore}
 use Rattle.names_commands.specs.declared.option.NamesOption.TheVariants.{Ignore}
-use Rattle.names_commands.proofs.command.ignores.Goals as goal
+use Rattle.names_commands.proofs.fitting.ignores.Goals as goal
 
 pub returns-then-has-clause-misuse : goal.returns-then-has-clause-misuse
 returns-then-has-clause-misuse c = record {
