@@ -1,4 +1,4 @@
--- What the program does for the words that filter names by one ignore file.
+-- What the program does for the words that filter names by one ignore file, or ask which of its lines decide names.
 use Rattle.std.proofs.Common.{◌≡◌, ◌≢◌, ◌⊎◌, inl, inr, ℕ, List, [], ◌∷◌, ◌++◌, ◌+◌, Bool, true, false, ◌↔◌, length, map, get_or, refl, sym, ap, ◌∙◌, subst, arith, Option, Some, None, Result, Ok, Err}
 use Rattle.std.specs.Prelude.{codes, IsTrue, OnOk, ⊤}
 use Rattle.std.specs.List.{AllByRecursion}
@@ -45,13 +45,13 @@ use Rattle.os_args.specs.Views.{fault_of}
 use Rattle.program_frame.specs.Arguments.{AreGiven, AreValues, HasOption, LastValue}
 use Rattle.program_frame.specs.declared.arguments.Given.TheVariants.{Operand, Valued}
 use Rattle.test_command_uses.specs.OneFile.{only, filtering, IsFilteredBy, IsUnread}
-use Rattle.test_command_uses.proofs.GivenWords.{OneValue, OneWord, are_filtering, no_fault_of}
+use Rattle.test_command_uses.proofs.GivenWords.{OneValue, OneWord, are_asking, no_fault_of}
 use Rattle.test_command_uses.proofs.KnownNames.{known_filtered}
 
-first : {x y : List ℕ} {xs ys : List (List ℕ)} → x ∷ xs ≡ y ∷ ys → x ≡ y
+pub first : {x y : List ℕ} {xs ys : List (List ℕ)} → x ∷ xs ≡ y ∷ ys → x ≡ y
 first e = cc
 
-later : {x y : List ℕ} {xs ys : List (List ℕ)} → x ∷ xs ≡ y ∷ ys → xs ≡ ys
+pub later : {x y : List ℕ} {xs ys : List (List ℕ)} → x ∷ xs ≡ y ∷ ys → xs ≡ ys
 later e = cc
 
 not_list : codes "filter" ≡ codes "list" → ⊥
@@ -60,7 +60,7 @@ not_list e =
     let no : 102 ≢ 108 = omega arith in
     no n
 
-not_why : codes "filter" ≡ codes "why" → ⊥
+pub not_why : codes "filter" ≡ codes "why" → ⊥
 not_why e =
     let n : 102 ≡ 119 = ap (λ l. get_or l 0 0) e in
     let no : 102 ≢ 119 = omega arith in
@@ -78,13 +78,13 @@ not_check e =
     let no : 102 ≢ 99 = omega arith in
     no n
 
-not_windows : codes "unix" ≡ codes "windows" → ⊥
+pub not_windows : codes "unix" ≡ codes "windows" → ⊥
 not_windows e =
     let n : 117 ≡ 119 = ap (λ l. get_or l 0 0) e in
     let no : 117 ≢ 119 = omega arith in
     no n
 
-not_wasm : codes "unix" ≡ codes "wasm" → ⊥
+pub not_wasm : codes "unix" ≡ codes "wasm" → ⊥
 not_wasm e =
     let n : 117 ≡ 119 = ap (λ l. get_or l 0 0) e in
     let no : 117 ≢ 119 = omega arith in
@@ -101,10 +101,10 @@ one_before word name (x ∷ y ∷ before) after e = let never : [] ≡ y ∷ (be
 
 -- the file is the only one that the options state, and there is no pattern
 module _ (command platform value : Bor (List ℕ)) where
-  abbrev given_of : Line
+  abbrev pub given_of : Line
   given_of = Operand command ∷ Operand platform ∷ Valued option.Ignore value ∷ []
 
-  one_file : (files : List (List ℕ)) → AreValues option.Ignore given_of files → files ≡ value.now ∷ []
+  pub one_file : (files : List (List ℕ)) → AreValues option.Ignore given_of files → files ≡ value.now ∷ []
   one_file files (inl k) = absurd k.2.0
   one_file files (inr k) = by k.1
     where
@@ -128,7 +128,7 @@ module _ (command platform value : Bor (List ℕ)) where
       by (inl k) = absurd k.2.0
       by (inr k) = last k.1
 
-  no_limit : LastValue option.Max given_of None None
+  pub no_limit : LastValue option.Max given_of None None
   no_limit = inr (λ v h. h, inr (λ v h. h, inr (λ v h. let never : option.Ignore ≡ option.Max = h.0 in cc, refl)))
 
   other_limit : (number : List ℕ) → ¬ (LastValue option.Max given_of None (Some number))
@@ -143,17 +143,17 @@ module _ (command platform value : Bor (List ℕ)) where
       by (inl k) = k.1.0
       by (inr k) = last k.1
 
-  usual_max : (max : ℕ) → IsMax given_of max → max ≡ 1048576
+  pub usual_max : (max : ℕ) → IsMax given_of max → max ≡ 1048576
   usual_max max (inl m) = m.1
   usual_max max (inr m) = absurd (other_limit m.0 m.1.0)
 
-  no_help : ¬ (HasOption option.Help given_of)
+  pub no_help : ¬ (HasOption option.Help given_of)
   no_help (inl h) = h
   no_help (inr (inl h)) = h
   no_help (inr (inr (inl h))) = let never : option.Ignore ≡ option.Help = h in cc
   no_help (inr (inr (inr h))) = h
 
-  no_version : ¬ (HasOption option.Version given_of)
+  pub no_version : ¬ (HasOption option.Version given_of)
   no_version (inl h) = h
   no_version (inr (inl h)) = h
   no_version (inr (inr (inl h))) = let never : option.Ignore ≡ option.Version = h in cc
@@ -256,22 +256,22 @@ filters one_word one_value known A file words input left old new answer are runs
   where
     line : (given : Line) → AreGiven spelled has_value (filtering file) given → RunsLine known A given input left old new answer → Filters known A file input left old new answer
     line given read runs =
-        let is = are_filtering one_word one_value file given read in
+        let is = are_asking one_word one_value name.Filter file given read in
         of_line known A file input left old new answer is.command is.platform is.value is.command_is is.platform_is is.value_is (subst (λ g. RunsLine known A g input left old new answer) is.given_are runs)
 
     by : RunsTo known A (filtering file) input left old new answer → Filters known A file input left old new answer
     by (inl memory) = inl memory
-    by (inr (inl refused)) = absurd (no_fault_of one_word one_value file (fault_of refused.0) refused.2.0.0)
+    by (inr (inl refused)) = absurd (no_fault_of one_word one_value name.Filter file (fault_of refused.0) refused.2.0.0)
     by (inr (inr does)) = line does.0 does.1.0 does.1.1
 
 -- a value without `=` is the name of a file at the top
-at_top : (value directory name : List ℕ) → Lacks 0x3D value → IsFileIn value directory name → (directory ≡ []) × (name ≡ value)
+pub at_top : (value directory name : List ℕ) → Lacks 0x3D value → IsFileIn value directory name → (directory ≡ []) × (name ≡ value)
 at_top value directory name lacks (inl plain) = plain.1
 at_top value directory name lacks (inr placed) = absurd (has_end 0x3D value placed.0 name placed.1.0 lacks)
 
 -- the file that was read is the only one
 module _ {A : Type 0} (name bytes : List ℕ) where
-  only_read : (files : List (File A)) → Lacks 0x3D name → AreRead (only name bytes) (name ∷ []) files → IsOnly bytes files
+  pub only_read : (files : List (File A)) → Lacks 0x3D name → AreRead (only name bytes) (name ∷ []) files → IsOnly bytes files
   only_read files plain r = by r.reads r.values_are r.have r.added
     where
       one : (directory content : List ℕ) → directory ≡ [] → content ≡ bytes → (mid : List (File A)) → IsAdded directory content [] mid → files ≡ mid → IsOnly bytes files
