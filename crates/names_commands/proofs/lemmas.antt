@@ -9,3 +9,5 @@ pub mod Picks
 pub mod Words
 pub mod WordsBack
 pub mod Decided
+pub mod Pointed
+pub mod Wide

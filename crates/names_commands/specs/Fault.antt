@@ -27,7 +27,7 @@ refusal_text (BadWords fault) = words.fault_text fault
 abbrev pub words_text : CommandFault → List ℕ
 words_text Unreadable = codes "an argument isn't valid UTF-8"
 words_text (Misuse text) = inline_text text ++ codes "; names --help lists the commands"
-words_text (Pattern number why) = glob.set_error_text (set_error.Pattern number why)
+words_text (Pattern number why lines) = glob.set_error_text (set_error.Pattern number why) ++ inline_text lines
 words_text (NoFile number) = codes "ignore file " ++ (decimal number ++ codes ": no such file")
 words_text (Unread number) = codes "ignore file " ++ (decimal number ++ codes ": read failed")
 
@@ -35,7 +35,7 @@ words_text (Unread number) = codes "ignore file " ++ (decimal number ++ codes ":
 abbrev pub words_status : CommandFault → ℕ
 words_status Unreadable = 2
 words_status (Misuse text) = 2
-words_status (Pattern number why) = 2
+words_status (Pattern number why lines) = 2
 words_status (NoFile number) = 4
 words_status (Unread number) = 4
 
@@ -43,6 +43,6 @@ words_status (Unread number) = 4
 abbrev pub IsOfMisuse : misuse.Misuse → CommandFault → Type 0
 IsOfMisuse why Unreadable = ⊥
 IsOfMisuse why (Misuse text) = IsTextOrCut 400 (misuse_text why) (inline_text text)
-IsOfMisuse why (Pattern number fault) = ⊥
+IsOfMisuse why (Pattern number fault lines) = ⊥
 IsOfMisuse why (NoFile number) = ⊥
 IsOfMisuse why (Unread number) = ⊥

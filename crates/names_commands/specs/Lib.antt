@@ -10,3 +10,4 @@ pub mod Program
 pub mod Back
 pub mod Words
 pub mod Why
+pub mod Caret

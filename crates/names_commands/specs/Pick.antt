@@ -1,6 +1,7 @@
 -- What picks names, by the options and operands that state it.
-use Rattle.std.specs.Prelude.{◌≡◌, ℕ, List, [], ◌∷◌, ◌++◌, map, Option, None, Some, codes}
+use Rattle.std.specs.Prelude.{◌≡◌, ℕ, ◌-◌, nat_lt, cond, List, [], ◌∷◌, ◌++◌, map, length, Option, None, Some, codes}
 use denote.Ref.{Bor}
+use Rattle.glob_text.specs.declared.fault.PatternFault.{PatternFault}
 use Rattle.program_frame.specs.Arguments.{AreValues}
 use Rattle.program_frame.specs.declared.arguments.Given.{Given}
 use Rattle.program_frame.specs.declared.os.Os.{Os}
@@ -24,11 +25,19 @@ glob_words (Some glob) = glob.now ∷ []
 abbrev pub in_any_folder : List ℕ → List ℕ
 in_any_folder glob = codes "**/" ++ glob
 
-module _ (given : List (Given NamesOption)) where
-  -- the patterns: the operand, then those of `--glob`, and then those of `--name`, in any folder, each in order
-  abbrev pub ArePatterns : Pick → List (List ℕ) → Type 0
-  ArePatterns pick globs = (more : List (List ℕ)) × (of_names : List (List ℕ)) × (AreValues Glob given more × (AreValues Name given of_names × (globs ≡ (glob_words pick.glob ++ more) ++ map in_any_folder of_names)))
+-- how many bytes were put before what was typed of the pattern at the index: `**/` where the pattern is one of `--name`, and these come after a number of plain ones
+abbrev pub added_before : ℕ → ℕ → ℕ
+added_before plain index = cond (nat_lt index plain) 0 3
 
-  -- these patterns and these ignore files pick names
-  abbrev pub AreChosen : Pick → List (List ℕ) → List (List ℕ) → Type 0
-  AreChosen pick globs files = ArePatterns pick globs × AreValues Ignore given files
+-- the fault with its index in what was typed
+abbrev pub typed_fault : ℕ → PatternFault → PatternFault
+typed_fault added fault = record { kind = fault.kind; index = fault.index - added }
+
+module _ (given : List (Given NamesOption)) where
+  -- the patterns, with the number of plain ones: the operand and those of `--glob` are plain, and then come those of `--name`, in any folder, each in order
+  abbrev pub ArePatterns : Pick → ℕ → List (List ℕ) → Type 0
+  ArePatterns pick plain globs = (more : List (List ℕ)) × (of_names : List (List ℕ)) × (AreValues Glob given more × (AreValues Name given of_names × ((globs ≡ (glob_words pick.glob ++ more) ++ map in_any_folder of_names) × (plain ≡ length (glob_words pick.glob ++ more)))))
+
+  -- these patterns, with the number of plain ones, and these ignore files pick names
+  abbrev pub AreChosen : Pick → ℕ → List (List ℕ) → List (List ℕ) → Type 0
+  AreChosen pick plain globs files = ArePatterns pick plain globs × AreValues Ignore given files

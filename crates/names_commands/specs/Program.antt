@@ -1,5 +1,6 @@
 -- The whole program, from the words after its name to its exit status.
-use Rattle.std.specs.Prelude.{◌≡◌, ◌⊎◌, ◌+◌, ℕ, Bool, List, Option, None, Some, Result, Err, ⊤}
+use Rattle.std.specs.Prelude.{◌≡◌, ◌⊎◌, ◌+◌, ℕ, Bool, List, drop, Option, None, Some, Result, Err, ⊤}
+use Rattle.std.specs.Fmt.InlineText.{inline_text}
 use Rattle.os_str_bytes.specs.Platform.{Ghosts}
 use Rattle.os_ignore.specs.declared.file.File.{File}
 use Rattle.glob_text.specs.declared.fault.PatternFault.{PatternFault}
@@ -37,9 +38,10 @@ use Rattle.names_commands.specs.declared.matching.Form.{Form}
 use Rattle.names_commands.specs.declared.matching.Form.TheVariants as form
 use Rattle.names_commands.specs.declared.pick.Pick.{Pick}
 use Rattle.names_commands.specs.declared.plan.Plan.{Plan}
+use Rattle.names_commands.specs.Caret.{IsPointed}
 use Rattle.names_commands.specs.Ignoring.{AreRead, IsFileIn, IsFirstUnread}
 use Rattle.names_commands.specs.Matching.{picking, AreWrittenOut, IsChosen, IsFirstFault, IsPicked}
-use Rattle.names_commands.specs.Pick.{AreChosen}
+use Rattle.names_commands.specs.Pick.{AreChosen, added_before, typed_fault}
 use Rattle.names_commands.specs.Why.{deciding}
 use Rattle.names_commands.specs.declared.option.NamesOption.TheVariants.{Ignore}
 use Rattle.names_commands.specs.declared.command.Request.{Request}
@@ -82,13 +84,17 @@ LacksFile known value = (directory : List ℕ) × (name : List ℕ) × (IsFileIn
 abbrev pub IsFaultOfOne : KnownFiles → ℕ → List ℕ → Fault → Type 0
 IsFaultOfOne known number value fault = (fault ≡ OfList (Run Memory)) ⊎ (((fault ≡ Words (NoFile number)) × LacksFile known value) ⊎ (fault ≡ Words (Unread number)))
 
+-- the fault of the pattern with this number, where the first `added` bytes of its text come before what was typed: the fault of what was typed, and the lines that show where it is
+abbrev pub IsOfPattern : ℕ → ℕ → List ℕ → PatternFault → Fault → Type 0
+IsOfPattern added number text fault why = (lines : _) × IsPointed (drop added text) (typed_fault added fault).index (inline_text lines) × (why ≡ Words (Pattern number (typed_fault added fault) lines))
+
 -- where this is known of files, and memory is taken of an allocator of this type:
 module _ (known : KnownFiles) (A : Type 0) where
   -- why an ignore file can't be read: no file has the name, or it isn't read
   abbrev pub IsFileFault : List (List ℕ) → CommandFault → Type 0
   IsFileFault names Unreadable = ⊥
   IsFileFault names (Misuse text) = ⊥
-  IsFileFault names (Pattern number why) = ⊥
+  IsFileFault names (Pattern number why lines) = ⊥
   IsFileFault values (NoFile number) = (value : List ℕ) × IsFirstUnread A known values number value × LacksFile known value
   IsFileFault values (Unread number) = (value : List ℕ) × IsFirstUnread A known values number value
 
@@ -108,19 +114,19 @@ module _ (known : KnownFiles) (A : Type 0) where
       ((why : CommandFault) × IsFileFault values why × EndsAtOnce (Words why) input left old new answer)
       ⊎ ((files : List (File A)) × AreRead known values files × Runs (deciding p max values files) OfList input left old new answer)
 
-  -- on such a platform, where a plan states what is done:
-  module _ {E : Type 0} (p : Ghosts E) (plan : Plan) where
+  -- on such a platform, where a plan states what is done, and the first `plain` patterns come before those of `--name`:
+  module _ {E : Type 0} (p : Ghosts E) (plan : Plan) (plain : ℕ) where
     -- the run ends with the first of the patterns that has a fault. Or it writes the names that one of them matches, or all where there are none, but for those that the files ignore; or, inverted, the others
     abbrev pub RunsPatterns : List (List ℕ) → List (List ℕ) → Doing
     RunsPatterns globs names input left old new answer =
-        ((index : ℕ) × (fault : PatternFault) × IsFirstFault p (options_of plan.os) globs index fault × EndsAtOnce (Words (Pattern (index + 1) fault)) input left old new answer)
+        ((index : ℕ) × (fault : PatternFault) × (first : IsFirstFault p (options_of plan.os) globs index fault) × (why : Fault) × IsOfPattern (added_before plain index) (index + 1) first.text fault why × EndsAtOnce why input left old new answer)
         ⊎ ((written : List (List (List Mark))) × AreWrittenOut p (options_of plan.os) globs written × RunsBut p plan.form plan.max plan.pick.inverted (IsChosen p (options_of plan.os) written) names input left old new answer)
 
   -- where these options and operands are given:
   module _ (given : Line) where
     -- on a platform that states this of its strings, the result for the patterns and the ignore files that pick names
     abbrev pub RunsChosen : {E : Type 0} → Ghosts E → Plan → Doing
-    RunsChosen p plan input left old new answer = (globs : List (List ℕ)) × (names : List (List ℕ)) × AreChosen given plan.pick globs names × RunsPatterns p plan globs names input left old new answer
+    RunsChosen p plan input left old new answer = (plain : ℕ) × (globs : List (List ℕ)) × (names : List (List ℕ)) × AreChosen given plan.pick plain globs names × RunsPatterns p plan plain globs names input left old new answer
 
     -- that result, unless memory is refused first
     abbrev pub RunsPick : {E : Type 0} → Ghosts E → Plan → Doing

@@ -1,29 +1,18 @@
-//! Commands, and the options and operands that make them up.
-ghost use Rattle.std.specs.Prelude.{◌≡◌, ◌≢◌, ◌↔◌, ◌∷◌, [], ℕ, List, Option, map, IfOk, IfErr, IsTrue, MatchOption, OnErr, OnOk};
-ghost use Rattle.os_args.specs.Reading.{UnexpectedArgument};
-ghost use Rattle.os_args.specs.Views.{fault_of};
-ghost use Rattle.os_args.specs.Word.{Value};
-ghost use Rattle.program_frame.specs.Arguments.{HasOption, IsOf, operands_of};
-ghost use Rattle.program_frame.specs.Os.{os_word};
-ghost use Rattle.names_commands.specs.Command.{AsksFor, IsWordOption, Fits, FitsOne, HasOperands, IsForm, IsLast, IsLimit, IsMax, IsMaybePick, IsMisplaced, IsMisuse, IsRejected, MakesUp, NoWords, OptionsPick, TakesOption, name_word, options_of};
-ghost use Rattle.names_commands.specs.Options.{word_of};
-ghost use Rattle.names_commands.specs.Pick.{TakesIgnore};
+//! Commands, and the requests that options and operands make up.
+ghost use Rattle.std.specs.Prelude.{◌≡◌, ◌≢◌, ◌↔◌, IfOk, IfErr, IsTrue, MatchOption};
+ghost use Rattle.program_frame.specs.Arguments.{operands_of};
+ghost use Rattle.names_commands.specs.Command.{AsksFor, Fits, HasOperands, IsMisuse, IsRejected, MakesUp, TakesOption, name_word};
 ghost use Rattle.names_commands.specs.declared.command.Name.{Name as DeclaredName};
-ghost use Rattle.names_commands.specs.declared.command.Name.TheVariants.{Check as CheckName, Filter as FilterName, Join as JoinName, List as ListName, Why as WhyName};
-ghost use Rattle.names_commands.specs.declared.option.NamesOption.TheVariants.{Glob, Ignore};
+ghost use Rattle.names_commands.specs.declared.command.Name.TheVariants.{Filter as FilterName, Join as JoinName, List as ListName, Why as WhyName};
 
+use crate::fitting::{fits, ignores, no_operand};
+use crate::given::{LONGEST_NAME, form_of, last_line, limit, maybe_pick};
 use crate::option::NamesOption;
 use crate::pick::Pick;
 use crate::task::{LastLine, WordForm};
-use glob_patterns::{GlobOptions, Separators};
-use os_args::{ArgumentError, Word};
-use os_str_bytes::{OsStr, Wasm};
-use program_frame::arguments::{Given, has, last_value, next_operand};
+use program_frame::arguments::{Given, has, next_operand};
 use program_frame::misuse::Misuse;
 use program_frame::os::Os;
-
-/// How many bytes a name may have where the arguments state no limit.
-const LONGEST_NAME: usize = 0x10_0000;
 
 /// Options and operands, as they were given.
 pub type Line<'s, 'a> = &'s [Given<'a, NamesOption>];
@@ -86,20 +75,6 @@ impl<'a> Request<'a> {
     }
 }
 
-/// The limit that options state.
-fn limit<'a>(given: Line<'_, 'a>) -> Result<usize, Misuse<'a>>
-    ensures limit { IfOk result (λ max. IsMax given.entry.now max) }
-    ensures misuse { IfErr result (λ misuse. IsMisuse given.entry.now misuse) }
-{
-    let Some(number) = last_value(given, NamesOption::Max) else {
-        return Ok(LONGEST_NAME);
-    };
-    match number.parse::<usize>() {
-        Ok(max) => Ok(max),
-        Err(_) => Err(Misuse::Invalid("number of bytes", number)),
-    }
-}
-
 /// The name of a command.
 #[derive(Clone, Copy, PartialEq, Eq)]
 pub enum Name {
@@ -132,7 +107,7 @@ impl Name {
     }
 
     /// The word of the command.
-    fn word(self) -> &'static str
+    pub(crate) fn word(self) -> &'static str
         ensures { result.now ≡ name_word self }
     {
         match self {
@@ -145,7 +120,7 @@ impl Name {
     }
 
     /// Whether the command takes an option.
-    fn takes(self, option: NamesOption) -> bool
+    pub(crate) fn takes(self, option: NamesOption) -> bool
         ensures { IsTrue result ↔ TakesOption self option }
     {
         match option {
@@ -324,193 +299,4 @@ impl<'a> Command<'a> {
             Os::Wasm => Err(Misuse::Misplaced(option.word(), "wasm")),
         }
     }
-}
-
-/// Checks that a command takes each option that was given.
-fn fits<'a>(given: Line<'_, 'a>, command: Name) -> Result<(), Misuse<'a>>
-    requires operands { (os : Os) × ((more : List (List ℕ)) × HasOperands given.now command os more) }
-    ensures fits { OnOk result (Fits command given.entry.now) }
-    ensures misuse { IfErr result (λ misuse. IsMisuse given.entry.now misuse) }
-{
-    match first_misplaced(given, command) {
-        Some(option) => Err(Misuse::Misplaced(option.word(), command.word())),
-        None => Ok(()),
-    }
-}
-
-/// The first option that the command doesn't take.
-fn first_misplaced(given: Line<'_, '_>, command: Name) -> Option<NamesOption>
-    ensures { MatchOption result (Fits command given.entry.now)
-        (λ option. HasOption option given.entry.now × (¬ (TakesOption command option))) }
-{
-    let mut left = given;
-    while let [first, rest @ ..] = left {
-        if let Some(option) = misplaced(first, command) {
-            return Some(option);
-        }
-        left = rest;
-    }
-    None
-}
-
-/// The option that was given here, if the command doesn't take it.
-fn misplaced(given: &Given<'_, NamesOption>, command: Name) -> Option<NamesOption>
-    ensures { MatchOption result (FitsOne command given.now)
-        (λ option. IsOf option given.now × (¬ (TakesOption command option))) }
-{
-    match given {
-        Given::Operand(_) => None,
-        Given::Flag(option) | Given::Valued(option, _) => {
-            if command.takes(*option) {
-                None
-            } else {
-                Some(*option)
-            }
-        }
-    }
-}
-
-/// What picks names, if anything does.
-fn maybe_pick<'a>(
-    given: Line<'_, 'a>,
-    command: Name,
-    os: Os,
-    more: Line<'_, 'a>,
-) -> Result<Option<Pick<'a>>, Misuse<'a>>
-    requires operands { HasOperands given.now command os (operands_of more.now) }
-    requires takes { TakesOption command Glob }
-    ensures pick { IfOk result
-        (λ pick. IsMaybePick given.entry.now os (operands_of more.entry.now) pick) }
-    ensures misuse { IfErr result (λ misuse. IsMisuse given.entry.now misuse) }
-{
-    match ignores(given, os) {
-        Ok(()) => {}
-        Err(misuse) => return Err(misuse),
-    }
-    let Some((glob, rest)) = next_operand(more) else {
-        return options_pick(given, command, os, more);
-    };
-    match next_operand(rest) {
-        Some((word, _)) => Err(Misuse::Argument(surplus(word))),
-        None => {
-            Ok(Some(Pick {
-                glob: Some(glob),
-                inverted: has(given, NamesOption::Invert),
-            }))
-        }
-    }
-}
-
-/// What picks names where no pattern is an operand.
-fn options_pick<'a>(
-    given: Line<'_, 'a>,
-    command: Name,
-    os: Os,
-    more: Line<'_, 'a>,
-) -> Result<Option<Pick<'a>>, Misuse<'a>>
-    requires operands { HasOperands given.now command os (operands_of more.now) }
-    requires none { operands_of more.now ≡ [] }
-    requires ignores { HasOption Ignore given.now → TakesIgnore os }
-    ensures pick { IfOk result
-        (λ pick. IsMaybePick given.entry.now os (operands_of more.entry.now) pick) }
-    ensures misuse { IfErr result (λ misuse. IsMisuse given.entry.now misuse) }
-{
-    let inverted = has(given, NamesOption::Invert);
-    if picks(given) {
-        let glob = None;
-        return Ok(Some(Pick { glob, inverted }));
-    }
-    if inverted {
-        return Err(Misuse::Missing("GLOB, --glob, --name or --ignore"));
-    }
-    Ok(None)
-}
-
-/// Whether an option picks names.
-fn picks(given: Line<'_, '_>) -> bool
-    ensures { IsTrue result ↔ OptionsPick given.entry.now }
-{
-    has(given, NamesOption::Glob)
-        || has(given, NamesOption::Ignore)
-        || has(given, NamesOption::Name)
-}
-
-/// Checks that ignore files are given only where the platform takes them: they are about names that
-/// `/` alone separates.
-fn ignores<'a>(given: Line<'_, 'a>, os: Os) -> Result<(), Misuse<'a>>
-    requires operands { (command : Name)
-        × ((more : List (List ℕ)) × HasOperands given.now command os more) }
-    ensures ignores { OnOk result (HasOption Ignore given.entry.now → TakesIgnore os) }
-    ensures misuse { IfErr result (λ misuse. IsMisuse given.entry.now misuse) }
-{
-    match os {
-        Os::Unix | Os::Wasm => Ok(()),
-        Os::Windows => {
-            if has(given, NamesOption::Ignore) {
-                Err(Misuse::Misplaced("--ignore", "windows"))
-            } else {
-                Ok(())
-            }
-        }
-    }
-}
-
-/// Checks that there is no operand more.
-fn no_operand<'a>(
-    given: Line<'_, 'a>,
-    command: Name,
-    os: Os,
-    more: Line<'_, 'a>,
-) -> Result<(), Misuse<'a>>
-    requires operands { HasOperands given.now command os (operands_of more.now) }
-    requires takes { ¬ (TakesOption command Glob) }
-    ensures none { OnOk result (operands_of more.entry.now ≡ []) }
-    ensures misuse { IfErr result (λ misuse. IsMisuse given.entry.now misuse) }
-{
-    match next_operand(more) {
-        Some((word, _)) => Err(Misuse::Argument(surplus(word))),
-        None => Ok(()),
-    }
-}
-
-/// The error for an operand too many.
-fn surplus<'a>(word: &'a str) -> ArgumentError<'a, OsStr<'a, Wasm>>
-    ensures { fault_of result ≡ UnexpectedArgument (Value word.now) }
-{
-    Word::Value(OsStr::new(word)).unexpected()
-}
-
-/// How words of a shell are written, and the option for it.
-fn form_of(given: Line<'_, '_>) -> Option<(WordForm, NamesOption)>
-    ensures { MatchOption result (NoWords given.entry.now)
-        (λ form. IsForm given.entry.now form.0 × IsWordOption given.entry.now form.1) }
-{
-    if has(given, NamesOption::ShLine) {
-        return Some((WordForm::OneLine, NamesOption::ShLine));
-    }
-    if has(given, NamesOption::Sh) {
-        return Some((WordForm::Posix, NamesOption::Sh));
-    }
-    None
-}
-
-/// Whether the last line may lack its newline.
-fn last_line(given: Line<'_, '_>) -> LastLine
-    ensures { IsLast given.entry.now result }
-{
-    if has(given, NamesOption::Unterminated) {
-        LastLine::MayLackEnd
-    } else {
-        LastLine::MustEnd
-    }
-}
-
-/// How a pattern is matched on a platform: `\` is a separator on Windows alone.
-pub(crate) fn options_of(os: Os) -> GlobOptions
-    ensures { result ≡ options_of os }
-{
-    GlobOptions::new(match os {
-        Os::Unix | Os::Wasm => Separators::Slash,
-        Os::Windows => Separators::SlashAndBackslash,
-    })
 }

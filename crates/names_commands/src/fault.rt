@@ -42,9 +42,9 @@ pub enum CommandFault {
     Unreadable,
     /// They make up no request: what is wrong with them.
     Misuse(InlineText<ROOM>),
-    /// The pattern with this number, counted from 1, is the first that is rejected: its first
-    /// fault.
-    Pattern(usize, PatternFault),
+    /// The pattern with this number, counted from 1, is the first that is rejected: its first fault,
+    /// and the lines below it that show where it is.
+    Pattern(usize, PatternFault, InlineText<ROOM>),
     /// No file has the name of the ignore file with this number, counted from 1.
     NoFile(usize),
     /// The ignore file with this number couldn't be read.
@@ -111,7 +111,8 @@ impl WordsRefusal for CommandFault {
 
     fn status(&self) -> u8 {
         match self {
-            CommandFault::Unreadable | CommandFault::Misuse(_) | CommandFault::Pattern(_, _) => 2,
+            CommandFault::Unreadable | CommandFault::Misuse(_) | CommandFault::Pattern(_, _, _) =>
+                2,
             CommandFault::NoFile(_) | CommandFault::Unread(_) => 4,
         }
     }
@@ -120,7 +121,10 @@ impl WordsRefusal for CommandFault {
         match self {
             CommandFault::Unreadable => f.write_str("an argument isn't valid UTF-8"),
             CommandFault::Misuse(text) => write_hinted(text, f),
-            CommandFault::Pattern(number, why) => GlobSetError::Pattern(*number, *why).fmt(f),
+            CommandFault::Pattern(number, why, lines) => {
+                GlobSetError::Pattern(*number, *why).fmt(f)?;
+                f.write_str(lines.as_str())
+            }
             CommandFault::NoFile(number) => {
                 f.write_str("ignore file ")?;
                 write_number(*number, f)?;

@@ -15,17 +15,22 @@
 //! writer whose marks are unset, as `Marked::new` makes them.
 #![tactic(auto)]
 
+mod caret;
 pub mod command;
 pub mod fault;
+mod fitting;
+mod given;
 pub mod help;
 mod ignoring;
 mod item;
 pub mod laws;
 pub mod matching;
 pub mod option;
+mod patterns;
 pub mod pick;
 pub mod plan;
 pub mod program;
+mod reasons;
 pub mod task;
 mod why;
 mod words;

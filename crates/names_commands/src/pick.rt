@@ -1,13 +1,14 @@
 //! What picks names: patterns and ignore files.
-ghost use Rattle.std.specs.Prelude.{◌≡◌, ◌++◌, ◌∷◌, [], map, string_bytes, IfOk, OnOk};
+ghost use Rattle.std.specs.Prelude.{◌≡◌, ◌++◌, ◌∷◌, [], map, length, drop, string_bytes, IfOk, OnOk};
 ghost use Rattle.os_str_bytes.specs.Strings.{bytes};
 ghost use Rattle.program_frame.specs.Arguments.{text_of};
-ghost use Rattle.names_commands.specs.Pick.{ArePatterns, in_any_folder};
+ghost use Rattle.names_commands.specs.Pick.{ArePatterns, added_before, in_any_folder, typed_fault};
 
 use crate::option::NamesOption;
+use glob_patterns::PatternFault;
 use os_str_bytes::{OsStr, Platform};
 use program_frame::arguments::{Given, values};
-use std::alloc::{AllocError, Allocator};
+use std::alloc::{AllocError, Allocator, Global};
 
 /// What picks names, beside options: each `--glob` and `--name` has a pattern, and each `--ignore`
 /// the name of an ignore file. A name matches where one of the patterns matches it, or there are
@@ -20,25 +21,74 @@ pub struct Pick<'a> {
     pub inverted: bool,
 }
 
+/// The texts of patterns.
+#[derive(Drop)]
+pub(crate) struct Patterns<A: Allocator = Global> {
+    /// The texts, those of `--name` last, and with `**/` before each of these.
+    pub(crate) texts: Vec<String<A>, A>,
+    /// How many come before those of `--name`.
+    pub(crate) plain: usize,
+}
+
 impl<'a> Pick<'a> {
     /// The patterns: the operand, then those of `--glob` and then those of `--name`, each in order.
     pub(crate) fn patterns<A: Allocator + Copy>(
         self,
         alloc: A,
         given: &[Given<'a, NamesOption>],
-    ) -> Result<Vec<String<A>, A>, AllocError>
-        ensures { IfOk result
-            (λ globs. ArePatterns given.now self.entry (map string_bytes globs.items)) }
+    ) -> Result<Patterns<A>, AllocError>
+        ensures { IfOk result (λ patterns. ArePatterns given.now self.entry patterns.plain
+            (map string_bytes patterns.texts.items)) }
     {
         let of_globs = values(alloc, given, NamesOption::Glob)?;
         let of_names = values(alloc, given, NamesOption::Name)?;
-        let mut patterns = Vec::new(alloc);
+        let mut texts = Vec::new(alloc);
         if let Some(glob) = self.glob {
-            push_pattern(alloc, "", glob, &mut patterns)?;
+            push_pattern(alloc, "", glob, &mut texts)?;
         }
-        push_globs(alloc, &of_globs, &mut patterns)?;
-        push_names(alloc, &of_names, &mut patterns)?;
-        Ok(patterns)
+        push_globs(alloc, &of_globs, &mut texts)?;
+        let plain = count_of(&texts);
+        push_names(alloc, &of_names, &mut texts)?;
+        Ok(Patterns { texts, plain })
+    }
+}
+
+/// How many patterns there are.
+#[tactic(auto, using(crate::proofs::lemmas::Picks::count_mapped))]
+fn count_of<A: Allocator>(patterns: &[String<A>]) -> usize
+    ensures { result ≡ length (map string_bytes patterns.now) }
+{
+    patterns.len()
+}
+
+/// How many bytes were put before what was typed of the pattern at the index, where `plain` patterns
+/// come before those of `--name`.
+pub(crate) fn added_before(plain: usize, index: usize) -> usize
+    ensures { result ≡ added_before plain index }
+{
+    if index < plain { 0 } else { 3 }
+}
+
+/// What was typed of a pattern, before which `added` bytes were put.
+#[tactic(auto, using(std::proofs::lemmas::List::drop_all))]
+pub(crate) fn typed(pattern: &[u8], added: usize) -> &[u8]
+    ensures { result.now ≡ drop added pattern.now }
+{
+    if added < pattern.len() {
+        let (_, typed) = pattern.split_at(added);
+        typed
+    } else {
+        b""
+    }
+}
+
+/// The fault of a pattern with its index in what was typed, before which `added` bytes were put.
+pub(crate) fn typed_fault(added: usize, fault: PatternFault) -> PatternFault
+    ensures { result ≡ typed_fault added fault }
+{
+    PatternFault {
+        kind: fault.kind,
+        index: fault.index.saturating_sub(added),
     }
 }
 

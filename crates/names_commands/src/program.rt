@@ -1,25 +1,20 @@
 //! The whole program, over ends of any kind.
-ghost use Rattle.std.specs.Prelude.{◌≡◌, ◌≢◌, ◌<◌, ◌+◌, ◌^◌, [], map, string_bytes, false, MatchOption};
-ghost use Rattle.os_str_bytes.specs.Strings.{bytes};
+ghost use Rattle.std.specs.Prelude.{◌≡◌, false};
 ghost use Rattle.program_frame.specs.Marked.{has_failed};
 ghost use Rattle.program_frame.specs.ProgramFault.{BlamesEnds};
-ghost use Rattle.names_commands.specs.Ignoring.{text_of};
-ghost use Rattle.names_commands.specs.Matching.{IsChosenBy};
-ghost use Rattle.names_commands.specs.Program.{Did, Does, RunsBut, RunsLine, RunsPatterns, RunsPick, RunsPlan, RunsReasons, RunsTask, RunsWhy, RunsWhyOn, UnlessOutOfMemory};
+ghost use Rattle.names_commands.specs.Program.{Did, Does, RunsLine, RunsTask};
 
-use crate::command::{Command, Line, Request, options_of};
+use crate::command::{Command, Line, Request};
 use crate::fault::{CommandFault, Fault, Refusal};
 use crate::help::{HELP, VERSION};
-use crate::ignoring::read_ignore;
-use crate::matching::{Form, Matching, Picker};
+use crate::matching::Form;
 use crate::option::NamesOption;
-use crate::pick::strings_of;
+use crate::patterns::run_plan;
 use crate::plan::Plan;
+use crate::reasons::run_why;
 use crate::task::{OnPlatform, Settings, Task};
-use crate::why::Reasons;
-use glob_patterns::{GlobSet, GlobSetError};
-use os_str_bytes::{OsStr, Platform, Unix, Wasm, Windows};
-use program_frame::arguments::{ReadFault, read_arguments, values};
+use os_str_bytes::{Unix, Wasm, Windows};
+use program_frame::arguments::{ReadFault, read_arguments};
 use program_frame::fault::Failure;
 use program_frame::files::Files;
 use program_frame::lists::answers::{run_list, write_help};
@@ -30,7 +25,6 @@ use program_frame::misuse::Misuse;
 use program_frame::os::Os;
 use std::alloc::Allocator;
 use std::io::{Read, Write};
-use std::marker::PhantomData;
 
 /// The program `names`: its words are those of a request ([`Request::parse`]).
 /// [`program_frame::lists::program::execute`] runs it.
@@ -203,232 +197,6 @@ fn run_command<'a, F: Files, A: Allocator + Copy, R: Read, W: Write>(
         Command::Check(os) => run_on(alloc, os, Task::Check, max, reader, writer),
         Command::Help => write_help(HELP, writer),
         Command::Version => write_help(VERSION, writer),
-    }
-}
-
-/// Returns the result for names that are picked on a platform.
-fn run_plan<'a, F: Files, A: Allocator + Copy, R: Read, W: Write>(
-    alloc: A,
-    files: &F,
-    given: Line<'_, 'a>,
-    plan: Plan<'a>,
-    reader: &mut Marked<R>,
-    writer: &mut Marked<W>,
-) -> Result<(), Fault>
-    requires reader_unmarked { has_failed reader.old ≡ false }
-    requires writer_unmarked { has_failed writer.old ≡ false }
-    ensures run { Did R.remaining W.contents (RunsPlan (F.known files.now) A given.now plan.entry)
-        reader.old reader.new writer.old writer.new result }
-    ensures ends { BlamesEnds result (has_failed reader.new) (has_failed writer.new) }
-{
-    match plan.os {
-        Os::Unix => run_plan_on::<Unix, F, A, R, W>(alloc, files, given, plan, reader, writer),
-        Os::Windows => run_plan_on::<Windows, F, A, R, W>(
-            alloc, files, given, plan, reader, writer,
-        ),
-        Os::Wasm => run_plan_on::<Wasm, F, A, R, W>(alloc, files, given, plan, reader, writer),
-    }
-}
-
-/// Returns the result for names that are picked, where the platform is a type.
-fn run_plan_on<'a, E: Platform + 'a, F: Files, A: Allocator + Copy, R: Read, W: Write>(
-    alloc: A,
-    files: &F,
-    given: Line<'_, 'a>,
-    plan: Plan<'a>,
-    reader: &mut Marked<R>,
-    writer: &mut Marked<W>,
-) -> Result<(), Fault>
-    requires reader_unmarked { has_failed reader.old ≡ false }
-    requires writer_unmarked { has_failed writer.old ≡ false }
-    ensures run { Did R.remaining W.contents
-        (RunsPick (F.known files.now) A given.now ⟦<E as Platform>⟧ plan.entry)
-        reader.old reader.new writer.old writer.new result }
-    ensures ends { BlamesEnds result (has_failed reader.new) (has_failed writer.new) }
-{
-    let Ok(patterns) = plan.pick.patterns(alloc, given) else {
-        return Err(Fault::List(ListFault::Run(Failure::Memory)));
-    };
-    match values(alloc, given, NamesOption::Ignore) {
-        Ok(names) => {
-            run_texts::<E, F, A, R, W>(alloc, files, plan, &patterns, &names, reader, writer)
-        }
-        Err(_) => Err(Fault::List(ListFault::Run(Failure::Memory))),
-    }
-}
-
-/// Returns the result for the texts of patterns, and for the names of ignore files.
-fn run_texts<E: Platform, F: Files, A: Allocator + Copy, R: Read, W: Write>(
-    alloc: A,
-    files: &F,
-    plan: Plan<'_>,
-    patterns: &[String<A>],
-    names: &[&str],
-    reader: &mut Marked<R>,
-    writer: &mut Marked<W>,
-) -> Result<(), Fault>
-    requires reader_unmarked { has_failed reader.old ≡ false }
-    requires writer_unmarked { has_failed writer.old ≡ false }
-    ensures run { Did R.remaining W.contents (UnlessOutOfMemory
-        (RunsPatterns (F.known files.now) A ⟦<E as Platform>⟧ plan.entry
-        (map string_bytes patterns.now) (map text_of names.now)))
-        reader.old reader.new writer.old writer.new result }
-    ensures ends { BlamesEnds result (has_failed reader.new) (has_failed writer.new) }
-{
-    match strings_of::<E, A>(alloc, patterns) {
-        Ok(globs) => {
-            run_patterns::<E, F, A, R, W>(alloc, files, plan, &globs, names, reader, writer)
-        }
-        Err(_) => Err(Fault::List(ListFault::Run(Failure::Memory))),
-    }
-}
-
-/// Returns the result for patterns, which are compiled once, and for the names of ignore files.
-fn run_patterns<E: Platform, F: Files, A: Allocator + Copy, R: Read, W: Write>(
-    alloc: A,
-    files: &F,
-    plan: Plan<'_>,
-    globs: &[OsStr<'_, E>],
-    names: &[&str],
-    reader: &mut Marked<R>,
-    writer: &mut Marked<W>,
-) -> Result<(), Fault>
-    requires reader_unmarked { has_failed reader.old ≡ false }
-    requires writer_unmarked { has_failed writer.old ≡ false }
-    ensures run { Did R.remaining W.contents (UnlessOutOfMemory
-        (RunsPatterns (F.known files.now) A ⟦<E as Platform>⟧ plan.entry
-        (map bytes globs.now) (map text_of names.now)))
-        reader.old reader.new writer.old writer.new result }
-    ensures ends { BlamesEnds result (has_failed reader.new) (has_failed writer.new) }
-{
-    match GlobSet::<E, A>::new(alloc, options_of(plan.os), globs) {
-        Ok(set) => {
-            let globs = set_of(globs, &set);
-            run_set::<E, F, A, R, W>(alloc, files, plan, globs, names, reader, writer)
-        }
-        Err(GlobSetError::Pattern(index, fault)) => {
-            Err(Fault::Words(CommandFault::Pattern(index + 1, fault)))
-        }
-        Err(GlobSetError::Memory) => Err(Fault::List(ListFault::Run(Failure::Memory))),
-    }
-}
-
-/// The set that was compiled of patterns, if there are any.
-fn set_of<'g, E: Platform, A: Allocator>(
-    globs: &[OsStr<'_, E>],
-    set: &'g GlobSet<E, A>,
-) -> Option<&'g GlobSet<E, A>>
-    ensures { MatchOption result (globs.now ≡ [])
-        (λ chosen. (globs.now ≢ []) × (chosen.now ≡ set.entry.now)) }
-{
-    if globs.is_empty() { None } else { Some(set) }
-}
-
-/// Returns the result for a compiled set, if there is one, and for ignore files, which are read once.
-fn run_set<E: Platform, F: Files, A: Allocator + Copy, R: Read, W: Write>(
-    alloc: A,
-    files: &F,
-    plan: Plan<'_>,
-    globs: Option<&GlobSet<E, A>>,
-    names: &[&str],
-    reader: &mut Marked<R>,
-    writer: &mut Marked<W>,
-) -> Result<(), Fault>
-    requires reader_unmarked { has_failed reader.old ≡ false }
-    requires writer_unmarked { has_failed writer.old ≡ false }
-    ensures run { Did R.remaining W.contents (UnlessOutOfMemory
-        (RunsBut (F.known files.now) A ⟦<E as Platform>⟧ plan.entry.form plan.entry.max
-        plan.entry.pick.inverted (IsChosenBy ⟦<E as Platform>⟧ globs.entry)
-        (map text_of names.now)))
-        reader.old reader.new writer.old writer.new result }
-    ensures ends { BlamesEnds result (has_failed reader.new) (has_failed writer.new) }
-{
-    match read_ignore(alloc, files, names) {
-        Ok(ignore) => {
-            let picker = Picker {
-                globs,
-                ignore: &ignore,
-                inverted: plan.pick.inverted,
-            };
-            let names = Matching::new(picker, plan.form, plan.max);
-            run_list(alloc, &names, reader, writer)
-        }
-        Err(fault) => Err(fault),
-    }
-}
-
-/// Returns the result for the lines that decide names on a platform.
-fn run_why<F: Files, A: Allocator + Copy, R: Read, W: Write>(
-    alloc: A,
-    files: &F,
-    given: Line<'_, '_>,
-    os: Os,
-    max: usize,
-    reader: &mut Marked<R>,
-    writer: &mut Marked<W>,
-) -> Result<(), Fault>
-    requires reader_unmarked { has_failed reader.old ≡ false }
-    requires writer_unmarked { has_failed writer.old ≡ false }
-    ensures run { Did R.remaining W.contents (RunsWhy (F.known files.now) A given.now os max)
-        reader.old reader.new writer.old writer.new result }
-    ensures ends { BlamesEnds result (has_failed reader.new) (has_failed writer.new) }
-{
-    match os {
-        Os::Unix => run_why_on::<Unix, F, A, R, W>(alloc, files, given, max, reader, writer),
-        Os::Windows => run_why_on::<Windows, F, A, R, W>(alloc, files, given, max, reader, writer),
-        Os::Wasm => run_why_on::<Wasm, F, A, R, W>(alloc, files, given, max, reader, writer),
-    }
-}
-
-/// Returns the result for the lines that decide names, where the platform is a type.
-fn run_why_on<E: Platform, F: Files, A: Allocator + Copy, R: Read, W: Write>(
-    alloc: A,
-    files: &F,
-    given: Line<'_, '_>,
-    max: usize,
-    reader: &mut Marked<R>,
-    writer: &mut Marked<W>,
-) -> Result<(), Fault>
-    requires reader_unmarked { has_failed reader.old ≡ false }
-    requires writer_unmarked { has_failed writer.old ≡ false }
-    ensures run { Did R.remaining W.contents (UnlessOutOfMemory
-        (RunsWhyOn (F.known files.now) A given.now ⟦<E as Platform>⟧ max))
-        reader.old reader.new writer.old writer.new result }
-    ensures ends { BlamesEnds result (has_failed reader.new) (has_failed writer.new) }
-{
-    match values(alloc, given, NamesOption::Ignore) {
-        Ok(names) => run_reasons::<E, F, A, R, W>(alloc, files, &names, max, reader, writer),
-        Err(_) => Err(Fault::List(ListFault::Run(Failure::Memory))),
-    }
-}
-
-/// Returns the result for the lines of ignore files that decide names. The files are read once.
-fn run_reasons<E: Platform, F: Files, A: Allocator + Copy, R: Read, W: Write>(
-    alloc: A,
-    files: &F,
-    values: &[&str],
-    max: usize,
-    reader: &mut Marked<R>,
-    writer: &mut Marked<W>,
-) -> Result<(), Fault>
-    requires reader_unmarked { has_failed reader.old ≡ false }
-    requires writer_unmarked { has_failed writer.old ≡ false }
-    ensures run { Did R.remaining W.contents (UnlessOutOfMemory
-        (RunsReasons (F.known files.now) A ⟦<E as Platform>⟧ max (map text_of values.now)))
-        reader.old reader.new writer.old writer.new result }
-    ensures ends { BlamesEnds result (has_failed reader.new) (has_failed writer.new) }
-{
-    match read_ignore(alloc, files, values) {
-        Ok(ignore) => {
-            let reasons = Reasons {
-                values,
-                ignore: &ignore,
-                max,
-                platform: PhantomData::<E>,
-            };
-            run_list(alloc, &reasons, reader, writer)
-        }
-        Err(fault) => Err(fault),
     }
 }
 

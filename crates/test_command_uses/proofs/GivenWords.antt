@@ -1,4 +1,4 @@
--- How the arguments that filter names by one ignore file are read, and that they are read in no other way.
+-- How the arguments that state a command for names of Unix and one ignore file are read, and that they are read in no other way.
 use Rattle.std.proofs.Common.{◌≡◌, ◌≢◌, ◌⊎◌, inl, inr, ℕ, ◌+◌, ◌<◌, Bool, true, false, List, [], ◌∷◌, ◌++◌, length, get_or, refl, sym, ap, ◌∙◌, subst, arith, Option, Some, None, Result, Ok, Err}
 use Rattle.std.specs.Prelude.{codes}
 use Rattle.std.specs.Str.{IsUtf8}
@@ -13,11 +13,13 @@ use Rattle.os_args.specs.Reading.{Fault, Reading, StartsWithDashes, TakesNone, T
 use Rattle.program_frame.specs.Arguments.{AreGiven, FailsAt, HasFault, IsOption, IsUnknown, LacksItsValue, Takes, TakesAll}
 use Rattle.program_frame.specs.declared.arguments.Given.{Given}
 use Rattle.program_frame.specs.declared.arguments.Given.TheVariants.{Operand, Flag, Valued}
-use Rattle.names_commands.specs.Command.{Line}
+use Rattle.names_commands.specs.Command.{Line, name_word}
 use Rattle.names_commands.specs.Options.{has_value, name_of, spelled}
+use Rattle.names_commands.specs.declared.command.Name.{Name}
+use Rattle.names_commands.specs.declared.command.Name.TheVariants as name
 use Rattle.names_commands.specs.declared.option.NamesOption.{NamesOption}
 use Rattle.names_commands.specs.declared.option.NamesOption.TheVariants as option
-use Rattle.test_command_uses.specs.OneFile.{filtering}
+use Rattle.test_command_uses.specs.OneFile.{asking}
 
 ascii_text : (s : List ℕ) → AllByRecursion (λ b. b < 0x80) s → IsUtf8 s
 ascii_text s h = IsUtf8-from_ascii s (IsAscii-from_all s (All-from_recursion (λ b. b < 0x80) s h))
@@ -78,10 +80,10 @@ OneWord = (before : Reading) → (one other : Result (Option Kind) Fault) → (a
 abbrev pub OneValue : Type 0
 OneValue = (before : Reading) → (one other : Result (List ℕ) Fault) → (after left : Reading) → TakesValue before one after → TakesValue before other left → (one ≡ other) × (after ≡ left)
 
-module _ (file : List ℕ) where
+module _ (command : Name) (file : List ℕ) where
   -- so many arguments are read, and this was the last option
   abbrev at : ℕ → Option Kind → Reading
-  at index last = record { given = filtering file; index = index; pending = []; ended = false; numbers = false; last = last }
+  at index last = record { given = asking command file; index = index; pending = []; ended = false; numbers = false; last = last }
 
   abbrev ignoring : Option Kind
   ignoring = Some (Long (codes "ignore"))
@@ -103,9 +105,6 @@ module _ (file : List ℕ) where
     read = inr (inr (record { value = refl; whole = refl; operand = inr (inl (no_dash c w differs)) }));
     same = refl;
   })
-
-  command_next : TakesWord (at 0 None) (Ok (Some (Value (codes "filter")))) (at 1 None)
-  command_next = operand_next 0 102 (codes "ilter") (codes "unix" ∷ codes "--ignore" ∷ file ∷ []) refl (omega arith)
 
   platform_next : TakesWord (at 1 None) (Ok (Some (Value (codes "unix")))) (at 2 None)
   platform_next = operand_next 1 117 (codes "nix") (codes "--ignore" ∷ file ∷ []) refl (omega arith)
@@ -139,13 +138,21 @@ module _ (file : List ℕ) where
   end_next : TakesWord (at 4 ignoring) (Ok None) (at 4 ignoring)
   end_next = record { none_pending = refl; skips = inr (end_no_dashes, refl); none_left = refl }
 
+-- the command is the first operand
+command_next : (command : Name) (file : List ℕ) → TakesWord (at command file 0 None) (Ok (Some (Value (name_word command)))) (at command file 1 None)
+command_next name.List file = operand_next name.List file 0 108 (codes "ist") (codes "unix" ∷ codes "--ignore" ∷ file ∷ []) refl (omega arith)
+command_next name.Filter file = operand_next name.Filter file 0 102 (codes "ilter") (codes "unix" ∷ codes "--ignore" ∷ file ∷ []) refl (omega arith)
+command_next name.Why file = operand_next name.Why file 0 119 (codes "hy") (codes "unix" ∷ codes "--ignore" ∷ file ∷ []) refl (omega arith)
+command_next name.Join file = operand_next name.Join file 0 106 (codes "oin") (codes "unix" ∷ codes "--ignore" ∷ file ∷ []) refl (omega arith)
+command_next name.Check file = operand_next name.Check file 0 99 (codes "heck") (codes "unix" ∷ codes "--ignore" ∷ file ∷ []) refl (omega arith)
+
 -- two operands, the command and the platform, and the option with its file
-pub record AreFiltering (file : List ℕ) (given : Line) : Type 0 where
+pub record AreAsking (which : Name) (file : List ℕ) (given : Line) : Type 0 where
   pub command : Bor (List ℕ)
   pub platform : Bor (List ℕ)
   pub value : Bor (List ℕ)
   pub given_are : given ≡ Operand command ∷ Operand platform ∷ Valued option.Ignore value ∷ []
-  pub command_is : command.now ≡ codes "filter"
+  pub command_is : command.now ≡ name_word which
   pub platform_is : platform.now ≡ codes "unix"
   pub value_is : value.now ≡ file
 
@@ -223,53 +230,53 @@ module _ (one_word : OneWord) (one_value : OneValue) where
     none_taken (Flag it) after t = no_end end t.1.1
     none_taken (Valued it value) after t = no_end end t.2.1.0
 
-  module _ (file : List ℕ) where
+  module _ (which : Name) (file : List ℕ) where
     -- the arguments have no fault
-    pub no_fault_of : (fault : Fault) → ¬ (HasFault spelled has_value (filtering file) fault)
+    pub no_fault_of : (fault : Fault) → ¬ (HasFault spelled has_value (asking which file) fault)
     no_fault_of fault h = first h.given h.are
       where
-        fourth : (given : Line) → TakesAll spelled has_value (at file 4 (ignoring file)) given h.at → ⊥
-        fourth [] t = end_fails (at file 4 (ignoring file)) (end_next file) fault (subst (λ r. FailsAt spelled has_value r fault) t h.fails)
-        fourth (one ∷ given) t = none_taken (at file 4 (ignoring file)) (end_next file) one t.0 t.1
+        fourth : (given : Line) → TakesAll spelled has_value (at which file 4 (ignoring which file)) given h.at → ⊥
+        fourth [] t = end_fails (at which file 4 (ignoring which file)) (end_next which file) fault (subst (λ r. FailsAt spelled has_value r fault) t h.fails)
+        fourth (one ∷ given) t = none_taken (at which file 4 (ignoring which file)) (end_next which file) one t.0 t.1
 
-        third : (given : Line) → TakesAll spelled has_value (at file 2 None) given h.at → ⊥
-        third [] t = option_fails (at file 2 None) (at file 3 (ignoring file)) (at file 4 (ignoring file)) file (option_next file) (file_next file) fault (subst (λ r. FailsAt spelled has_value r fault) t h.fails)
-        third (one ∷ given) t = fourth given (subst (λ r. TakesAll spelled has_value r given h.at) (option_taken (at file 2 None) (at file 3 (ignoring file)) (at file 4 (ignoring file)) file (option_next file) (file_next file) one t.0 t.1).1.1.1 t.2)
+        third : (given : Line) → TakesAll spelled has_value (at which file 2 None) given h.at → ⊥
+        third [] t = option_fails (at which file 2 None) (at which file 3 (ignoring which file)) (at which file 4 (ignoring which file)) file (option_next which file) (file_next which file) fault (subst (λ r. FailsAt spelled has_value r fault) t h.fails)
+        third (one ∷ given) t = fourth given (subst (λ r. TakesAll spelled has_value r given h.at) (option_taken (at which file 2 None) (at which file 3 (ignoring which file)) (at which file 4 (ignoring which file)) file (option_next which file) (file_next which file) one t.0 t.1).1.1.1 t.2)
 
-        second_one : (given : Line) → TakesAll spelled has_value (at file 1 None) given h.at → ⊥
-        second_one [] t = operand_fails (at file 1 None) (at file 2 None) (codes "unix") (platform_next file) fault (subst (λ r. FailsAt spelled has_value r fault) t h.fails)
-        second_one (one ∷ given) t = third given (subst (λ r. TakesAll spelled has_value r given h.at) (operand_taken (at file 1 None) (at file 2 None) (codes "unix") (platform_next file) one t.0 t.1).1.1.1 t.2)
+        second_one : (given : Line) → TakesAll spelled has_value (at which file 1 None) given h.at → ⊥
+        second_one [] t = operand_fails (at which file 1 None) (at which file 2 None) (codes "unix") (platform_next which file) fault (subst (λ r. FailsAt spelled has_value r fault) t h.fails)
+        second_one (one ∷ given) t = third given (subst (λ r. TakesAll spelled has_value r given h.at) (operand_taken (at which file 1 None) (at which file 2 None) (codes "unix") (platform_next which file) one t.0 t.1).1.1.1 t.2)
 
-        first : (given : Line) → TakesAll spelled has_value (at file 0 None) given h.at → ⊥
-        first [] t = operand_fails (at file 0 None) (at file 1 None) (codes "filter") (command_next file) fault (subst (λ r. FailsAt spelled has_value r fault) t h.fails)
-        first (one ∷ given) t = second_one given (subst (λ r. TakesAll spelled has_value r given h.at) (operand_taken (at file 0 None) (at file 1 None) (codes "filter") (command_next file) one t.0 t.1).1.1.1 t.2)
+        first : (given : Line) → TakesAll spelled has_value (at which file 0 None) given h.at → ⊥
+        first [] t = operand_fails (at which file 0 None) (at which file 1 None) (name_word which) (command_next which file) fault (subst (λ r. FailsAt spelled has_value r fault) t h.fails)
+        first (one ∷ given) t = second_one given (subst (λ r. TakesAll spelled has_value r given h.at) (operand_taken (at which file 0 None) (at which file 1 None) (name_word which) (command_next which file) one t.0 t.1).1.1.1 t.2)
 
   -- the arguments are read so
-  module _ (file : List ℕ) (read after : Reading) (end : TakesWord read (Ok None) after) where
-    last : (command platform value : Bor (List ℕ)) → command.now ≡ codes "filter" → platform.now ≡ codes "unix" → value.now ≡ file → (rest : Line) → TakesAll spelled has_value (at file 4 (ignoring file)) rest read → AreFiltering file (Operand command ∷ Operand platform ∷ Valued option.Ignore value ∷ rest)
+  module _ (which : Name) (file : List ℕ) (read after : Reading) (end : TakesWord read (Ok None) after) where
+    last : (command platform value : Bor (List ℕ)) → command.now ≡ name_word which → platform.now ≡ codes "unix" → value.now ≡ file → (rest : Line) → TakesAll spelled has_value (at which file 4 (ignoring which file)) rest read → AreAsking which file (Operand command ∷ Operand platform ∷ Valued option.Ignore value ∷ rest)
     last command platform value c p v [] t = record { command = command; platform = platform; value = value; given_are = refl; command_is = c; platform_is = p; value_is = v }
-    last command platform value c p v (one ∷ rest) t = absurd (none_taken (at file 4 (ignoring file)) (end_next file) one t.0 t.1)
+    last command platform value c p v (one ∷ rest) t = absurd (none_taken (at which file 4 (ignoring which file)) (end_next which file) one t.0 t.1)
 
-    third : (command platform : Bor (List ℕ)) → command.now ≡ codes "filter" → platform.now ≡ codes "unix" → (rest : Line) → TakesAll spelled has_value (at file 2 None) rest read → AreFiltering file (Operand command ∷ Operand platform ∷ rest)
-    third command platform c p [] t = absurd (no_end (subst (λ r. TakesWord r (Ok None) after) t end) (option_next file))
+    third : (command platform : Bor (List ℕ)) → command.now ≡ name_word which → platform.now ≡ codes "unix" → (rest : Line) → TakesAll spelled has_value (at which file 2 None) rest read → AreAsking which file (Operand command ∷ Operand platform ∷ rest)
+    third command platform c p [] t = absurd (no_end (subst (λ r. TakesWord r (Ok None) after) t end) (option_next which file))
     third command platform c p (one ∷ rest) t =
-        let it = option_taken (at file 2 None) (at file 3 (ignoring file)) (at file 4 (ignoring file)) file (option_next file) (file_next file) one t.0 t.1 in
-        subst (λ x. AreFiltering file (Operand command ∷ Operand platform ∷ x ∷ rest)) (sym it.1.0)
+        let it = option_taken (at which file 2 None) (at which file 3 (ignoring which file)) (at which file 4 (ignoring which file)) file (option_next which file) (file_next which file) one t.0 t.1 in
+        subst (λ x. AreAsking which file (Operand command ∷ Operand platform ∷ x ∷ rest)) (sym it.1.0)
         (last command platform it.0 c p it.1.1.0 rest (subst (λ r. TakesAll spelled has_value r rest read) it.1.1.1 t.2))
 
-    second_one : (command : Bor (List ℕ)) → command.now ≡ codes "filter" → (rest : Line) → TakesAll spelled has_value (at file 1 None) rest read → AreFiltering file (Operand command ∷ rest)
-    second_one command c [] t = absurd (no_end (subst (λ r. TakesWord r (Ok None) after) t end) (platform_next file))
+    second_one : (command : Bor (List ℕ)) → command.now ≡ name_word which → (rest : Line) → TakesAll spelled has_value (at which file 1 None) rest read → AreAsking which file (Operand command ∷ rest)
+    second_one command c [] t = absurd (no_end (subst (λ r. TakesWord r (Ok None) after) t end) (platform_next which file))
     second_one command c (one ∷ rest) t =
-        let it = operand_taken (at file 1 None) (at file 2 None) (codes "unix") (platform_next file) one t.0 t.1 in
-        subst (λ x. AreFiltering file (Operand command ∷ x ∷ rest)) (sym it.1.0)
+        let it = operand_taken (at which file 1 None) (at which file 2 None) (codes "unix") (platform_next which file) one t.0 t.1 in
+        subst (λ x. AreAsking which file (Operand command ∷ x ∷ rest)) (sym it.1.0)
         (third command it.0 c it.1.1.0 rest (subst (λ r. TakesAll spelled has_value r rest read) it.1.1.1 t.2))
 
-    first : (given : Line) → TakesAll spelled has_value (at file 0 None) given read → AreFiltering file given
-    first [] t = absurd (no_end (subst (λ r. TakesWord r (Ok None) after) t end) (command_next file))
+    first : (given : Line) → TakesAll spelled has_value (at which file 0 None) given read → AreAsking which file given
+    first [] t = absurd (no_end (subst (λ r. TakesWord r (Ok None) after) t end) (command_next which file))
     first (one ∷ rest) t =
-        let it = operand_taken (at file 0 None) (at file 1 None) (codes "filter") (command_next file) one t.0 t.1 in
-        subst (λ x. AreFiltering file (x ∷ rest)) (sym it.1.0)
+        let it = operand_taken (at which file 0 None) (at which file 1 None) (name_word which) (command_next which file) one t.0 t.1 in
+        subst (λ x. AreAsking which file (x ∷ rest)) (sym it.1.0)
         (second_one it.0 it.1.1.0 rest (subst (λ r. TakesAll spelled has_value r rest read) it.1.1.1 t.2))
 
-  pub are_filtering : (file : List ℕ) (given : Line) → AreGiven spelled has_value (filtering file) given → AreFiltering file given
-  are_filtering file given g = first file g.read g.after g.end given g.are
+  pub are_asking : (which : Name) (file : List ℕ) (given : Line) → AreGiven spelled has_value (asking which file) given → AreAsking which file given
+  are_asking which file given g = first which file g.read g.after g.end given g.are

@@ -1,4 +1,4 @@
--- What the program does for the words that filter names by one ignore file.
+-- What the program does for the words that filter names by one ignore file, or ask which of its lines decide names.
 use Rattle.std.proofs.Common.{◌≡◌, ◌≢◌, ◌⊎◌, inl, inr, ℕ, List, [], ◌∷◌, ◌++◌, ◌+◌, Bool, true, false, ◌↔◌, length, map, get_or, refl, sym, ap, ◌∙◌, subst, arith, Option, Some, None, Result, Ok, Err}
 use Rattle.std.specs.Prelude.{codes, IsTrue, OnOk, ⊤}
 use Rattle.std.specs.List.{AllByRecursion}
@@ -45,13 +45,13 @@ use Rattle.os_args.specs.Views.{fault_of}
 use Rattle.program_frame.specs.Arguments.{AreGiven, AreValues, HasOption, LastValue}
 use Rattle.program_frame.specs.declared.arguments.Given.TheVariants.{Operand, Valued}
 use Rattle.test_command_uses.specs.OneFile.{only, filtering, IsFilteredBy, IsUnread}
-use Rattle.test_command_uses.proofs.GivenWords.{OneValue, OneWord, are_filtering, no_fault_of}
+use Rattle.test_command_uses.proofs.GivenWords.{OneValue, OneWord, are_asking, no_fault_of}
 use Rattle.test_command_uses.proofs.KnownNames.{known_filtered}
 
-first : {x y : List ℕ} {xs ys : List (List ℕ)} → x ∷ xs ≡ y ∷ ys → x ≡ y
+pub first : {x y : List ℕ} {xs ys : List (List ℕ)} → x ∷ xs ≡ y ∷ ys → x ≡ y
 first e = cc
 
-later : {x y : List ℕ} {xs ys : List (List ℕ)} → x ∷ xs ≡ y ∷ ys → xs ≡ ys
+pub later : {x y : List ℕ} {xs ys : List (List ℕ)} → x ∷ xs ≡ y ∷ ys → xs ≡ ys
 later e = cc
 
 not_list : codes "filter" ≡ codes "list" → ⊥
@@ -60,7 +60,7 @@ not_list e =
     let no : 102 ≢ 108 = omega arith in
     no n
 
-not_why : codes "filter" ≡ codes "why" → ⊥
+pub not_why : codes "filter" ≡ codes "why" → ⊥
 not_why e =
     let n : 102 ≡ 119 = ap (λ l. get_or l 0 0) e in
     let no : 102 ≢ 119 = omega arith in
@@ -78,13 +78,13 @@ not_check e =
     let no : 102 ≢ 99 = omega arith in
     no n
 
-not_windows : codes "unix" ≡ codes "windows" → ⊥
+pub not_windows : codes "unix" ≡ codes "windows" → ⊥
 not_windows e =
     let n : 117 ≡ 119 = ap (λ l. get_or l 0 0) e in
     let no : 117 ≢ 119 = omega arith in
     no n
 
-not_wasm : codes "unix" ≡ codes "wasm" → ⊥
+pub not_wasm : codes "unix" ≡ codes "wasm" → ⊥
 not_wasm e =
     let n : 117 ≡ 119 = ap (λ l. get_or l 0 0) e in
     let no : 117 ≢ 119 = omega arith in
@@ -101,10 +101,10 @@ one_before word name (x ∷ y ∷ before) after e = let never : [] ≡ y ∷ (be
 
 -- the file is the only one that the options state, and there is no pattern
 module _ (command platform value : Bor (List ℕ)) where
-  abbrev given_of : Line
+  abbrev pub given_of : Line
   given_of = Operand command ∷ Operand platform ∷ Valued option.Ignore value ∷ []
 
-  one_file : (files : List (List ℕ)) → AreValues option.Ignore given_of files → files ≡ value.now ∷ []
+  pub one_file : (files : List (List ℕ)) → AreValues option.Ignore given_of files → files ≡ value.now ∷ []
   one_file files (inl k) = absurd k.2.0
   one_file files (inr k) = by k.1
     where
@@ -128,7 +128,7 @@ module _ (command platform value : Bor (List ℕ)) where
       by (inl k) = absurd k.2.0
       by (inr k) = last k.1
 
-  no_limit : LastValue option.Max given_of None None
+  pub no_limit : LastValue option.Max given_of None None
   no_limit = inr (λ v h. h, inr (λ v h. h, inr (λ v h. let never : option.Ignore ≡ option.Max = h.0 in cc, refl)))
 
   other_limit : (number : List ℕ) → ¬ (LastValue option.Max given_of None (Some number))
@@ -143,17 +143,17 @@ module _ (command platform value : Bor (List ℕ)) where
       by (inl k) = k.1.0
       by (inr k) = last k.1
 
-  usual_max : (max : ℕ) → IsMax given_of max → max ≡ 1048576
+  pub usual_max : (max : ℕ) → IsMax given_of max → max ≡ 1048576
   usual_max max (inl m) = m.1
   usual_max max (inr m) = absurd (other_limit m.0 m.1.0)
 
-  no_help : ¬ (HasOption option.Help given_of)
+  pub no_help : ¬ (HasOption option.Help given_of)
   no_help (inl h) = h
   no_help (inr (inl h)) = h
   no_help (inr (inr (inl h))) = let never : option.Ignore ≡ option.Help = h in cc
   no_help (inr (inr (inr h))) = h
 
-  no_version : ¬ (HasOption option.Version given_of)
+  pub no_version : ¬ (HasOption option.Version given_of)
   no_version (inl h) = h
   no_version (inr (inl h)) = h
   no_version (inr (inr (inl h))) = let never : option.Ignore ≡ option.Version = h in cc
@@ -179,9 +179,9 @@ module _ (known : KnownFiles) (A : Type 0) (file : List ℕ) (input left old new
   no_fault (x ∷ before) after text e = let never : [] ≡ x ∷ (before ++ text ∷ after) = e in cc
 
   -- no pattern has a fault where there is none
-  ran : (plan : Plan) → plan.os ≡ Unix → plan.form ≡ Name → plan.max ≡ 1048576 → plan.pick.inverted ≡ false → RunsPatterns known A (strings Unix) plan [] (file ∷ []) input left old new answer → Filters
-  ran plan os form max kept (inl fault) = absurd (no_fault fault.2.before fault.2.after fault.2.text fault.2.joined)
-  ran plan os form max kept (inr compiled) =
+  ran : (plan : Plan) (plain : ℕ) → plan.os ≡ Unix → plan.form ≡ Name → plan.max ≡ 1048576 → plan.pick.inverted ≡ false → RunsPatterns known A (strings Unix) plan plain [] (file ∷ []) input left old new answer → Filters
+  ran plan plain os form max kept (inl fault) = absurd (no_fault fault.2.before fault.2.after fault.2.text fault.2.joined)
+  ran plan plain os form max kept (inr compiled) =
       let runs = subst (λ w. RunsBut known A (strings Unix) plan.form plan.max plan.pick.inverted (IsChosen (strings Unix) (options_of plan.os) w) (file ∷ []) input left old new answer) compiled.1 compiled.2 in
       inr (subst (λ o. RunsBut known A (strings Unix) Name 1048576 false (IsChosen (strings Unix) (options_of o) []) (file ∷ []) input left old new answer) os
       (subst (λ f. RunsBut known A (strings Unix) f 1048576 false (IsChosen (strings Unix) (options_of plan.os) []) (file ∷ []) input left old new answer) form
@@ -195,17 +195,18 @@ module _ (known : KnownFiles) (A : Type 0) (file : List ℕ) (input left old new
     picked : (pick : Pick) (max : ℕ) → max ≡ 1048576 → glob_words pick.glob ≡ [] → pick.inverted ≡ false → RunsPlan known A given (record { os = Unix; form = Name; pick = pick; max = max }) input left old new answer → Filters
     picked pick max usual none kept (inl memory) = inl memory
     picked pick max usual none kept (inr chose) =
-        let globs = chose.0 in
-        let names = chose.1 in
-        let patterns = chose.2.0 in
+        let plain = chose.0 in
+        let globs = chose.1 in
+        let names = chose.2 in
+        let patterns = chose.3.0 in
         let more : patterns.0 ≡ [] = no_values command platform value option.Glob (λ e. cc) patterns.0 patterns.2.0 in
         let of_names : patterns.1 ≡ [] = no_values command platform value option.Name (λ e. cc) patterns.1 patterns.2.1.0 in
-        let globs_are : globs ≡ [] = patterns.2.1.1 ∙ ap (λ x. (x ++ patterns.0) ++ map in_any_folder patterns.1) none ∙ ap (λ x. x ++ map in_any_folder patterns.1) more ∙ ap (map in_any_folder) of_names in
-        let names_are : names ≡ file ∷ [] = one_file command platform value names chose.2.1 ∙ ap (λ x. x ∷ []) is_file in
+        let globs_are : globs ≡ [] = patterns.2.1.1.0 ∙ ap (λ x. (x ++ patterns.0) ++ map in_any_folder patterns.1) none ∙ ap (λ x. x ++ map in_any_folder patterns.1) more ∙ ap (map in_any_folder) of_names in
+        let names_are : names ≡ file ∷ [] = one_file command platform value names chose.3.1 ∙ ap (λ x. x ∷ []) is_file in
         let plan : Plan = record { os = Unix; form = Name; pick = pick; max = max } in
-        ran plan refl refl usual kept
-        (subst (λ x. RunsPatterns known A (strings Unix) plan [] x input left old new answer) names_are
-        (subst (λ x. RunsPatterns known A (strings Unix) plan x names input left old new answer) globs_are chose.3))
+        ran plan plain refl refl usual kept
+        (subst (λ x. RunsPatterns known A (strings Unix) plan plain [] x input left old new answer) names_are
+        (subst (λ x. RunsPatterns known A (strings Unix) plan plain x names input left old new answer) globs_are chose.4))
 
     -- the operands are those of one command
     operands : HasOperands given name.Filter Unix []
@@ -255,22 +256,22 @@ filters one_word one_value known A file words input left old new answer are runs
   where
     line : (given : Line) → AreGiven spelled has_value (filtering file) given → RunsLine known A given input left old new answer → Filters known A file input left old new answer
     line given read runs =
-        let is = are_filtering one_word one_value file given read in
+        let is = are_asking one_word one_value name.Filter file given read in
         of_line known A file input left old new answer is.command is.platform is.value is.command_is is.platform_is is.value_is (subst (λ g. RunsLine known A g input left old new answer) is.given_are runs)
 
     by : RunsTo known A (filtering file) input left old new answer → Filters known A file input left old new answer
     by (inl memory) = inl memory
-    by (inr (inl refused)) = absurd (no_fault_of one_word one_value file (fault_of refused.0) refused.2.0.0)
+    by (inr (inl refused)) = absurd (no_fault_of one_word one_value name.Filter file (fault_of refused.0) refused.2.0.0)
     by (inr (inr does)) = line does.0 does.1.0 does.1.1
 
 -- a value without `=` is the name of a file at the top
-at_top : (value directory name : List ℕ) → Lacks 0x3D value → IsFileIn value directory name → (directory ≡ []) × (name ≡ value)
+pub at_top : (value directory name : List ℕ) → Lacks 0x3D value → IsFileIn value directory name → (directory ≡ []) × (name ≡ value)
 at_top value directory name lacks (inl plain) = plain.1
 at_top value directory name lacks (inr placed) = absurd (has_end 0x3D value placed.0 name placed.1.0 lacks)
 
 -- the file that was read is the only one
 module _ {A : Type 0} (name bytes : List ℕ) where
-  only_read : (files : List (File A)) → Lacks 0x3D name → AreRead (only name bytes) (name ∷ []) files → IsOnly bytes files
+  pub only_read : (files : List (File A)) → Lacks 0x3D name → AreRead (only name bytes) (name ∷ []) files → IsOnly bytes files
   only_read files plain r = by r.reads r.values_are r.have r.added
     where
       one : (directory content : List ℕ) → directory ≡ [] → content ≡ bytes → (mid : List (File A)) → IsAdded directory content [] mid → files ≡ mid → IsOnly bytes files
@@ -338,7 +339,7 @@ module _ (A : Type 0) (file bytes other : List ℕ) (plain : Lacks 0x3D other) (
   by_fault : (why : CommandFault) → IsFileFault (only file bytes) A (other ∷ []) why → EndsAtOnce (Words why) input left old new answer → EndsUnread input left old new answer
   by_fault Unreadable f ends = absurd f
   by_fault (Misuse text) f ends = absurd f
-  by_fault (Pattern number fault) f ends = absurd f
+  by_fault (Pattern number fault lines) f ends = absurd f
   by_fault (NoFile number) f ends = record { fault = inl (inl (ends.0 ∙ ap (λ n. Err (Words (NoFile n))) (number_one number f.0 f.1))); kept = ends.1.0; nothing = ends.1.1 }
   by_fault (Unread number) f ends = record { fault = inl (inr (ends.0 ∙ ap (λ n. Err (Words (Unread n))) (number_one number f.0 f.1))); kept = ends.1.0; nothing = ends.1.1 }
 

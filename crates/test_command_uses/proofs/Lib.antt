@@ -2,5 +2,6 @@ pub mod GivenWords
 pub mod KnownIgnore
 pub mod KnownNames
 pub mod KnownPaths
+pub mod KnownWhy
 pub mod Requested
 pub mod TurnsEnded

@@ -1,13 +1,19 @@
 -- What the program `names` does where there is one file.
-use Rattle.std.specs.Prelude.{◌≡◌, ◌≢◌, ◌⊎◌, ℕ, List, [], ◌∷◌, ◌++◌, codes, Result, Err, ⊤}
-use Rattle.os_ignore.specs.Ignores.{IsOnly}
+use Rattle.std.specs.Prelude.{◌≡◌, ◌≢◌, ◌⊎◌, ℕ, List, [], ◌∷◌, ◌++◌, codes, Option, None, Some, Result, Err, ⊤}
+use Rattle.os_ignore.specs.Ignores.{HasText, IsOnly}
 use Rattle.os_ignore.specs.declared.file.File.{File}
+use Rattle.os_quote.specs.Escape.{IsLineEscape}
+use Rattle.os_str_bytes.specs.UnixPlatform.TheImpl as unix
 use Rattle.program_frame.specs.Files.{KnownFiles}
 use Rattle.program_frame.specs.declared.fault.Failure.TheVariants.{Memory}
 use Rattle.program_frame.specs.declared.lists.fault.ListFault.TheVariants.{Run}
 use Rattle.program_frame.specs.declared.lists.program_fault.Fault.TheVariants.{List as OfList, Words}
+use Rattle.names_commands.specs.Command.{name_word}
 use Rattle.names_commands.specs.Ignoring.{IsIgnored}
 use Rattle.names_commands.specs.Program.{Fault}
+use Rattle.names_commands.specs.Why.{IsDecided, place_text}
+use Rattle.names_commands.specs.declared.command.Name.{Name}
+use Rattle.names_commands.specs.declared.command.Name.TheVariants.{Filter, Why}
 use Rattle.names_commands.specs.declared.fault.CommandFault.TheVariants.{NoFile, Unread}
 
 -- there is one file, of this name and with these bytes
@@ -17,9 +23,17 @@ only name bytes = record {
   lacks = λ other. other ≢ name;
 }
 
--- the words that filter names of Unix by the ignore file of this name
+-- the words of this command for names of Unix, with the ignore file of this name
+abbrev pub asking : Name → List ℕ → List (List ℕ)
+asking command file = name_word command ∷ codes "unix" ∷ codes "--ignore" ∷ file ∷ []
+
+-- the words that filter names by it
 abbrev pub filtering : List ℕ → List (List ℕ)
-filtering file = codes "filter" ∷ codes "unix" ∷ codes "--ignore" ∷ file ∷ []
+filtering file = asking Filter file
+
+-- the words that request the line of it that decides a name
+abbrev pub explaining : List ℕ → List (List ℕ)
+explaining file = asking Why file
 
 -- nothing is written for the name if the lines of an ignore file with this content ignore it, and else the name and NUL
 pub record IsFilteredBy (A : Type 0) (content name text : List ℕ) : Type 0 where
@@ -27,6 +41,19 @@ pub record IsFilteredBy (A : Type 0) (content name text : List ℕ) : Type 0 whe
   pub only : IsOnly content files
   pub ignored : IsIgnored files name → text ≡ []
   pub kept : ¬ (IsIgnored files name) → text ≡ name ++ 0 ∷ []
+
+-- where the file of this name decides the name by this line of it, or by none: the text is the file's name, a colon, the line's number, a colon, the line's text, a tab, and the escape of the name on the same line, or it is empty
+abbrev pub IsReasonOf : {A : Type 0} → List ℕ → List (File A) → List ℕ → List ℕ → Option (ℕ × ℕ) → Type 0
+IsReasonOf file files name text None = text ≡ []
+IsReasonOf file files name text (Some at) = (pattern : List ℕ) × (escape : List ℕ) × HasText files 0 at.1 pattern × IsLineEscape unix.ghosts.units name escape × (at.0 ≡ 0) × (text ≡ place_text file at.1 pattern ++ (escape ++ codes "\n"))
+
+-- this is written for the name if an ignore file of this name with this content decides names
+pub record IsExplainedBy (A : Type 0) (file content name text : List ℕ) : Type 0 where
+  pub files : List (File A)
+  pub only : IsOnly content files
+  pub numbers : Option (ℕ × ℕ)
+  pub decided : IsDecided files name numbers
+  pub reason : IsReasonOf file files name text numbers
 
 -- the program ends with this result and this status: the first ignore file can't be read, or memory is refused
 abbrev pub IsUnread : Result ⊤ Fault → ℕ → Type 0

@@ -5,7 +5,7 @@ ghost use Rattle.std.specs.Process.{exit_status};
 ghost use Rattle.program_frame.specs.Items.{Lacks};
 ghost use Rattle.program_frame.specs.Marked.{marked_inner, has_failed};
 ghost use Rattle.program_frame.specs.Words.{words_after_name};
-ghost use Rattle.test_command_uses.specs.OneFile.{filtering, IsFilteredBy, IsUnread};
+ghost use Rattle.test_command_uses.specs.OneFile.{explaining, filtering, IsExplainedBy, IsFilteredBy, IsUnread};
 
 use names_commands::fault::Fault;
 use names_commands::program::Names;
@@ -60,6 +60,32 @@ pub fn left_out<A: Allocator + Copy, W: Output, E: Messages>(
     requires some { name.now ≢ [] }
     requires unmarked { has_failed writer.old ≡ false }
     ensures { OnOk result ((text : List ℕ) × (IsFilteredBy A file.entry.bytes.now name.now text
+        × Appends (W.contents (marked_inner writer.old)) (W.contents (marked_inner writer.new))
+        text)) }
+{
+    one_outcome();
+    let mut reader = Marked::new(name);
+    let names = Names::new(file);
+    execute(&names, alloc, Ok(arguments), &mut reader, writer, errors).outcome()
+}
+
+/// Writes which line of the file, which is named on the command line, decides one name: the file's
+/// name, the line with its number, and the name, or nothing where no line decides it.
+pub fn explained<A: Allocator + Copy, W: Output, E: Messages>(
+    alloc: A,
+    file: OneFile<'_>,
+    arguments: Args,
+    name: &[u8],
+    writer: &mut Marked<W>,
+    errors: &mut E,
+) -> Result<(), Fault>
+    requires words { words_after_name arguments ≡ explaining file.name.now }
+    requires plain { Lacks 0x3D file.name.now }
+    requires whole { Lacks 0 name.now }
+    requires some { name.now ≢ [] }
+    requires unmarked { has_failed writer.old ≡ false }
+    ensures { OnOk result ((text : List ℕ)
+        × (IsExplainedBy A file.entry.name.now file.entry.bytes.now name.now text
         × Appends (W.contents (marked_inner writer.old)) (W.contents (marked_inner writer.new))
         text)) }
 {

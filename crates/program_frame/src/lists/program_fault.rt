@@ -43,12 +43,10 @@ pub trait WordsRefusal: Copy {
     /// Writes the reason.
     ///
     /// ```
-    /// use glob_patterns::{FaultKind, PatternFault};
     /// use names_commands::fault::{CommandFault, Fault};
     ///
-    /// let kind = FaultKind::UnclosedClass;
-    /// let fault: Fault = Fault::Words(CommandFault::Pattern(1, PatternFault { kind, index: 7 }));
-    /// assert_eq!(rt; fault.to_string(alloc)?.as_str(), "pattern 1: unclosed class at byte 7");
+    /// let fault: Fault = Fault::Words(CommandFault::NoFile(2));
+    /// assert_eq!(rt; fault.to_string(alloc)?.as_str(), "ignore file 2: no such file");
     /// ```
     fn write<W: fmt::Write>(&self, f: &mut fmt::Formatter<W>) -> fmt::Result
         ensures { WritesStyledOnOk W.write_str_gives f.old result (text_of self.now) f.new };

@@ -1,0 +1,133 @@
+//! What options and operands state: a limit, what picks names, and how they are written.
+ghost use Rattle.std.specs.Prelude.{◌≡◌, ◌↔◌, [], IfOk, IfErr, IsTrue, MatchOption};
+ghost use Rattle.program_frame.specs.Arguments.{HasOption, operands_of};
+ghost use Rattle.names_commands.specs.Command.{HasOperands, IsForm, IsLast, IsMax, IsMaybePick, IsMisuse, IsWordOption, NoWords, OptionsPick, TakesOption, options_of};
+ghost use Rattle.names_commands.specs.Pick.{TakesIgnore};
+ghost use Rattle.names_commands.specs.declared.option.NamesOption.TheVariants.{Glob, Ignore};
+
+use crate::command::{Line, Name};
+use crate::fitting::{ignores, surplus};
+use crate::option::NamesOption;
+use crate::pick::Pick;
+use crate::task::{LastLine, WordForm};
+use glob_patterns::{GlobOptions, Separators};
+use program_frame::arguments::{has, last_value, next_operand};
+use program_frame::misuse::Misuse;
+use program_frame::os::Os;
+
+/// How many bytes a name may have where the arguments state no limit.
+pub(crate) const LONGEST_NAME: usize = 0x10_0000;
+
+/// The limit that options state.
+pub(crate) fn limit<'a>(given: Line<'_, 'a>) -> Result<usize, Misuse<'a>>
+    ensures limit { IfOk result (λ max. IsMax given.entry.now max) }
+    ensures misuse { IfErr result (λ misuse. IsMisuse given.entry.now misuse) }
+{
+    let Some(number) = last_value(given, NamesOption::Max) else {
+        return Ok(LONGEST_NAME);
+    };
+    match number.parse::<usize>() {
+        Ok(max) => Ok(max),
+        Err(_) => Err(Misuse::Invalid("number of bytes", number)),
+    }
+}
+
+/// What picks names, if anything does.
+pub(crate) fn maybe_pick<'a>(
+    given: Line<'_, 'a>,
+    command: Name,
+    os: Os,
+    more: Line<'_, 'a>,
+) -> Result<Option<Pick<'a>>, Misuse<'a>>
+    requires operands { HasOperands given.now command os (operands_of more.now) }
+    requires takes { TakesOption command Glob }
+    ensures pick { IfOk result
+        (λ pick. IsMaybePick given.entry.now os (operands_of more.entry.now) pick) }
+    ensures misuse { IfErr result (λ misuse. IsMisuse given.entry.now misuse) }
+{
+    match ignores(given, os) {
+        Ok(()) => {}
+        Err(misuse) => return Err(misuse),
+    }
+    let Some((glob, rest)) = next_operand(more) else {
+        return options_pick(given, command, os, more);
+    };
+    match next_operand(rest) {
+        Some((word, _)) => Err(Misuse::Argument(surplus(word))),
+        None => {
+            Ok(Some(Pick {
+                glob: Some(glob),
+                inverted: has(given, NamesOption::Invert),
+            }))
+        }
+    }
+}
+
+/// What picks names where no pattern is an operand.
+fn options_pick<'a>(
+    given: Line<'_, 'a>,
+    command: Name,
+    os: Os,
+    more: Line<'_, 'a>,
+) -> Result<Option<Pick<'a>>, Misuse<'a>>
+    requires operands { HasOperands given.now command os (operands_of more.now) }
+    requires none { operands_of more.now ≡ [] }
+    requires ignores { HasOption Ignore given.now → TakesIgnore os }
+    ensures pick { IfOk result
+        (λ pick. IsMaybePick given.entry.now os (operands_of more.entry.now) pick) }
+    ensures misuse { IfErr result (λ misuse. IsMisuse given.entry.now misuse) }
+{
+    let inverted = has(given, NamesOption::Invert);
+    if picks(given) {
+        let glob = None;
+        return Ok(Some(Pick { glob, inverted }));
+    }
+    if inverted {
+        return Err(Misuse::Missing("GLOB, --glob, --name or --ignore"));
+    }
+    Ok(None)
+}
+
+/// Whether an option picks names.
+fn picks(given: Line<'_, '_>) -> bool
+    ensures { IsTrue result ↔ OptionsPick given.entry.now }
+{
+    has(given, NamesOption::Glob)
+        || has(given, NamesOption::Ignore)
+        || has(given, NamesOption::Name)
+}
+
+/// How words of a shell are written, and the option for it.
+pub(crate) fn form_of(given: Line<'_, '_>) -> Option<(WordForm, NamesOption)>
+    ensures { MatchOption result (NoWords given.entry.now)
+        (λ form. IsForm given.entry.now form.0 × IsWordOption given.entry.now form.1) }
+{
+    if has(given, NamesOption::ShLine) {
+        return Some((WordForm::OneLine, NamesOption::ShLine));
+    }
+    if has(given, NamesOption::Sh) {
+        return Some((WordForm::Posix, NamesOption::Sh));
+    }
+    None
+}
+
+/// Whether the last line may lack its newline.
+pub(crate) fn last_line(given: Line<'_, '_>) -> LastLine
+    ensures { IsLast given.entry.now result }
+{
+    if has(given, NamesOption::Unterminated) {
+        LastLine::MayLackEnd
+    } else {
+        LastLine::MustEnd
+    }
+}
+
+/// How a pattern is matched on a platform: `\` is a separator on Windows alone.
+pub(crate) fn options_of(os: Os) -> GlobOptions
+    ensures { result ≡ options_of os }
+{
+    GlobOptions::new(match os {
+        Os::Unix | Os::Wasm => Separators::Slash,
+        Os::Windows => Separators::SlashAndBackslash,
+    })
+}

@@ -1,0 +1,185 @@
+-- What the program does for the words that ask which lines of one ignore file decide names.
+use Rattle.std.proofs.Common.{◌≡◌, ◌≢◌, ◌⊎◌, inl, inr, ℕ, zero, suc, List, [], ◌∷◌, ◌++◌, drop, get_or, refl, sym, ap, ◌∙◌, subst, append-nil, arith, Option, Some, None, Result, Ok, Err}
+use Rattle.std.specs.Prelude.{codes, OnOk, ⊤}
+use Rattle.std.specs.List.{AllByRecursion}
+use Rattle.std.specs.Io.KnownBytes.{Appends}
+use denote.Ref.{Bor}
+use Rattle.os_ignore.specs.Ignores.{HasText}
+use Rattle.os_ignore.specs.declared.file.File.{File}
+use Rattle.program_frame.specs.Files.{KnownFiles}
+use Rattle.program_frame.specs.Items.{Lacks, texts_of}
+use Rattle.program_frame.specs.ListRun.{IsOutput, IsRun, answer_of}
+use Rattle.program_frame.specs.Os.{os_word}
+use Rattle.program_frame.specs.Rules.{IsEntry}
+use Rattle.program_frame.specs.Strings.{strings}
+use Rattle.program_frame.specs.declared.fault.Failure.TheVariants.{Memory}
+use Rattle.program_frame.specs.declared.lists.fault.ListFault.{ListFault}
+use Rattle.program_frame.specs.declared.lists.fault.ListFault.TheVariants.{Run}
+use Rattle.program_frame.specs.declared.lists.program_fault.Fault.TheVariants.{List as OfList}
+use Rattle.program_frame.specs.declared.os.Os.{Os}
+use Rattle.program_frame.specs.declared.os.Os.TheVariants.{Unix, Windows, Wasm}
+use Rattle.names_commands.specs.Command.{AsksFor, HasOperands, IsMax, Line, MakesUp, name_word}
+use Rattle.names_commands.specs.Ignoring.{AreRead}
+use Rattle.names_commands.specs.Options.{has_value, spelled}
+use Rattle.names_commands.specs.Program.{Does, Fault, RejectsLine, RunsLine, RunsReasons, RunsTo, RunsWhy, UnlessOutOfMemory}
+use Rattle.names_commands.specs.Why.{IsDecidedText, IsNameAt, IsTextOfNumbers, deciding, place_text}
+use Rattle.names_commands.specs.declared.command.Command.{Command}
+use Rattle.names_commands.specs.declared.command.Command.TheVariants.{ListNames, ListWords, Filter, Why, Join, JoinWords, Check, Help, Version}
+use Rattle.names_commands.specs.declared.command.Name.{Name as DeclaredName}
+use Rattle.names_commands.specs.declared.command.Name.TheVariants as name
+use Rattle.names_commands.specs.declared.command.Request.{Request}
+use Rattle.names_commands.specs.declared.fault.Refusal.{Refusal}
+use Rattle.names_commands.specs.declared.option.NamesOption.TheVariants as option
+use Rattle.os_args.specs.Views.{fault_of}
+use Rattle.program_frame.specs.Arguments.{AreGiven, HasOption}
+use Rattle.test_command_uses.specs.OneFile.{IsExplainedBy, IsReasonOf, explaining, only}
+use Rattle.test_command_uses.proofs.GivenWords.{OneValue, OneWord, are_asking, no_fault_of}
+use Rattle.test_command_uses.proofs.KnownIgnore.{at_top, first, given_of, later, no_help, no_limit, no_version, not_wasm, not_windows, one_file, only_read, usual_max}
+use Rattle.test_command_uses.proofs.KnownNames.{one_item}
+
+not_list : codes "why" ≡ codes "list" → ⊥
+not_list e =
+    let n : 119 ≡ 108 = ap (λ l. get_or l 0 0) e in
+    let no : 119 ≢ 108 = omega arith in
+    no n
+
+not_filter : codes "why" ≡ codes "filter" → ⊥
+not_filter e =
+    let n : 119 ≡ 102 = ap (λ l. get_or l 0 0) e in
+    let no : 119 ≢ 102 = omega arith in
+    no n
+
+not_join : codes "why" ≡ codes "join" → ⊥
+not_join e =
+    let n : 119 ≡ 106 = ap (λ l. get_or l 0 0) e in
+    let no : 119 ≢ 106 = omega arith in
+    no n
+
+not_check : codes "why" ≡ codes "check" → ⊥
+not_check e =
+    let n : 119 ≡ 99 = ap (λ l. get_or l 0 0) e in
+    let no : 119 ≢ 99 = omega arith in
+    no n
+
+module _ (known : KnownFiles) (A : Type 0) (file : List ℕ) (input left old new : Option (List ℕ)) (answer : Result ⊤ Fault) where
+  -- the line of the file that decides each name is written
+  abbrev pub Explains : Type 0
+  Explains = UnlessOutOfMemory (RunsReasons known A (strings Unix) 1048576 (file ∷ [])) input left old new answer
+
+  module _ (command platform value : Bor (List ℕ)) (is_command : command.now ≡ codes "why") (is_platform : platform.now ≡ codes "unix") (is_file : value.now ≡ file) where
+    abbrev given : Line
+    given = given_of command platform value
+
+    decided : (max : ℕ) → max ≡ 1048576 → RunsWhy known A given Unix max input left old new answer → Explains
+    decided max usual (inl memory) = inl memory
+    decided max usual (inr ran) =
+        let values_are : ran.0 ≡ file ∷ [] = one_file command platform value ran.0 ran.1 ∙ ap (λ x. x ∷ []) is_file in
+        inr (subst (λ m. RunsReasons known A (strings Unix) m (file ∷ []) input left old new answer) usual
+        (subst (λ values. RunsReasons known A (strings Unix) max values input left old new answer) values_are ran.2))
+
+    -- the operands are those of one command
+    operands : HasOperands given name.Why Unix []
+    operands = ap (λ x. x ∷ platform.now ∷ []) is_command ∙ ap (λ x. codes "why" ∷ x ∷ []) is_platform
+
+    is_word : (c : DeclaredName) (os : Os) (more : List (List ℕ)) → HasOperands given c os more → codes "why" ≡ name_word c
+    is_word c os more has = sym is_command ∙ first has
+
+    by_platform : (os : Os) (max : ℕ) → codes "unix" ≡ os_word os → max ≡ 1048576 → RunsWhy known A given os max input left old new answer → Explains
+    by_platform Unix max e usual runs = decided max usual runs
+    by_platform Windows max e usual runs = absurd (not_windows e)
+    by_platform Wasm max e usual runs = absurd (not_wasm e)
+
+    by_command : (command : Command) (max : ℕ) → max ≡ 1048576 → MakesUp given command → Does known A given command max input left old new answer → Explains
+    by_command (ListNames os pick) max usual m does = absurd (not_list (is_word name.List os m.0 m.1.0))
+    by_command (ListWords form pick) max usual m does = absurd (not_list (is_word name.List Unix m.0 m.1.0))
+    by_command (Filter os pick) max usual m does = absurd (not_filter (is_word name.Filter os m.0 m.1.0))
+    by_command (Why os) max usual m does = by_platform os max (sym is_platform ∙ first (later m.0)) usual does
+    by_command (Join os last) max usual m does = absurd (not_join (is_word name.Join os [] m.0))
+    by_command (JoinWords last) max usual m does = absurd (not_join (is_word name.Join Unix [] m.0))
+    by_command (Check os) max usual m does = absurd (not_check (is_word name.Check os [] m.0))
+    by_command Help max usual m does = absurd m
+    by_command Version max usual m does = absurd m
+
+    by_request : (request : Request) → AsksFor given request → Does known A given request.command request.max input left old new answer → Explains
+    by_request request (inl asks) does = absurd (no_help command platform value asks.0)
+    by_request request (inr asks) does = by asks.1
+      where
+        by : ((HasOption option.Version given × (request.command ≡ Version)) ⊎ ((¬ (HasOption option.Version given)) × (IsMax given request.max × MakesUp given request.command))) → Explains
+        by (inl v) = absurd (no_version command platform value v.0)
+        by (inr c) = by_command request.command request.max (usual_max command platform value request.max c.1.0) c.1.1 does
+
+    -- some command has them
+    asked : (request : Request) × AsksFor given request
+    asked = (record { command = Why Unix; max = 1048576 }, inr (no_help command platform value, inr (no_version command platform value, (inl (no_limit command platform value, refl), (operands, ((tt, (tt, (tt, tt))), (inr (inr (inl refl)), tt)))))))
+
+    not_rejected : RejectsLine known A given input left old new answer → ⊥
+    not_rejected r = r.2.0.0.no_request asked.0 asked.1
+
+    of_line : RunsLine known A given input left old new answer → Explains
+    of_line (inl r) = absurd (not_rejected r)
+    of_line (inr does) = by_request does.0 does.1.0 does.1.1
+
+-- what the program does for the words
+explains : OneWord → OneValue → (known : KnownFiles) (A : Type 0) (file : List ℕ) (words : List (List ℕ)) (input left old new : Option (List ℕ)) (answer : Result ⊤ Fault) → words ≡ explaining file → RunsTo known A words input left old new answer → Explains known A file input left old new answer
+explains one_word one_value known A file words input left old new answer are runs = by (subst (λ w. RunsTo known A w input left old new answer) are runs)
+  where
+    line : (given : Line) → AreGiven spelled has_value (explaining file) given → RunsLine known A given input left old new answer → Explains known A file input left old new answer
+    line given read runs =
+        let is = are_asking one_word one_value name.Why file given read in
+        of_line known A file input left old new answer is.command is.platform is.value is.command_is is.platform_is is.value_is (subst (λ g. RunsLine known A g input left old new answer) is.given_are runs)
+
+    by : RunsTo known A (explaining file) input left old new answer → Explains known A file input left old new answer
+    by (inl memory) = inl memory
+    by (inr (inl refused)) = absurd (no_fault_of one_word one_value name.Why file (fault_of refused.0) refused.2.0.0)
+    by (inr (inr does)) = line does.0 does.1.0 does.1.1
+
+drop_none : (n : ℕ) (value : List ℕ) (after : List (List ℕ)) → drop n [] ≡ value ∷ after → ⊥
+drop_none zero value after e = let never : [] ≡ value ∷ after = e in cc
+drop_none (suc n) value after e = let never : [] ≡ value ∷ after = e in cc
+
+-- the only file is the first, and its name is printed
+only_name : (file : List ℕ) → Lacks 0x3D file → (index : ℕ) (file_name : List ℕ) → IsNameAt (file ∷ []) index file_name → (index ≡ 0) × (file_name ≡ file)
+only_name file plain zero file_name at =
+    let same : at.value ≡ file = sym (first at.at) in
+    (refl, (at_top at.value at.directory file_name (subst (Lacks 0x3D) (sym same) plain) at.states).1 ∙ same)
+only_name file plain (suc index) file_name at = absurd (drop_none index at.value at.after at.at)
+
+-- what is written for one name
+module _ (A : Type 0) (file bytes item : List ℕ) (plain : Lacks 0x3D file) (whole : Lacks 0 item) (some : item ≢ []) (left old new : Option (List ℕ)) where
+  reason_of : (files : List (File A)) (text : List ℕ) (numbers : Option (ℕ × ℕ)) → IsTextOfNumbers (strings Unix) (file ∷ []) files item numbers text → IsReasonOf file files item text numbers
+  reason_of files text None is = is
+  reason_of files text (Some at) is =
+      let named = only_name file plain at.0 is.file_name is.file_is in
+      (is.pattern, is.escape, subst (λ n. HasText files n at.1 is.pattern) named.0 is.pattern_is, is.escape_is, named.0, is.text_is ∙ ap (λ f. place_text f at.1 is.pattern ++ (is.escape ++ codes "\n")) named.1)
+
+  known_decided : (files : List (File A)) (output : List ℕ) → IsOutput (deciding (strings Unix) 1048576 (file ∷ []) files) item output → IsDecidedText (strings Unix) (file ∷ []) files item output
+  known_decided files output o =
+      let rules = deciding (strings Unix) 1048576 (file ∷ []) files in
+      let one = one_item rules o.entries item whole some o.items in
+      let entry = (subst (λ es. AllByRecursion (IsEntry rules) es) one.1 o.are).0 in
+      let is : output ≡ one.0 = o.written ∙ ap texts_of one.1 ∙ append-nil one.0 in
+      subst (IsDecidedText (strings Unix) (file ∷ []) files item) (sym is) entry.text.1
+
+  abbrev Written : Result ⊤ Fault → Type 0
+  Written answer = OnOk answer ((text : List ℕ) × (IsExplainedBy A file bytes item text × Appends old new text))
+
+  err_written : (answer : Result ⊤ Fault) (fault : Fault) → answer ≡ Err fault → Written answer
+  err_written answer fault e = subst Written (sym e) tt
+
+  run_written : (files : List (File A)) → AreRead (only file bytes) (file ∷ []) files → (run : Result ⊤ (ListFault Refusal)) → IsRun (deciding (strings Unix) 1048576 (file ∷ []) files) (Some item) left old new run → Written (answer_of OfList run)
+  run_written files read (Err fault) is = tt
+  run_written files read (Ok done) is =
+      let w = is.written in
+      let said = known_decided files w.0 w.1.0 in
+      (w.0, (record { files = files; only = only_read file bytes files plain read; numbers = said.numbers; decided = said.decided; reason = reason_of files w.0 said.numbers said.text_is }, w.1.1))
+
+  written : (answer : Result ⊤ Fault) → Explains (only file bytes) A file (Some item) left old new answer → Written answer
+  written answer (inl memory) = err_written answer _ memory.0
+  written answer (inr (inl unread)) = err_written answer _ unread.2.0
+  written answer (inr (inr ran)) = subst Written (sym ran.2.1.1) (run_written ran.0 ran.1 ran.2.0 ran.2.1.0)
+
+-- what the whole program writes for one name, unless memory is refused before it runs
+module _ (one_word : OneWord) (one_value : OneValue) (A : Type 0) (file bytes item : List ℕ) (plain : Lacks 0x3D file) (whole : Lacks 0 item) (some : item ≢ []) (words : List (List ℕ)) (words_are : words ≡ explaining file) (left old new : Option (List ℕ)) where
+  pub program_explained : {X : Type 0} (outcome answer : Result ⊤ Fault) → answer ≡ outcome → ((outcome ≡ Err (OfList (Run Memory))) × X) ⊎ RunsTo (only file bytes) A words (Some item) left old new outcome → OnOk answer ((text : List ℕ) × (IsExplainedBy A file bytes item text × Appends old new text))
+  program_explained outcome answer e (inl memory) = err_written A file bytes item plain whole some left old new answer _ (e ∙ memory.0)
+  program_explained outcome answer e (inr runs) = subst (Written A file bytes item plain whole some left old new) (sym e) (written A file bytes item plain whole some left old new outcome (explains one_word one_value (only file bytes) A file words (Some item) left old new outcome words_are runs))
