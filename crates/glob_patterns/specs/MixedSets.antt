@@ -1,5 +1,5 @@
 -- Sets of patterns that each have their own options.
-use Rattle.std.specs.Prelude.{◌≡◌, ◌≢◌, ◌⊎◌, ℕ, zero, suc, Bool, List, [], ◌∷◌, map, IsTrue}
+use Rattle.std.specs.Prelude.{◌≡◌, ◌≢◌, ◌⊎◌, ◌↔◌, ℕ, zero, suc, Bool, List, [], ◌∷◌, map, IsTrue}
 use Rattle.std.specs.List.{AllByRecursion, Contains}
 use Rattle.std.specs.List.Sorted.{IsStrictlyIncreasing}
 use Rattle.platform_str.specs.declared.platform.Platform.{Ghosts}
@@ -44,7 +44,7 @@ module _ {A : Type 0} where
   IsSetHit (set ∷ sets) path i = IsHit set.options set.patterns.items path i ⊎ IsSetHit sets path i
 
   -- exactly the indices whose pattern matches in one of the sets
-  pub record FoundInSets (sets : List (PatternSet A)) (path : List ℕ) (found : List ℕ) : Type 0 where
+  pub record FoundInSets (sets : List (PatternSet A)) (path found : List ℕ) : Type 0 where
     pub sound : (i : ℕ) → Contains found i → IsSetHit sets path i
     pub complete : (i : ℕ) → IsSetHit sets path i → Contains found i
 
@@ -59,7 +59,9 @@ module _ (formed : List ℕ → Type 0) (letters : List ℕ → List ℕ) where
     -- the pattern of the text where paths are matched in this way, and else one that matches nothing
     abbrev pub IsPatternAt : Options → Glob → Pattern A → Type 0
     IsPatternAt way glob p =
-        ((options_of glob.0 ≡ way) × IsMeaning formed letters (syntax_of glob.0) glob.1 p.choices.items) ⊎ ((options_of glob.0 ≢ way) × (p.choices.items ≡ []))
+        ((options_of glob.0 ≡ way)
+        × IsMeaning formed letters (syntax_of glob.0) glob.1 p.choices.items)
+        ⊎ ((options_of glob.0 ≢ way) × (p.choices.items ≡ []))
 
     -- these patterns, one by one
     abbrev pub ArePatternsAt : Options → List Glob → List (Pattern A) → Type 0
@@ -73,41 +75,46 @@ module _ (formed : List ℕ → Type 0) (letters : List ℕ → List ℕ) where
       pub each : AllByRecursion (λ set. ArePatternsAt set.options globs set.patterns.items) sets
       pub all : AllByRecursion (λ glob. Has (map way_of sets) (options_of glob.0)) globs
 
-  -- some patterns that the text is written out as match the letters of a path
-  abbrev pub MatchesSome : List ℕ → Glob → Type 0
-  MatchesSome path glob = (written : List (List Mark)) × (AreWrittenOut formed letters (syntax_of glob.0) glob.1 written × MatchesWrittenOut (options_of glob.0) written path)
+  -- the patterns that the text is written out as match the letters of a path: any list of them does, since a text has one meaning
+  abbrev pub MatchesText : List ℕ → Glob → Type 0
+  MatchesText path glob =
+      (written : List (List Mark))
+      × (AreWrittenOut formed letters (syntax_of glob.0) glob.1 written
+      × MatchesWrittenOut (options_of glob.0) written path)
 
-  -- whatever patterns the text is written out as, they do
-  abbrev pub MatchesEach : List ℕ → Glob → Type 0
-  MatchesEach path glob = (written : List (List Mark)) → AreWrittenOut formed letters (syntax_of glob.0) glob.1 written → MatchesWrittenOut (options_of glob.0) written path
-
-  -- whatever texts with options the sets are of: these are the indices of those that match
+  -- these are the indices of the texts that match
   pub record AreGlobMatches (globs : List Glob) (path : List ℕ) (found : List ℕ) : Type 0 where
-    pub sound : (i : ℕ) → Contains found i → IsAt (MatchesSome path) globs i
-    pub complete : (i : ℕ) → IsAt (MatchesEach path) globs i → Contains found i
+    pub sound : (i : ℕ) → Contains found i → IsAt (MatchesText path) globs i
+    pub complete : (i : ℕ) → IsAt (MatchesText path) globs i → Contains found i
 
   module _ {A : Type 0} where
+    -- whatever texts with options the sets are of: these are the indices of those that match
     abbrev pub AreMatchesOfGlobs : List (PatternSet A) → List ℕ → List ℕ → Type 0
-    AreMatchesOfGlobs sets path found = (globs : List Glob) → AreSetsOf globs sets → AreGlobMatches globs path found
+    AreMatchesOfGlobs sets path found =
+        (globs : List Glob) → AreSetsOf globs sets → AreGlobMatches globs path found
 
     -- whatever texts with options the sets are of: one of these matches
     abbrev pub IsMatchOfGlobs : List (PatternSet A) → List ℕ → Bool → Type 0
-    IsMatchOfGlobs sets path result = (globs : List Glob) → AreSetsOf globs sets
-        → (IsTrue result → (i : ℕ) × IsAt (MatchesSome path) globs i) × ((i : ℕ) → IsAt (MatchesEach path) globs i → IsTrue result)
+    IsMatchOfGlobs sets path result =
+        (globs : List Glob) → AreSetsOf globs sets
+        → IsTrue result ↔ ((i : ℕ) × IsAt (MatchesText path) globs i)
 
   -- the text of this index has this first fault
   abbrev pub IsFaultAt : List Glob → ℕ → PatternFault → Type 0
-  IsFaultAt globs i fault = IsAt (λ glob. IsFault formed letters (syntax_of glob.0) glob.1 fault) globs i
+  IsFaultAt globs i fault =
+      IsAt (λ glob. IsFault formed letters (syntax_of glob.0) glob.1 fault) globs i
 
   module _ (A : Type 0) where
     -- the text has no fault
     abbrev pub HasMeaning : Glob → Type 0
-    HasMeaning glob = (choices : List (Choice A)) × IsMeaning formed letters (syntax_of glob.0) glob.1 choices
+    HasMeaning glob =
+        (choices : List (Choice A)) × IsMeaning formed letters (syntax_of glob.0) glob.1 choices
 
     -- the first text that has a fault, by its index, and the fault
     abbrev pub IsFirstFaultAt : List Glob → ℕ → PatternFault → Type 0
     IsFirstFaultAt [] i fault = ⊥
-    IsFirstFaultAt (glob ∷ globs) zero fault = IsFault formed letters (syntax_of glob.0) glob.1 fault
+    IsFirstFaultAt (glob ∷ globs) zero fault =
+        IsFault formed letters (syntax_of glob.0) glob.1 fault
     IsFirstFaultAt (glob ∷ globs) (suc i) fault = HasMeaning glob × IsFirstFaultAt globs i fault
 
     -- it, or an allocation that failed

@@ -46,7 +46,8 @@ pub fn escape_pattern<E: Platform, A: Allocator>(
     ensures text { IfOk result (λ pattern. (string_vec_of pattern).items
         ≡ escaped (is_quoting (syntax_of options)) (bytes string.entry)) }
     ensures pattern { IfOk result (λ pattern. IsPatternOf E.well_formed (letters_of E.units)
-        (syntax_of options) (string_vec_of pattern).items (letters_of E.units (bytes string.entry))) }
+        (syntax_of options) (string_vec_of pattern).items
+        (letters_of E.units (bytes string.entry))) }
 {
     let text = escape(alloc, options.syntax(), string.as_encoded_bytes())?;
     Ok(OsString::from_encoded_bytes_unchecked(text))

@@ -70,9 +70,9 @@ impl<E: Platform, A: Allocator + Copy> Glob<E, A> {
     ///
     /// # Errors
     ///
-    /// The first fault of the pattern, and its byte index. Faults of classes and of a `\` at the end
-    /// come first, then those of braces, then that the pattern is too large: that it is written out
-    /// as more than 1,024 patterns, or as several with more than 65,536 marks together.
+    /// The first fault of the pattern, and its byte index. Faults of classes and of a `\` at the
+    /// end come first, then those of braces, then that the pattern is too large: that it is written
+    /// out as more than 1,024 patterns, or as several with more than 65,536 marks together.
     /// A mark is a character, a wildcard or a class.
     /// `Memory` if an allocation fails.
     ///

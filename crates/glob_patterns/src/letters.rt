@@ -17,8 +17,8 @@ impl<E: Platform> Letters for StringLetters<E> {
 
     ghost letters = { letters_of E.units };
 
-    // It isn't inlined, so that the loops that call it, which read ASCII themselves, are small: letters of
-    // ASCII take 0.85 to 0.93 of the time.
+    // It isn't inlined, so that the loops that call it, which read ASCII themselves, are small:
+    // letters of ASCII take 0.85 to 0.93 of the time.
     #[inline(never)]
     fn split_first(bytes: &[u8]) -> (u32, &[u8]) {
         let Some((character, size)) = first_char(bytes) else {

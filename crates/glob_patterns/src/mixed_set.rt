@@ -126,7 +126,8 @@ fn first_fault<E: Platform, A: Allocator + Copy>(
     globs: &[(GlobOptions, OsStr<'_, E>)],
     known: (usize, PatternFault),
 ) -> Result<(usize, PatternFault), AllocError>
-    requires { IsFaultAt E.well_formed (letters_of E.units) (map glob_of globs.now) known.0 known.1 }
+    requires { IsFaultAt E.well_formed (letters_of E.units) (map glob_of globs.now) known.0
+        known.1 }
     ensures { IfOk result (λ p. IsFirstFaultAt E.well_formed (letters_of E.units) A
         (map glob_of globs.now) p.0 p.1) }
 {
@@ -211,7 +212,8 @@ impl<E: Platform, A: Allocator> MixedGlobSet<E, A> {
     /// let set = MixedGlobSet::new(alloc, &globs)?;
     /// assert!(rt; set.is_match(OsStr::new("A.C")) && !set.is_match(OsStr::new("A.RS")));
     /// assert!(rt; set.is_match(OsStr::new("a/b.h")) && !set.is_match(OsStr::new("a/b.c")));
-    /// match MixedGlobSet::new(alloc, &[(options, OsStr::<Unix>::new("a")), (caseless, OsStr::new("["))]) {
+    /// let globs = [(options, OsStr::<Unix>::new("a")), (caseless, OsStr::new("["))];
+    /// match MixedGlobSet::new(alloc, &globs) {
     ///     Ok(_) => assert!(rt; false),
     ///     Err(error) => {
     ///         let text = format!(in alloc; "{error}")?;
@@ -300,8 +302,8 @@ impl<E: Platform, A: Allocator> MixedGlobSet<E, A> {
         false
     }
 
-    /// Appends the indices of the patterns that match a whole path to an empty vector, those of each
-    /// set ascending.
+    /// Appends the indices of the patterns that match a whole path to an empty vector, those of
+    /// each set ascending.
     fn add_matches<B: Allocator + Copy>(
         &self,
         path: &[u8],

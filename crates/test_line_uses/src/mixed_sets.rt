@@ -1,11 +1,11 @@
 //! Sets of patterns that each have their own options: what they match, by their texts, and how many
 //! they are.
-ghost use Rattle.std.specs.Prelude.{◌≡◌, ◌∷◌, [], ℕ, IfErr, IfOk, IsTrue, length, map, nat_eq};
+ghost use Rattle.std.specs.Prelude.{◌≡◌, ◌↔◌, ◌∷◌, [], ℕ, IfErr, IfOk, IsTrue, length, map, nat_eq};
 ghost use Rattle.std.specs.List.Sorted.{IsStrictlyIncreasing};
 ghost use Rattle.platform_str.specs.Strings.{bytes};
 ghost use Rattle.glob_patterns.specs.Globs.{text_of};
 ghost use Rattle.glob_patterns.specs.Letters.{letters_of};
-ghost use Rattle.glob_patterns.specs.MixedSets.{AreGlobMatches, AreSetsOf, IsAt, IsMixedError, MatchesEach, MatchesSome, glob_of};
+ghost use Rattle.glob_patterns.specs.MixedSets.{AreGlobMatches, AreSetsOf, IsAt, IsMixedError, MatchesText, glob_of};
 
 use glob_patterns::{Glob, GlobOptions, GlobSetError, MixedGlobSet};
 use os_str_ext::{OsStr, Platform};
@@ -35,12 +35,9 @@ pub fn one_matches<E: Platform, A: Allocator + Copy>(
     globs: &[(GlobOptions, OsStr<'_, E>)],
     path: OsStr<'_, E>,
 ) -> Result<bool, GlobSetError>
-    ensures some { IfOk result (λ matched. IsTrue matched → (i : ℕ)
-        × IsAt (MatchesSome E.well_formed (letters_of E.units)
-        (letters_of E.units (bytes path.entry))) (map glob_of globs.now) i) }
-    ensures each { IfOk result (λ matched. (i : ℕ) → IsAt (MatchesEach E.well_formed
-        (letters_of E.units) (letters_of E.units (bytes path.entry))) (map glob_of globs.now) i
-        → IsTrue matched) }
+    ensures { IfOk result (λ matched. IsTrue matched ↔ ((i : ℕ)
+        × IsAt (MatchesText E.well_formed (letters_of E.units)
+        (letters_of E.units (bytes path.entry))) (map glob_of globs.now) i)) }
 {
     let set = MixedGlobSet::new(alloc, globs)?;
     Ok(set.is_match(path))

@@ -1,10 +1,13 @@
 //! Texts of patterns that stand for one name, and choices that are compiled.
-ghost use Rattle.std.specs.Prelude.{◌↔◌, ◌<◌, ◌++◌, ◌∷◌, ℕ, List, IsTrue, IfOk};
+ghost use Rattle.std.specs.Prelude.{◌≡◌, ◌↔◌, ◌<◌, ◌++◌, ◌∷◌, ℕ, List, false, IsTrue, IfOk};
+ghost use Rattle.wildcards.specs.declared.options.Options.{Options};
+ghost use Rattle.glob_text.specs.declared.syntax.Syntax.{Syntax};
 ghost use Rattle.glob_text.specs.Alternatives.{AreChoices, AreTooMany, AreWithinLimits};
 ghost use Rattle.glob_text.specs.Escape.{IsPatternOf};
 ghost use Rattle.glob_text.specs.Marks.{Mark};
 ghost use Rattle.glob_text.specs.Meaning.{MatchesWrittenOut};
 ghost use Rattle.glob_text.specs.Parts.{AreCompiled};
+ghost use Rattle.glob_text.specs.Texts.{AreWrittenOut};
 
 use glob_text::{PatternFault, Syntax, compile, escape, laws};
 use std::alloc::{AllocError, Allocator};
@@ -58,4 +61,20 @@ pub fn compile_within_limits<L: Letters, A: Allocator + Copy>(
         × (AreCompiled syntax.separators written compiled.items × AreWithinLimits written))) }
 {
     compile::<L, A>(alloc, syntax, text)
+}
+
+/// A path that one list of choices of a text matches is matched by each other list of this text. Where
+/// case matters, there is one list.
+pub fn one_meaning_of_text<L: Letters>()
+    ensures matched { (o : Syntax) → (text : List ℕ) → (choices : List (List Mark))
+        → (others : List (List Mark)) → (p : Options) → (path : List ℕ)
+        → AreWrittenOut L.formed L.letters o text choices
+        → AreWrittenOut L.formed L.letters o text others
+        → MatchesWrittenOut p choices path → MatchesWrittenOut p others path }
+    ensures once { (o : Syntax) → (text : List ℕ) → (choices : List (List Mark))
+        → (others : List (List Mark)) → o.case_insensitive ≡ false
+        → AreWrittenOut L.formed L.letters o text choices
+        → AreWrittenOut L.formed L.letters o text others → choices ≡ others }
+{
+    laws::one_meaning::<L>();
 }

@@ -11,13 +11,15 @@ use Rattle.std.proofs.lemmas.Map.Keys.{IsStrictlyIncreasing-dedup}
 use Rattle.wildcards.specs.declared.options.Options.{Options}
 use Rattle.wildcards.specs.declared.pattern_set.PatternSet.{PatternSet}
 use Rattle.wildcards.specs.declared.set.Pattern.{Pattern}
+use Rattle.wildcards.specs.Reading.{LetterLaws}
 use Rattle.wildcards.specs.Sets.{Has, IsHit, AreHits, MatchesChoice}
 use Rattle.wildcards.proofs.lemmas.Found.{has_more, has_pushed}
 use Rattle.glob_text.specs.declared.fault.PatternFault.{PatternFault}
 use Rattle.glob_text.specs.Texts.{AreWrittenOut, IsMeaning, IsFault}
 use Rattle.glob_text.proofs.lemmas.Meanings.{choices_alike}
+use Rattle.glob_text.proofs.lemmas.OneMeaning.{one_meaning}
 use Rattle.glob_patterns.specs.Options.{options_of, syntax_of}
-use Rattle.glob_patterns.specs.MixedSets.{AreMatchesOfGlobs, AreSetsOf, AreSetHits, ArePatternsAt, FoundInSets, Glob, HasMeaning, IsAt, IsFaultAt, IsFirstFaultAt, IsMatchOfGlobs, IsPatternAt, IsSetHit, MatchesEach, MatchesSome, way_of}
+use Rattle.glob_patterns.specs.MixedSets.{AreMatchesOfGlobs, AreSetsOf, AreSetHits, ArePatternsAt, FoundInSets, Glob, HasMeaning, IsAt, IsFaultAt, IsFirstFaultAt, IsMatchOfGlobs, IsPatternAt, IsSetHit, MatchesText, way_of}
 
 not_nil : {X : Type 0} {x : X} {xs : List X} → [] ≡ x ∷ xs → ⊥
 not_nil e = cc
@@ -235,51 +237,52 @@ module _ (formed : List ℕ → Type 0) (letters : List ℕ → List ℕ) where
     first_of (g ∷ gs) (suc n) fault h k = (h.0, first_of gs n fault h.1 k)
 
   -- a pattern matches where its text does
-  module _ {A : Type 0} (path : List ℕ) where
+  module _ {A : Type 0} (laws : LetterLaws formed letters) (path : List ℕ) where
     written : (g : Glob) (p : Pattern A) (m : IsMeaning formed letters (syntax_of g.0) g.1 p.choices.items) → AreWrittenOut formed letters (syntax_of g.0) g.1 m.are.are.written_out
     written g p m = record { symbols = m.symbols; read = m.read; marks = m.are.marks; marks_are = m.are.read; cased = m.are.cased; are_cased = m.are.are_cased; are = m.are.are.are }
 
-    some_match : (way : Options) (g : Glob) (p : Pattern A) → options_of g.0 ≡ way → IsMeaning formed letters (syntax_of g.0) g.1 p.choices.items → MatchesChoice way p.choices.items path → MatchesSome formed letters path g
-    some_match way g p e m h =
+    text_match : (way : Options) (g : Glob) (p : Pattern A) → options_of g.0 ≡ way → IsMeaning formed letters (syntax_of g.0) g.1 p.choices.items → MatchesChoice way p.choices.items path → MatchesText formed letters path g
+    text_match way g p e m h =
         let are = m.are.are in
         (are.written_out, (written g p m, (choices_alike (options_of g.0) are.written_out p.choices.items path are.compiled).0 (subst (λ z. MatchesChoice z p.choices.items path) (sym e) h)))
 
-    each_match : (way : Options) (g : Glob) (p : Pattern A) → options_of g.0 ≡ way → IsMeaning formed letters (syntax_of g.0) g.1 p.choices.items → MatchesEach formed letters path g → MatchesChoice way p.choices.items path
-    each_match way g p e m h =
+    match_text : (way : Options) (g : Glob) (p : Pattern A) → options_of g.0 ≡ way → IsMeaning formed letters (syntax_of g.0) g.1 p.choices.items → MatchesText formed letters path g → MatchesChoice way p.choices.items path
+    match_text way g p e m h =
         let are = m.are.are in
-        subst (λ z. MatchesChoice z p.choices.items path) e ((choices_alike (options_of g.0) are.written_out p.choices.items path are.compiled).1 (h are.written_out (written g p m)))
+        let same = one_meaning formed letters laws (syntax_of g.0) g.1 h.0 are.written_out h.1.0 (written g p m) (options_of g.0) path in
+        subst (λ z. MatchesChoice z p.choices.items path) e ((choices_alike (options_of g.0) are.written_out p.choices.items path are.compiled).1 (same.0 h.1.1))
 
-    sound_in : (way : Options) (gs : List Glob) (ps : List (Pattern A)) → ArePatternsAt formed letters way gs ps → (i : ℕ) → IsHit way ps path i → IsAt (MatchesSome formed letters path) gs i
+    sound_in : (way : Options) (gs : List Glob) (ps : List (Pattern A)) → ArePatternsAt formed letters way gs ps → (i : ℕ) → IsHit way ps path i → IsAt (MatchesText formed letters path) gs i
     sound_in way [] [] are i h = let l = h.0 in omega (arith, l)
     sound_in way [] (p ∷ ps) are i h = absurd are
     sound_in way (g ∷ gs) [] are i h = absurd are
-    sound_in way (g ∷ gs) (p ∷ ps) are zero h = ⊎_elim (λ k. some_match way g p k.0 k.1 (h.1 p)) (λ k. absurd (subst (λ z. MatchesChoice way z path) k.1 (h.1 p))) are.0
+    sound_in way (g ∷ gs) (p ∷ ps) are zero h = ⊎_elim (λ k. text_match way g p k.0 k.1 (h.1 p)) (λ k. absurd (subst (λ z. MatchesChoice way z path) k.1 (h.1 p))) are.0
     sound_in way (g ∷ gs) (p ∷ ps) are (suc i) h = sound_in way gs ps are.1 i (let l = h.0 in omega (arith, l), λ d. h.1 d)
 
-    complete_in : (way : Options) (gs : List Glob) (ps : List (Pattern A)) → ArePatternsAt formed letters way gs ps → (i : ℕ) → IsAt (MatchesEach formed letters path) gs i → IsAt (λ g. options_of g.0 ≡ way) gs i → IsHit way ps path i
+    complete_in : (way : Options) (gs : List Glob) (ps : List (Pattern A)) → ArePatternsAt formed letters way gs ps → (i : ℕ) → IsAt (MatchesText formed letters path) gs i → IsAt (λ g. options_of g.0 ≡ way) gs i → IsHit way ps path i
     complete_in way [] ps are i h k = absurd h
     complete_in way (g ∷ gs) [] are i h k = absurd are
-    complete_in way (g ∷ gs) (p ∷ ps) are zero h k = (omega arith, λ d. ⊎_elim (λ m. each_match way g p m.0 m.1 h) (λ m. absurd (m.0 k)) are.0)
+    complete_in way (g ∷ gs) (p ∷ ps) are zero h k = (omega arith, λ d. ⊎_elim (λ m. match_text way g p m.0 m.1 h) (λ m. absurd (m.0 k)) are.0)
     complete_in way (g ∷ gs) (p ∷ ps) are (suc i) h k = let more = complete_in way gs ps are.1 i h k in (let l = more.0 in omega (arith, l), λ d. more.1 d)
 
-    sound_all : (gs : List Glob) (sets : List (PatternSet A)) → AllByRecursion (λ set. ArePatternsAt formed letters set.options gs set.patterns.items) sets → (i : ℕ) → IsSetHit sets path i → IsAt (MatchesSome formed letters path) gs i
+    sound_all : (gs : List Glob) (sets : List (PatternSet A)) → AllByRecursion (λ set. ArePatternsAt formed letters set.options gs set.patterns.items) sets → (i : ℕ) → IsSetHit sets path i → IsAt (MatchesText formed letters path) gs i
     sound_all gs [] each i h = absurd h
     sound_all gs (set ∷ sets) each i (inl h) = sound_in set.options gs set.patterns.items each.0 i h
     sound_all gs (set ∷ sets) each i (inr h) = sound_all gs sets each.1 i h
 
-    complete_all : (gs : List Glob) (sets : List (PatternSet A)) → AllByRecursion (λ set. ArePatternsAt formed letters set.options gs set.patterns.items) sets → (i : ℕ) → IsAt (λ g. Has (map way_of sets) (options_of g.0)) gs i → IsAt (MatchesEach formed letters path) gs i → IsSetHit sets path i
+    complete_all : (gs : List Glob) (sets : List (PatternSet A)) → AllByRecursion (λ set. ArePatternsAt formed letters set.options gs set.patterns.items) sets → (i : ℕ) → IsAt (λ g. Has (map way_of sets) (options_of g.0)) gs i → IsAt (MatchesText formed letters path) gs i → IsSetHit sets path i
     complete_all gs [] each i has h = absurd (none_at gs i has)
     complete_all gs (set ∷ sets) each i has h =
         ⊎_elim (λ own. inl (complete_in set.options gs set.patterns.items each.0 i h own)) (λ more. inr (complete_all gs sets each.1 i more h))
         (either_at (λ g. options_of g.0 ≡ set.options) (λ g. Has (map way_of sets) (options_of g.0)) gs i has)
 
-    complete_of : (gs : List Glob) (sets : List (PatternSet A)) → AreSetsOf formed letters gs sets → (i : ℕ) → IsAt (MatchesEach formed letters path) gs i → IsSetHit sets path i
-    complete_of gs sets are i h = complete_all gs sets are.each i (all_at (λ g. Has (map way_of sets) (options_of g.0)) (MatchesEach formed letters path) gs i are.all h) h
+    complete_of : (gs : List Glob) (sets : List (PatternSet A)) → AreSetsOf formed letters gs sets → (i : ℕ) → IsAt (MatchesText formed letters path) gs i → IsSetHit sets path i
+    complete_of gs sets are i h = complete_all gs sets are.each i (all_at (λ g. Has (map way_of sets) (options_of g.0)) (MatchesText formed letters path) gs i are.all h) h
 
     pub match_of_globs : (sets : List (PatternSet A)) (result : Bool) → IsTrue result ↔ ((i : ℕ) × IsSetHit sets path i) → IsMatchOfGlobs formed letters sets path result
     match_of_globs sets result both gs are = (
       λ r. let hit = both.0 r in (hit.0, sound_all gs sets are.each hit.0 hit.1),
-      λ i h. both.1 (i, complete_of gs sets are i h),
+      λ k. both.1 (k.0, complete_of gs sets are k.0 k.1),
     )
 
     pub matches_of_globs : (sets : List (PatternSet A)) (found : List ℕ) → AreSetHits sets path found → AreMatchesOfGlobs formed letters sets path found

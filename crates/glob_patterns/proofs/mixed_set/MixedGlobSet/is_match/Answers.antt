@@ -2,6 +2,7 @@ use Rattle.std.proofs.Common.{◌≡◌, ◌↔◌, ℕ, true, false, refl, subs
 use Rattle.platform_str.specs.Strings.{bytes}
 use Rattle.glob_patterns.specs.Letters.{letters_of}
 use Rattle.glob_patterns.specs.MixedSets.{IsSetHit}
+use Rattle.glob_patterns.specs.Readings.{letter_laws}
 use Rattle.glob_patterns.proofs.lemmas.MixedSets.{match_of_globs, none_matched, set_matched, set_passed}
 use Rattle.glob_patterns.proofs.mixed_set.MixedGlobSet.is_match.Goals as goal
 
@@ -16,7 +17,8 @@ returns-then-is_match-clause-value g c =
 pub returns-then-is_match-clause-texts : goal.returns-then-is_match-clause-texts
 returns-then-is_match-clause-texts g c =
     let letters = letters_of g.E.Platform.units in
-    match_of_globs g.E.Platform.well_formed letters (letters (bytes c.args.path)) c.args.self.now.sets.items true (returns-then-is_match-clause-value g c)
+    let met = g.met.E.Platform in
+    match_of_globs g.E.Platform.well_formed letters (letter_laws met.laws met.parts met.occurrence) (letters (bytes c.args.path)) c.args.self.now.sets.items true (returns-then-is_match-clause-value g c)
 
 pub loop-set-preserved : goal.loop-set-preserved
 loop-set-preserved g c =
@@ -34,4 +36,5 @@ returns-clause-value g c =
 pub returns-clause-texts : goal.returns-clause-texts
 returns-clause-texts g c =
     let letters = letters_of g.E.Platform.units in
-    match_of_globs g.E.Platform.well_formed letters (letters (bytes c.args.path)) c.args.self.now.sets.items false (returns-clause-value g c)
+    let met = g.met.E.Platform in
+    match_of_globs g.E.Platform.well_formed letters (letter_laws met.laws met.parts met.occurrence) (letters (bytes c.args.path)) c.args.self.now.sets.items false (returns-clause-value g c)

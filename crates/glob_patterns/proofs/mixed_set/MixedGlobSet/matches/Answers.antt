@@ -3,6 +3,7 @@ use Rattle.std.proofs.lemmas.List.Filters.{dedup_is}
 use Rattle.platform_str.specs.Strings.{bytes}
 use Rattle.glob_patterns.specs.Letters.{letters_of}
 use Rattle.glob_patterns.specs.MixedSets.{AreSetHits, FoundInSets}
+use Rattle.glob_patterns.specs.Readings.{letter_laws}
 use Rattle.glob_patterns.proofs.lemmas.MixedSets.{in_order, matches_of_globs}
 use Rattle.glob_patterns.proofs.mixed_set.MixedGlobSet.matches.Goals as goal
 
@@ -18,4 +19,5 @@ returns-in-Ok-clause-value g c =
 pub returns-in-Ok-clause-texts : goal.returns-in-Ok-clause-texts
 returns-in-Ok-clause-texts g c =
     let path = letters_of g.E.Platform.units (bytes c.args.path) in
-    matches_of_globs g.E.Platform.well_formed (letters_of g.E.Platform.units) path c.args.self.now.sets.items c.dedup.new.self.items (returns-in-Ok-clause-value g c)
+    let met = g.met.E.Platform in
+    matches_of_globs g.E.Platform.well_formed (letters_of g.E.Platform.units) (letter_laws met.laws met.parts met.occurrence) path c.args.self.now.sets.items c.dedup.new.self.items (returns-in-Ok-clause-value g c)
