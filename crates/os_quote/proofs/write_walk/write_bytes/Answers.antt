@@ -23,8 +23,8 @@ loop-len-preserved g c =
 parts : {whole texts before : List ℕ} (len : ℕ) (left : List ℕ) {taken : List ℕ} → whole ≡ take len before ++ left → texts ≡ before → taken ≡ take len texts → whole ≡ taken ++ left
 parts len left all same is = all ∙ ap (λ t. t ++ left) (sym (is ∙ ap (take len) same))
 
-pub returns-in_err-take-clause-taken : goal.returns-in_err-take-clause-taken
-returns-in_err-take-clause-taken g c =
+pub returns-in_err-take_text-clause-taken : goal.returns-in_err-take_text-clause-taken
+returns-in_err-take_text-clause-taken g c =
     let sink = g.S.Sink.rules in
     let old = c.args.sink.now in
     let same : c.loop-len-test.texts ≡ c.loop-len.texts = elim c.loop-len-test.branch [
@@ -33,7 +33,7 @@ returns-in_err-take-clause-taken g c =
       | then-loop-len-test+then-shown-lt-SHOWN+in_default w ↦ w.texts-is ∙ w.in_default.ensures
     ] in
     let all = parts c.loop-len.len _ c.loop-len.invariant.4 same c.from_utf8_unchecked.ensures in
-    rw (err_from_is_err_and c.from_residual.result c.from_residual.ensures.1).1 (subst (sink.refuses old) (sym all) (sink.refuses_after old old [] _ _ (sink.took_nothing old) c.in_err-take.ensures))
+    rw (err_from_is_err_and c.from_residual.result c.from_residual.ensures.1).1 (subst (sink.rejects old) (sym all) (sink.rejects_after old old [] _ _ (sink.took_nothing old) c.in_err-take_text.ensures))
 
 pub returns : goal.returns
 returns g c =
@@ -44,6 +44,6 @@ returns g c =
       | then-loop-len-test+then-shown-lt-SHOWN+in_default w ↦ w.texts-is ∙ w.in_default.ensures
     ] in
     record {
-      taken = (c.from_utf8_unchecked.result.now, c.in_ok-take.ensures, parts c.loop-len.len _ so_far.4 same c.from_utf8_unchecked.ensures);
+      taken = (c.from_utf8_unchecked.result.now, c.in_ok-take_text.ensures, parts c.loop-len.len _ so_far.4 same c.from_utf8_unchecked.ensures);
       rest = (so_far.2, so_far.3);
     }
