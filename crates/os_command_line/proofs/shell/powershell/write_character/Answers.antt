@@ -19,13 +19,13 @@ take_text-requires-else-is_single_quote g c =
     let is = other_text _ _ c.encode_utf8-encoded.ensures.value (sym c.is_single_quote.ensures ∙ c.if-is_single_quote.false) in
     subst (g.S.Sink.rules.has_room c.args.sink.now) is c.requires
 
-pub returns-then-is_single_quote-in_err-take_text : goal.returns-then-is_single_quote-in_err-take_text
-returns-then-is_single_quote-in_err-take_text g c =
+pub returns-in_err-take_text : goal.returns-in_err-take_text
+returns-in_err-take_text g c =
     let is = quote_text _ _ c.encode_utf8-encoded.ensures.value (sym c.is_single_quote.ensures ∙ c.if-is_single_quote.true) in
     rejected g.S.Sink.rules _ _ c.from_residual.result c.from_residual.ensures.1 (none_taken g.S.Sink.rules (nothing_taken g.S.Sink.rules) _ _ c.in_err-take_text.ensures is)
 
-pub returns-then-is_single_quote : goal.returns-then-is_single_quote
-returns-then-is_single_quote g c =
+pub returns-in_ok-take_text : goal.returns-in_ok-take_text
+returns-in_ok-take_text g c =
     let is = quote_text _ _ c.encode_utf8-encoded.ensures.value (sym c.is_single_quote.ensures ∙ c.if-is_single_quote.true) in
     last_taken g.S.Sink.rules _ _ (one_taken g.S.Sink.rules (nothing_taken g.S.Sink.rules) c.in_ok-take_text.ensures is) refl c.take_text-then-is_single_quote.result c.take_text-then-is_single_quote.ensures
 

@@ -26,7 +26,7 @@ pub loop-prefix-preserved : goal.loop-prefix-preserved
 loop-prefix-preserved g c =
     let cut = c.in-Some.ensures in
     let taken = one_taken g.S.Sink.rules c.loop-prefix.invariant.1 c.in_ok-take.ensures (cut_text _ _ _ cut) in
-    (g.S.Sink.pieces.after _ _ 0x27 (omega arith) (subst g.S.Sink.pieces.accepts cut.joined c.loop-prefix.invariant.0), one_taken g.S.Sink.rules taken c.in_ok-take_text-in-Some.ensures refl)
+    (g.S.Sink.pieces.after _ _ 0x27 (omega arith) (subst g.S.Sink.pieces.accepts cut.joined c.loop-prefix.invariant.0), one_taken g.S.Sink.rules taken c.in_ok-take_text-2.ensures refl)
 
 pub loop-prefix-smaller : goal.loop-prefix-smaller
 loop-prefix-smaller g c = cut_shorter _ _ _ c.in-Some.ensures
@@ -45,10 +45,10 @@ returns-in_err-take_text g c = rejected g.S.Sink.rules _ _ c.from_residual.resul
 pub returns-in_err-take : goal.returns-in_err-take
 returns-in_err-take g c = rejected g.S.Sink.rules _ _ c.from_residual-in_err-take.result c.from_residual-in_err-take.ensures.1 (none_taken g.S.Sink.rules c.loop-prefix.invariant.1 _ _ c.in_err-take.ensures (cut_text _ _ _ c.in-Some.ensures))
 
-pub returns-in_err-take_text-in-Some : goal.returns-in_err-take_text-in-Some
-returns-in_err-take_text-in-Some g c =
+pub returns-in_err-take_text-2 : goal.returns-in_err-take_text-2
+returns-in_err-take_text-2 g c =
     let taken = one_taken g.S.Sink.rules c.loop-prefix.invariant.1 c.in_ok-take.ensures (cut_text _ _ _ c.in-Some.ensures) in
-    rejected g.S.Sink.rules _ _ c.from_residual-in_err-take_text-in-Some.result c.from_residual-in_err-take_text-in-Some.ensures.1 (none_taken g.S.Sink.rules taken quote_text _ c.in_err-take_text-in-Some.ensures refl)
+    rejected g.S.Sink.rules _ _ c.from_residual-in_err-take_text-2.result c.from_residual-in_err-take_text-2.ensures.1 (none_taken g.S.Sink.rules taken quote_text _ c.in_err-take_text-2.ensures refl)
 
 pub returns-in_err-take-2 : goal.returns-in_err-take-2
 returns-in_err-take-2 g c = rejected g.S.Sink.rules _ _ c.from_residual-in_err-take-2.result c.from_residual-in_err-take-2.ensures.1 (none_taken g.S.Sink.rules c.loop-prefix.invariant.1 _ _ c.in_err-take-2.ensures (shown_text _ c.in_default.ensures))
