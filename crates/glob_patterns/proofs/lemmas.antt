@@ -1,6 +1,5 @@
 pub mod Around
 pub mod Compiling
-pub mod InlineTexts
 pub mod UnitLetters
 pub mod TextHits
 pub mod MixedSets

@@ -1,13 +1,13 @@
 //! Why a pattern is rejected.
-ghost use Rattle.std.specs.Prelude.{Some, decimal};
+ghost use Rattle.std.specs.Prelude.{Some};
 ghost use Rattle.std.specs.Fmt.{WritesStyledOnOk};
 ghost use Rattle.glob_patterns.specs.ErrorText.{kind_text};
 
 use glob_text::{FaultKind, PatternFault};
+use os_str_ext::write_number;
 use std::alloc::AllocError;
 use std::error::Error;
 use std::fmt;
-use std::fmt::{InlineText, Write as _};
 
 /// Why [`Glob::new`](crate::Glob::new) makes no pattern.
 ///
@@ -61,15 +61,6 @@ pub(crate) fn write_kind<W: fmt::Write>(kind: FaultKind, f: &mut fmt::Formatter<
         FaultKind::UnopenedAlternatives => f.write_str("unopened alternatives"),
         FaultKind::TooManyChoices => f.write_str("too many choices"),
     }
-}
-
-/// Writes the decimal digits of a number, and ignores the width of the formatter.
-pub(crate) fn write_number<W: fmt::Write>(number: usize, f: &mut fmt::Formatter<W>) -> fmt::Result
-    ensures { WritesStyledOnOk W.write_str_gives f.old result (decimal number) f.new }
-{
-    let mut digits = InlineText::<20>::new();
-    write!(digits, "{number}")?;
-    f.write_str(digits.as_str())
 }
 
 impl From<AllocError> for GlobError {

@@ -1,5 +1,5 @@
 //! Sets of path patterns, compiled once.
-ghost use Rattle.std.specs.Prelude.{◌≡◌, ◌↔◌, ◌∷◌, ◌+◌, ◌<◌, [], ℕ, map, drop, length, nat_eq, IsTrue, IfOk, IfSome, MatchOption, MatchResult, OnOk, OnErr};
+ghost use Rattle.std.specs.Prelude.{◌≡◌, ◌↔◌, [], ℕ, map, length, nat_eq, IsTrue, IfOk, MatchResult, OnOk, OnErr};
 ghost use Rattle.platform_str.specs.Strings.{bytes};
 ghost use Rattle.wildcards.specs.Sets.{IsHit, AreHits};
 ghost use Rattle.glob_patterns.specs.Letters.{letters_of};
@@ -11,7 +11,7 @@ use crate::letters::StringLetters;
 use crate::options::GlobOptions;
 use crate::set_error::GlobSetError;
 use glob_text::{PatternFault, compile};
-use os_str_ext::{OsStr, Platform};
+use os_str_ext::{OsStr, Platform, string_at};
 use std::alloc::{AllocError, Allocator, Global};
 use std::marker::PhantomData;
 use wildcards::{Pattern, PatternSet};
@@ -43,7 +43,7 @@ fn compile_all<E: Platform, A: Allocator + Copy>(
 {
     let mut compiled = Vec::new(alloc);
     let mut index = 0;
-    while let Some(pattern) = pattern_after(patterns, index) {
+    while let Some(pattern) = string_at(patterns, index) {
         let text = pattern.as_encoded_bytes();
         match compile::<StringLetters<E>, A>(alloc, options.syntax(), text)? {
             Ok(choices) => compiled.push(Pattern { choices })?,
@@ -52,20 +52,6 @@ fn compile_all<E: Platform, A: Allocator + Copy>(
         index += 1;
     }
     Ok(Ok(compiled))
-}
-
-/// Returns the pattern at `index`, or `None`.
-fn pattern_after<'a, E: Platform>(patterns: &[OsStr<'a, E>], index: usize) -> Option<OsStr<'a, E>>
-    ensures first { MatchOption result (drop index (map bytes patterns.now) ≡ [])
-        (λ pattern. drop index (map bytes patterns.now)
-        ≡ bytes pattern ∷ drop (index + 1) (map bytes patterns.now)) }
-    ensures within { IfSome result (λ _. index < length patterns.now) }
-{
-    if index < patterns.len() {
-        Some(patterns[index])
-    } else {
-        None
-    }
 }
 
 impl<E: Platform, A: Allocator> GlobSet<E, A> {

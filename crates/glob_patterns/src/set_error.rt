@@ -1,8 +1,9 @@
 //! Why a set of patterns is rejected.
 ghost use Rattle.std.specs.Prelude.{Some};
 
-use crate::error::{write_kind, write_number};
+use crate::error::write_kind;
 use glob_text::PatternFault;
+use os_str_ext::write_number;
 use std::alloc::AllocError;
 use std::error::Error;
 use std::fmt;

@@ -9,8 +9,8 @@ ghost use Rattle.os_args.specs.Views.{outcome_of, reading};
 
 use crate::error::ArgumentError;
 use crate::word::{Word, read_flag, read_word, value_of};
-use crate::words::{all_after, first_after, is_dashes};
-use os_str_ext::{OsStr, OsStrBytesExt, Platform};
+use crate::words::{all_after, is_dashes};
+use os_str_ext::{OsStr, OsStrBytesExt, Platform, string_at};
 
 /// A reader of the arguments of a command line, step by step (lexopt's `Parser`).
 ///
@@ -159,7 +159,7 @@ impl<'s, 'a, E: Platform> Arguments<'s, 'a, E> {
         ensures { TakesWord (reading self.old) (Ok (option_map kind_of result)) (reading self.new) }
     {
         self.skip_dashes();
-        let word = first_after(self.words, self.index)?;
+        let word = string_at(self.words, self.index)?;
         let (read, rest) = read_in(self.ended, self.numbers, word);
         self.index += 1;
         self.pending = rest;
@@ -174,7 +174,7 @@ impl<'s, 'a, E: Platform> Arguments<'s, 'a, E> {
         if self.ended {
             return;
         }
-        let Some(word) = first_after(self.words, self.index) else {
+        let Some(word) = string_at(self.words, self.index) else {
             return;
         };
         if is_dashes(word) {
@@ -212,7 +212,7 @@ impl<'s, 'a, E: Platform> Arguments<'s, 'a, E> {
         if let Some(value) = self.optional_value() {
             return Ok(value);
         }
-        let Some(word) = first_after(self.words, self.index) else {
+        let Some(word) = string_at(self.words, self.index) else {
             return Err(ArgumentError::MissingValue(self.last));
         };
         self.index += 1;

@@ -27,7 +27,6 @@ pub mod ShellParts
 pub mod ShellRoundTrip
 pub mod ShellScan
 pub mod ShellWritten
-pub mod Taking
 pub mod WindowsBatch
 pub mod WindowsOneReading
 pub mod WindowsOwnText

@@ -1,9 +1,7 @@
-pub mod BufferSink
 pub mod Charset
 pub mod ErrorText
 pub mod Fish
 pub mod PowerShell
-pub mod PrinterSink
 pub mod ReservedWords
 pub mod Shell
 pub mod ShellCharacters
@@ -12,7 +10,6 @@ pub mod ShellReader
 pub mod ShellSteps
 pub mod ShellViews
 pub mod ShellWriting
-pub mod Sinks
 pub mod Windows
 pub mod WindowsBatch
 pub mod WindowsParts

@@ -12,5 +12,4 @@
 
 mod error_text;
 pub mod shell;
-mod strings;
 pub mod windows;

@@ -17,7 +17,6 @@ mod powershell;
 mod quoting;
 mod reserved;
 mod scan;
-mod sink;
 mod step;
 mod word;
 mod word_bytes;

@@ -1,6 +1,5 @@
 //! A path of one platform as a path of another.
-ghost use Rattle.std.specs.Prelude.{◌≡◌, decimal, IfOk, IfErr};
-ghost use Rattle.std.specs.Fmt.{WritesStyledOnOk};
+ghost use Rattle.std.specs.Prelude.{◌≡◌, IfOk, IfErr};
 ghost use Rattle.platform_str.specs.Strings.{bytes, path_vec_of};
 ghost use Rattle.path_building.specs.Restyled.{IsRestyled};
 ghost use Rattle.wtf8_core.specs.declared.fault.EncodingError as of_bytes;
@@ -9,11 +8,10 @@ ghost use Rattle.os_path.specs.Converted.{IsConvertFault};
 
 use crate::style::PathStyle;
 use path_building::StyleError;
-use platform_str::{OsStr, OsString, PathBuf};
+use platform_str::{OsStr, OsString, PathBuf, write_number};
 use std::alloc::Allocator;
 use std::error::Error;
 use std::fmt;
-use std::fmt::{InlineText, Write as _};
 use wtf8_core::EncodingError;
 
 /// Why a path of another platform can't have a path's components.
@@ -57,16 +55,6 @@ impl fmt::Display for ConvertError {
 }
 
 impl Error for ConvertError {}
-
-/// Writes the decimal digits of a number, and ignores the width of the formatter. Crates whose
-/// errors print an index have a copy each, since sharing these lines would take a public call.
-fn write_number<W: fmt::Write>(number: usize, f: &mut fmt::Formatter<W>) -> fmt::Result
-    ensures { WritesStyledOnOk W.write_str_gives f.old result (decimal number) f.new }
-{
-    let mut digits = InlineText::<20>::new();
-    write!(digits, "{number}")?;
-    f.write_str(digits.as_str())
-}
 
 /// The path of another platform with the same components.
 pub(crate) fn with_style<E: PathStyle, F: PathStyle, A: Allocator + Clone>(

@@ -1,6 +1,6 @@
 -- The names that most proofs cite, re-exported from one file. Declares nothing.
 pub use Rattle.memchr.specs.Find.{NoneBefore, Passes, is_byte}
-pub use Rattle.os_quote.specs.{Buffers.Pushes, Buffers.text_escape, Buffers.token_of, Escape.BeginsNoToken, Escape.IsBadEscapeBy, Escape.IsEscape, Escape.IsEscapeBy, Escape.IsLineEscape, Escape.chunk_items, Escape.items_of}
+pub use Rattle.os_quote.specs.{Parts.text_escape, Parts.token_of, Escape.BeginsNoToken, Escape.IsBadEscapeBy, Escape.IsEscape, Escape.IsEscapeBy, Escape.IsLineEscape, Escape.chunk_items, Escape.items_of}
 pub use Rattle.os_quote.specs.Escaped.{escape_of, escaped_text}
 pub use Rattle.os_quote.specs.Item.{Backslash, ByteUnit, Character, HasLongTokens, IsItem, IsLong, Item, LongCharacter, WideUnit, backslash, byte_digits, character_item, hidden_item, high_digits, item_text, item_texts, long_digits, unit_item, wide_digits}
 pub use Rattle.os_quote.specs.Plain.{IsCutAfterPlain, IsPlain, IsPlainUpTo}
@@ -10,7 +10,7 @@ pub use Rattle.os_quote.specs.Hidden.{AllClear, AreUnchanged, IsCutAtToken, IsNe
 pub use Rattle.os_quote.specs.declared.find_tables.TheConstants.{FIRST_HIGH, FIRST_LOW, SECOND_HIGH, SECOND_LOW, THIRD_HIGH, THIRD_LOW, OTHER_HIGH, OTHER_LOW}
 pub use Rattle.os_str_ext.proofs.lemmas.EachChunk.{are_chunks_of}
 pub use Rattle.os_str_ext.specs.{Chunks.IsChunkOf, Chunks.chunks_of, Parts.part_bytes, Parts.unit_number}
-pub use Rattle.platform_str.specs.{Laws.PartLaws, Strings.bytes}
+pub use Rattle.platform_str.specs.{BufferSink.Pushes, Laws.PartLaws, Strings.bytes}
 pub use Rattle.std.proofs.Common.{Bool, IsTrue, List, [], ap, append-nil, append_assoc, arith, bit_and, bit_xor, codes, cond, drop, eqb, eqb-true, false, get_or, get_or-drop, inl, inr, length, length-append, length-drop, ltb, map, not, refl, replicate, rules, subst, suc, sym, take, take-append-drop, true, w8, zero, ℕ, ⊎_elim, ◌%◌, ◌&&◌, ◌*◌, ◌++◌, ◌+◌, ◌-◌, ◌/◌, ◌<◌, ◌^◌, ◌||◌, ◌∙◌, ◌∷◌, ◌≡◌, ◌≢◌, ◌≤◌, ◌⊎◌}
 pub use Rattle.std.proofs.{Math.Nat.sub-zero, Math.Utf8.scalar, Math.Utf8.scalar_cases}
 pub use Rattle.std.proofs.lemmas.{Bool.and_parts, Bool.cases_Bool, Bool.cases_eq, Bool.cases_lt, Bool.le-ltb, Bool.lt-ltb, Bool.ltb-false, Bool.ne_eqb, Bool.not-false, Bool.true≢false, Bool.Decides.nat_tests, Grind.common_steps}

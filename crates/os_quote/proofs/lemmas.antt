@@ -2,10 +2,7 @@ pub mod Items
 pub mod Tokens
 pub mod LongTokens
 pub mod Texts
-pub mod Writing
-pub mod InlineTexts
 pub mod Pushing
-pub mod Taking
 pub mod Stripping
 pub mod Escapes
 pub mod ItemLengths

@@ -7,10 +7,7 @@ pub mod Start
 pub mod Escape
 pub mod Escaped
 pub mod Reading
-pub mod Buffers
-pub mod Sinks
-pub mod FormatterSink
-pub mod BufferSink
+pub mod Parts
 pub mod ComparisonSink
 pub mod Unescaped
 pub mod Stripping

@@ -1,10 +1,10 @@
 //! The error of reading an escape.
-ghost use Rattle.std.specs.{Prelude.◌≡◌, Prelude.Some, Prelude.decimal, Fmt.WritesStyledOnOk};
+ghost use Rattle.std.specs.Prelude.{◌≡◌, Some};
 
+use os_str_bytes::write_number;
 use std::alloc::AllocError;
 use std::error::Error;
 use std::fmt;
-use std::fmt::{InlineText, Write as _};
 
 /// The error that [`unescape`](crate::unescape) and [`unescape_line`](crate::unescape_line) return.
 ///
@@ -60,16 +60,6 @@ impl fmt::Display for QuoteError {
 }
 
 impl Error for QuoteError {}
-
-/// Writes the decimal digits of a number, and ignores the formatter's width. Crates whose errors
-/// print an index have a copy each, since sharing these lines would take a public call.
-fn write_number<W: fmt::Write>(number: usize, f: &mut fmt::Formatter<W>) -> fmt::Result
-    ensures { WritesStyledOnOk W.write_str_gives f.old result (decimal number) f.new }
-{
-    let mut digits = InlineText::<20>::new();
-    write!(digits, "{number}")?;
-    f.write_str(digits.as_str())
-}
 
 impl From<AllocError> for QuoteError {
     ghost use Rattle.os_quote.specs.declared.error.QuoteError.TheVariants.{Memory};

@@ -1,16 +1,15 @@
 //! Reads escapes: decodes their tokens, and checks that the text is the escape of the result.
 ghost use Rattle.std.specs.Prelude.{◌≡◌, ◌≢◌, ◌↔◌, length, IsOk, IfOk, IfErr, IsTrue, ◌+◌, ◌≤◌, ◌<◌, ◌^◌, ◌++◌, [], ℕ, List, MatchResult, MatchOption};
-ghost use Rattle.platform_str.specs.Strings.{string_vec_of, bytes};
-ghost use Rattle.os_quote.specs.{Shown.shown_by, Buffers.Pushes, Stripping.StartsNot, Escape.IsEscape, Escape.IsLineEscape, Escape.IsEscapeBy, Escape.IsQuoteFault, Escape.IsLineFault, Escape.IsQuoteFaultBy, Escape.IsBadEscapeBy, Reading.AreBytesRead, Reading.item_bytes, Reading.token_item, Unescaped.IsUnescapedBy, declared.error.QuoteError.TheVariants.Memory};
+ghost use Rattle.platform_str.specs.{BufferSink.Pushes, Strings.string_vec_of, Strings.bytes};
+ghost use Rattle.os_quote.specs.{Shown.shown_by, Stripping.StartsNot, Escape.IsEscape, Escape.IsLineEscape, Escape.IsEscapeBy, Escape.IsQuoteFault, Escape.IsLineFault, Escape.IsQuoteFaultBy, Escape.IsBadEscapeBy, Reading.AreBytesRead, Reading.item_bytes, Reading.token_item, Unescaped.IsUnescapedBy, declared.error.QuoteError.TheVariants.Memory};
 ghost use Rattle.std.specs.Str.{IsUtf8};
 ghost use Rattle.wtf8_core.specs.{CodePoint.IsCodePoint, CodePoint.encode, Truncated.IsTruncated};
 
 use crate::error::{QuoteError, Unescaped};
 use crate::form::Form;
 use crate::read_token::{Token, cut_backslash, first_token, strip};
-use crate::write_token::TokenText;
-use crate::write_walk::{Sink, split_at_token, write_escape_to};
-use os_str_bytes::{OsStr, OsStrBytesExt, OsString, Platform, Unix, laws};
+use crate::write_walk::{split_at_token, write_escape_to};
+use os_str_bytes::{OsStr, OsStrBytesExt, OsString, Platform, Sink, Unix, laws};
 use std::alloc::Allocator;
 use std::fmt;
 use wtf8_core::{push_truncated, write_form};
@@ -194,19 +193,22 @@ struct Comparison<'a> {
 
 impl<'a> Sink for Comparison<'a> {
     ghost use Rattle.os_quote.specs.ComparisonSink.{comparison_rules};
+    ghost use Rattle.platform_str.specs.Sinks.{any_pieces};
 
     ghost rules = { comparison_rules };
 
+    ghost pieces = { any_pieces };
+
+    /// A piece whose length is known, as that of a token, is compared without a call.
     #[inline(always)]
-    fn take(&mut self, piece: &str) -> fmt::Result {
-        self.rest = strip_text(self.rest, piece).ok_or(fmt::Error)?;
+    fn take(&mut self, piece: &[u8]) -> fmt::Result {
+        self.rest = strip(self.rest, piece).ok_or(fmt::Error)?;
         Ok(())
     }
 
-    /// The token's length is known where it is made, so it is compared without a call.
     #[inline(always)]
-    fn take_token(&mut self, token: TokenText) -> fmt::Result {
-        self.rest = strip(self.rest, token.as_str().as_bytes()).ok_or(fmt::Error)?;
+    fn take_text(&mut self, text: &str) -> fmt::Result {
+        self.rest = strip_text(self.rest, text).ok_or(fmt::Error)?;
         Ok(())
     }
 }

@@ -5,10 +5,8 @@ ghost use Rattle.platform_str.specs.Strings.{bytes};
 ghost use Rattle.os_quote.specs.{Escaped.escape_of, Shown.shown_by, Escape.IsEscape, Escape.IsLineEscape};
 
 use crate::form::Form;
-use crate::write_walk::{Sink, write_escape_to};
-use os_str_bytes::{OsStr, Platform};
-use std::fmt;
-use wtf8_core::push_truncated;
+use crate::write_walk::write_escape_to;
+use os_str_bytes::{OsStr, Platform, TruncatedBuffer};
 
 /// Writes the escape of a string ([`escape`](crate::escape)) into a buffer, truncated if the buffer
 /// is too short for it, and returns the length of the whole escape. The rest of the buffer is
@@ -63,29 +61,10 @@ fn push_escape<E: Platform>(form: Form, string: OsStr<'_, E>, buffer: &mut [u8])
     ensures { IsTruncated (escape_of (shown_by form) E.units (bytes string.entry)) buffer.old
         buffer.new result }
 {
-    let mut sink = Buffer {
+    let mut sink = TruncatedBuffer {
         bytes: buffer,
         count: 0,
     };
     let _ = write_escape_to(form, string, &mut sink);
     sink.count
-}
-
-/// A buffer, and the length of what was written so far.
-#[derive(Drop)]
-struct Buffer<'a> {
-    bytes: &'a mut [u8],
-    count: usize,
-}
-
-impl<'a> Sink for Buffer<'a> {
-    ghost use Rattle.os_quote.specs.BufferSink.{buffer_rules};
-
-    ghost rules = { buffer_rules };
-
-    #[inline(always)]
-    fn take(&mut self, piece: &str) -> fmt::Result {
-        self.count = push_truncated(self.bytes, self.count, piece.as_bytes());
-        Ok(())
-    }
 }

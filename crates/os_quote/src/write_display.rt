@@ -61,7 +61,7 @@ impl<'a, E: Platform> Writeable for Escaped<'a, E> {
 
     ghost text = { λ e. escaped_text e };
 
-    #[tactic(auto, using(crate::proofs::lemmas::Writing::written))]
+    #[tactic(auto, using(platform_str::proofs::lemmas::Taking::written))]
     fn write_to<W: fmt::Write>(&self, f: &mut fmt::Formatter<W>) -> fmt::Result {
         write_escape_to(self.form, self.string, f)
     }

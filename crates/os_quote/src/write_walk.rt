@@ -1,6 +1,7 @@
 //! Writes the escape of a string, piece by piece, to a sink.
-ghost use Rattle.os_quote.specs.{FormatterSink.formatter_rules, Sinks.SinkRules, Sinks.Takes, Sinks.TakesBeginning, Start.byte_item, Buffers.text_escape, Buffers.token_of, Escaped.escape_of, Item.item_text, Item.unit_item, Shown.shown_by, Hidden.AreUnchanged, Hidden.IsCutAtToken};
+ghost use Rattle.os_quote.specs.{Parts.TakesBeginning, Parts.text_escape, Parts.token_of, Start.byte_item, Escaped.escape_of, Item.item_text, Item.unit_item, Shown.shown_by, Hidden.AreUnchanged, Hidden.IsCutAtToken};
 ghost use Rattle.std.specs.Prelude.{◌≤◌, ◌++◌, IfOk, MatchOption, length};
+ghost use Rattle.platform_str.specs.Sinks.{Takes};
 ghost use Rattle.platform_str.specs.Strings.{bytes};
 
 use crate::find_hidden::split_hidden;
@@ -10,39 +11,8 @@ use crate::form::Form;
 use crate::read_token::split_backslash;
 use crate::write_bytes::{SHOWN, TEXTS, put_next, put_text, split_first_byte};
 use crate::write_token::TokenText;
-use os_str_bytes::{OsStr, Platform};
+use os_str_bytes::{OsStr, Platform, Sink};
 use std::fmt;
-
-/// A sink, which takes an escape piece by piece: a formatter, a buffer, or a text to compare with
-/// it. A piece is a `str`, since an escape is text and a formatter takes nothing else. So this
-/// sink can't take the words of a shell, which may hold a name that isn't UTF-8, and
-/// `os_command_line` has a sink of bytes.
-pub(crate) trait Sink {
-    ghost rules: { SinkRules Self };
-
-    /// Takes a piece. An error rejects the piece, and with it the whole escape.
-    fn take(&mut self, piece: &str) -> fmt::Result
-        requires { rules.has_room self.old piece.now }
-        ensures { Takes rules self.old piece.now result self.new };
-
-    /// Takes the text of a token, as `take` takes a piece.
-    #[inline(always)]
-    fn take_token(&mut self, token: TokenText) -> fmt::Result
-        requires { rules.has_room self.old token }
-        ensures { Takes rules self.old token result self.new }
-    {
-        self.take(token.as_str())
-    }
-}
-
-impl<W: fmt::Write> Sink for fmt::Formatter<W> {
-    ghost rules = { formatter_rules W.write_str_gives };
-
-    #[inline(always)]
-    fn take(&mut self, piece: &str) -> fmt::Result {
-        self.write_str(piece)
-    }
-}
 
 /// Writes the escape of a string in a form to a sink, piece by piece. Each piece is written right
 /// after it was examined, and before the next one is. Each form has its own loop, which doesn't
@@ -73,7 +43,7 @@ fn walk<E: Platform, S: Sink>(form: Form, string: OsStr<'_, E>, sink: &mut S) ->
     let mut rest = string.as_encoded_bytes();
     while !rest.is_empty() {
         if let Some((plain, following)) = split_plain(rest) {
-            sink.take(plain)?;
+            sink.take_text(plain)?;
             rest = following;
         } else if let Some((byte, following)) = split_first_byte::<E>(form, rest) {
             rest = write_bytes::<E, S>(form, byte, following, sink)?;
@@ -121,7 +91,7 @@ fn write_bytes<'a, E: Platform, S: Sink>(
         len = end;
         rest = after;
     }
-    sink.take(unsafe { str::from_utf8_unchecked(&texts[..len]) })?;
+    sink.take_text(unsafe { str::from_utf8_unchecked(&texts[..len]) })?;
     Ok(rest)
 }
 
@@ -138,7 +108,7 @@ fn write_text<S: Sink>(form: Form, text: &str, sink: &mut S) -> fmt::Result
         write_character(character, sink)?;
         rest = following;
     }
-    sink.take(rest)
+    sink.take_text(rest)
 }
 
 /// Writes a text to a sink as it is, unless it is empty, as between two tokens in a row.
@@ -150,7 +120,17 @@ fn write_unchanged<S: Sink>(text: &str, sink: &mut S) -> fmt::Result
     if text.is_empty() {
         return Ok(());
     }
-    sink.take(text)
+    sink.take_text(text)
+}
+
+/// Writes the text of a token to a sink. It is a piece of bytes, whose length is known where the
+/// token is made.
+#[inline(always)]
+fn take_token<S: Sink>(token: TokenText, sink: &mut S) -> fmt::Result
+    requires { S.rules.has_room sink.old token }
+    ensures { Takes S.rules sink.old token result sink.new }
+{
+    sink.take(token.as_str().as_bytes())
 }
 
 /// Writes the token of a unit to a sink: `\xHH` if it is below 100 (hexadecimal), else `\uHHHH`.
@@ -160,9 +140,9 @@ fn write_unit<S: Sink>(unit: u16, sink: &mut S) -> fmt::Result
     ensures { Takes S.rules sink.old (item_text (unit_item unit)) result sink.new }
 {
     if unit < 0x100 {
-        sink.take_token(TokenText::of_byte(unit as u8))
+        take_token(TokenText::of_byte(unit as u8), sink)
     } else {
-        sink.take_token(TokenText::of_wide(unit))
+        take_token(TokenText::of_wide(unit), sink)
     }
 }
 
@@ -175,11 +155,11 @@ fn write_character<S: Sink>(character: char, sink: &mut S) -> fmt::Result
 {
     let number = character as u32;
     if character == '\\' {
-        sink.take_token(TokenText::of_backslash())
+        take_token(TokenText::of_backslash(), sink)
     } else if number < 0x1_0000 {
-        sink.take_token(TokenText::of_wide(number as u16))
+        take_token(TokenText::of_wide(number as u16), sink)
     } else {
-        sink.take_token(TokenText::of_long(number))
+        take_token(TokenText::of_long(number), sink)
     }
 }
 

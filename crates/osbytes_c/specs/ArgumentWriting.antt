@@ -1,6 +1,6 @@
 -- An argument of a command line that is written into a buffer, unit by unit. Only private contracts name these.
 use Rattle.std.specs.Prelude.{ℕ, ◌+◌, ◌*◌, ◌≤◌, Bool, List, [], length}
-use Rattle.os_quote.specs.Buffers.{Pushes}
+use Rattle.platform_str.specs.BufferSink.{Pushes}
 use Rattle.os_command_line.specs.WindowsWriting.{IsAddedFor, IsWritten}
 
 -- what is added for a unit is appended

@@ -4,9 +4,9 @@ ghost use Rattle.osbytes_commands.specs.declared.fault.Fault.TheVariants.{Refuse
 ghost use Rattle.osbytes_commands.specs.Fault.{fault_of};
 
 use os_quote::QuoteError;
-use os_str_bytes::EncodingError;
+use os_str_bytes::{EncodingError, write_number};
 use program_frame::ended::ProgramFault;
-use program_frame::fault::{Failure, write_number};
+use program_frame::fault::Failure;
 use std::alloc::{AllocError, AllocFailed};
 use std::fmt;
 use std::fmt::Display as _;

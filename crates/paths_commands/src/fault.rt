@@ -5,8 +5,7 @@ ghost use Rattle.std.specs.Fmt.InlineText.{inline_text};
 ghost use Rattle.paths_commands.specs.Fault.{IsOfMisuse, at_fault_text, numbered, unlike_text};
 
 use os_path::JoinError;
-use os_str_bytes::EncodingError;
-use program_frame::fault::write_number;
+use os_str_bytes::{EncodingError, write_number};
 use program_frame::lists::fault::ItemRefusal;
 use program_frame::lists::program_fault;
 use program_frame::lists::program_fault::WordsRefusal;

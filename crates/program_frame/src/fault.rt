@@ -1,12 +1,10 @@
 //! What keeps a run from going on, whatever its input is.
-ghost use Rattle.std.specs.Prelude.{◌≡◌, decimal};
-ghost use Rattle.std.specs.Fmt.{WritesStyledOnOk};
+ghost use Rattle.std.specs.Prelude.{◌≡◌};
 ghost use Rattle.program_frame.specs.declared.fault.Failure.TheVariants.{Memory};
 
 use crate::ended::ProgramFault;
 use std::alloc::{AllocError, AllocFailed};
 use std::fmt;
-use std::fmt::{InlineText, Write as _};
 
 /// What keeps a run from going on, whatever its input is. Its text has no width: `{:>99}` writes
 /// what `{}` does.
@@ -78,29 +76,4 @@ impl<T: Drop> From<AllocFailed<T>> for Failure {
     fn from(_error: AllocFailed<T>) -> Failure {
         Failure::Memory
     }
-}
-
-/// Writes the decimal digits of a number. It ignores the formatter's width, since a fault's text
-/// has none.
-///
-/// ```
-/// use program_frame::fault::write_number;
-/// use std::fmt;
-///
-/// struct Number(usize);
-///
-/// impl fmt::Display for Number {
-///     fn fmt<W: fmt::Write>(&self, f: &mut fmt::Formatter<W>) -> fmt::Result {
-///         write_number(self.0, f)
-///     }
-/// }
-///
-/// assert_eq!(rt; Number(17).to_string(alloc)?.as_str(), "17");
-/// ```
-pub fn write_number<W: fmt::Write>(number: usize, f: &mut fmt::Formatter<W>) -> fmt::Result
-    ensures { WritesStyledOnOk W.write_str_gives f.old result (decimal number) f.new }
-{
-    let mut digits = InlineText::<20>::new();
-    write!(digits, "{number}")?;
-    f.write_str(digits.as_str())
 }

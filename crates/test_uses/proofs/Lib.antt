@@ -14,3 +14,4 @@ pub mod Repeats
 pub mod ReplacedParts
 pub mod SomeIndex
 pub mod TrimsAgain
+pub mod TwoPieces

@@ -40,6 +40,7 @@ pub mod raw_strings;
 pub mod readings;
 pub mod searches;
 pub mod shown;
+pub mod sinks;
 pub mod somewhere;
 pub mod symbols;
 pub mod texts;

@@ -4,7 +4,6 @@ ghost use Rattle.platform_str.specs.Strings.{bytes};
 ghost use Rattle.os_command_line.specs.ShellSteps.{prints_text};
 
 use crate::shell::form::Form;
-use crate::shell::sink::Printer;
 use crate::shell::write_word::write_in;
 use platform_str::{OsStr, Unix, Writeable, write_filled};
 use std::alloc::AllocError;
@@ -55,12 +54,8 @@ impl<'a> Writeable for Quoted<'a> {
 
     ghost text = { λ q. quoted_text q };
 
+    #[tactic(auto, using(platform_str::proofs::lemmas::Taking::written))]
     fn write_to<W: fmt::Write>(&self, f: &mut fmt::Formatter<W>) -> fmt::Result {
-        let mut printer = Printer {
-            formatter: f,
-            result: Ok(()),
-        };
-        write_in(self.form, self.name, &mut printer);
-        printer.result
+        write_in(self.form, self.name, f)
     }
 }

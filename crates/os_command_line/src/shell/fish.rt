@@ -1,6 +1,7 @@
 //! Names as words of fish.
 ghost use Rattle.std.specs.Prelude.{◌≡◌, ◌+◌, ◌*◌, ◌<◌, ◌^◌, ℕ, List, true, false, length, IfOk, IfErr, OnOk, MatchOption};
 ghost use Rattle.wtf8_core.specs.Truncated.{IsTruncated};
+ghost use Rattle.platform_str.specs.Sinks.{Takes};
 ghost use Rattle.platform_str.specs.Strings.{bytes};
 ghost use Rattle.os_command_line.specs.Fish.{fish_byte, fish_quoted, fish_text, fish_word, is_escaped, IsFishFault, IsFishText};
 ghost use Rattle.os_command_line.specs.ShellSteps.{AreShown, IsCutAtEscaped, ends_high};
@@ -9,9 +10,8 @@ ghost use Rattle.os_command_line.specs.ShellWriting.{HasNoNul, IsFirstNul};
 use crate::error_text::write_at_byte;
 use crate::shell::error::NulError;
 use crate::shell::form::{first_nul, is_plain_name};
-use crate::shell::sink::{Buffer, Printer, Sink};
 use memchr::memchr2;
-use platform_str::{OsStr, Platform, Unix, Writeable, write_filled};
+use platform_str::{OsStr, Platform, Sink, TruncatedBuffer, Unix, Writeable, write_filled};
 use std::error::Error;
 use std::fmt;
 
@@ -149,11 +149,11 @@ fn push_word(buffer: &mut [u8], name: &[u8]) -> usize
     requires { 3 * length name.now + 2 < 2 ^ 64 }
     ensures { IsTruncated (fish_word name.now) buffer.old buffer.new result }
 {
-    let mut sink = Buffer {
+    let mut sink = TruncatedBuffer {
         bytes: buffer,
         count: 0,
     };
-    write_word(name, &mut sink);
+    let _ = write_word(name, &mut sink);
     sink.count
 }
 
@@ -181,20 +181,15 @@ impl<'a> Writeable for FishQuoted<'a> {
     ghost text = { λ q. fish_text q };
 
     fn write_to<W: fmt::Write>(&self, f: &mut fmt::Formatter<W>) -> fmt::Result {
-        let mut printer = Printer {
-            formatter: f,
-            result: Ok(()),
-        };
-        write_word(self.text.as_bytes(), &mut printer);
-        printer.result
+        write_word(self.text.as_bytes(), f)
     }
 }
 
 /// Writes bytes as a word to a sink.
-fn write_word<S: Sink>(name: &[u8], sink: &mut S)
+fn write_word<S: Sink>(name: &[u8], sink: &mut S) -> fmt::Result
     requires accepted { S.pieces.accepts name.now }
     requires room { S.rules.has_room sink.old (fish_word name.now) }
-    ensures { S.rules.took sink.old (fish_word name.now) sink.new }
+    ensures { Takes S.rules sink.old (fish_word name.now) result sink.new }
 {
     if is_plain_name(name) {
         sink.take(name)
@@ -204,20 +199,20 @@ fn write_word<S: Sink>(name: &[u8], sink: &mut S)
 }
 
 /// Writes bytes in single quotes to a sink.
-fn write_in_quotes<S: Sink>(name: &[u8], sink: &mut S)
+fn write_in_quotes<S: Sink>(name: &[u8], sink: &mut S) -> fmt::Result
     requires accepted { S.pieces.accepts name.now }
     requires room { S.rules.has_room sink.old (fish_quoted name.now) }
-    ensures { S.rules.took sink.old (fish_quoted name.now) sink.new }
+    ensures { Takes S.rules sink.old (fish_quoted name.now) result sink.new }
 {
-    sink.take_text("'");
+    sink.take_text("'")?;
     let mut rest = name;
     while let Some((prefix, byte, after)) = cut_at_escaped(rest) {
-        sink.take(prefix);
-        sink.take_text(escape_of(ends_high(prefix), byte));
+        sink.take(prefix)?;
+        sink.take_text(escape_of(ends_high(prefix), byte))?;
         rest = after;
     }
-    sink.take(rest);
-    sink.take_text("'");
+    sink.take(rest)?;
+    sink.take_text("'")
 }
 
 /// What comes before the first single quote or backslash, it, and what comes after it.

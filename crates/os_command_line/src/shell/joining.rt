@@ -10,8 +10,7 @@ ghost use Rattle.os_command_line.specs.ShellWriting.{HasNoNul, IsFirstNameFault,
 
 use crate::shell::error::ShellError;
 use crate::shell::owned::{push_first, push_next, unix_string};
-use crate::strings::string_at;
-use platform_str::{OsStr, OsString, Unix};
+use platform_str::{OsStr, OsString, Unix, string_at};
 use std::alloc::{AllocError, Allocator};
 
 /// Returns a line of the words of these names ([`quote`](crate::shell::quote)), separated by

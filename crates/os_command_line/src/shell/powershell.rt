@@ -5,13 +5,13 @@ ghost use Rattle.std.specs.Char.{encode_utf8};
 ghost use Rattle.std.specs.Fmt.{WritesStyledOnOk};
 ghost use Rattle.std.specs.Str.{IsUtf8, chars};
 ghost use Rattle.wtf8_core.specs.Truncated.{IsTruncated};
+ghost use Rattle.platform_str.specs.Sinks.{Takes};
 ghost use Rattle.platform_str.specs.Strings.{bytes};
 ghost use Rattle.os_command_line.specs.PowerShell.{HasNulAt, is_single_quote, IsPowerShellFault, IsPowerShellName, IsPowerShellText, powershell_character, powershell_string, powershell_text};
 
 use crate::error_text::write_at_byte;
-use crate::shell::sink::{Buffer, Printer, Sink};
 use memchr::memchr;
-use platform_str::{OsStr, Platform, Windows, Writeable, write_filled};
+use platform_str::{OsStr, Platform, Sink, TruncatedBuffer, Windows, Writeable, write_filled};
 use std::error::Error;
 use std::fmt;
 
@@ -160,11 +160,11 @@ fn push_string(buffer: &mut [u8], text: &str) -> usize
     requires { 2 * length text.now + 2 < 2 ^ 64 }
     ensures { IsTruncated (powershell_string (chars text.now)) buffer.old buffer.new result }
 {
-    let mut sink = Buffer {
+    let mut sink = TruncatedBuffer {
         bytes: buffer,
         count: 0,
     };
-    write_string(text, &mut sink);
+    let _ = write_string(text, &mut sink);
     sink.count
 }
 
@@ -196,37 +196,33 @@ impl<'a> Writeable for PowerShellQuoted<'a> {
 
     ghost text = { λ q. powershell_text q };
 
+    #[tactic(auto, using(platform_str::proofs::lemmas::Taking::written))]
     fn write_to<W: fmt::Write>(&self, f: &mut fmt::Formatter<W>) -> fmt::Result {
-        let mut printer = Printer {
-            formatter: f,
-            result: Ok(()),
-        };
-        write_string(self.text, &mut printer);
-        printer.result
+        write_string(self.text, f)
     }
 }
 
 /// Writes a text as a string to a sink.
-fn write_string<S: Sink>(text: &str, sink: &mut S)
+fn write_string<S: Sink>(text: &str, sink: &mut S) -> fmt::Result
     requires { S.rules.has_room sink.old (powershell_string (chars text.now)) }
-    ensures { S.rules.took sink.old (powershell_string (chars text.now)) sink.new }
+    ensures { Takes S.rules sink.old (powershell_string (chars text.now)) result sink.new }
 {
-    sink.take_text("'");
+    sink.take_text("'")?;
     for character in text.chars() {
-        write_character(character, sink);
+        write_character(character, sink)?;
     }
-    sink.take_text("'");
+    sink.take_text("'")
 }
 
 /// Writes a character of a string to a sink.
-fn write_character<S: Sink>(character: char, sink: &mut S)
+fn write_character<S: Sink>(character: char, sink: &mut S) -> fmt::Result
     requires { S.rules.has_room sink.old (powershell_character character) }
-    ensures { S.rules.took sink.old (powershell_character character) sink.new }
+    ensures { Takes S.rules sink.old (powershell_character character) result sink.new }
 {
     let mut room = [0; 4];
     let encoded: &str = character.encode_utf8(&mut room);
     if is_single_quote(character) {
-        sink.take_text(encoded);
+        sink.take_text(encoded)?;
         sink.take_text(encoded)
     } else {
         sink.take_text(encoded)

@@ -8,9 +8,8 @@ ghost use Rattle.os_command_line.specs.ShellWriting.{HasNoNul, IsFirstNul, IsLin
 
 use crate::shell::error::NulError;
 use crate::shell::form::{Form, first_form_of, form_of, line_form_of};
-use crate::shell::sink::Buffer;
 use crate::shell::write_word::write_in;
-use platform_str::{OsStr, Unix};
+use platform_str::{OsStr, TruncatedBuffer, Unix};
 
 /// Writes the word of a name ([`quoted`](crate::shell::quoted)) into a buffer, truncated if the
 /// buffer is too short for it, and returns the length of the whole word. What the word doesn't
@@ -108,10 +107,10 @@ pub(crate) fn push_in(form: Form, name: OsStr<'_, Unix>, buffer: &mut [u8]) -> u
     requires { 4 * length (bytes name) + 3 < 2 ^ 64 }
     ensures { IsTruncated (form_text form (bytes name.entry)) buffer.old buffer.new result }
 {
-    let mut sink = Buffer {
+    let mut sink = TruncatedBuffer {
         bytes: buffer,
         count: 0,
     };
-    write_in(form, name, &mut sink);
+    let _ = write_in(form, name, &mut sink);
     sink.count
 }

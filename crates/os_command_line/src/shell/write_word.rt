@@ -2,6 +2,7 @@
 ghost use Rattle.std.specs.Prelude.{◌<◌, ◌∷◌, [], false};
 ghost use Rattle.std.specs.List.{AllByRecursion, flat_map};
 ghost use Rattle.platform_str.specs.PlatformWords.{itself};
+ghost use Rattle.platform_str.specs.Sinks.{Takes};
 ghost use Rattle.platform_str.specs.Strings.{bytes};
 ghost use Rattle.os_str_ext.specs.Symbols.{symbols_of};
 ghost use Rattle.os_command_line.specs.ShellSteps.{form_text, AcceptsForm};
@@ -9,16 +10,16 @@ ghost use Rattle.os_command_line.specs.ShellWriting.{single_byte, single_quoted,
 
 use crate::shell::form::{Form, cut_at_quote};
 use crate::shell::octal::{is_escape, is_high, letter_for, octal_digit};
-use crate::shell::sink::Sink;
 use os_quote::stays_on_line;
 use os_str_ext::{OsStrBytesExt, Symbol};
-use platform_str::{OsStr, Unix};
+use platform_str::{OsStr, Sink, Unix};
+use std::fmt;
 
 /// Writes a name in a form.
-pub(crate) fn write_in<S: Sink>(form: Form, name: OsStr<'_, Unix>, sink: &mut S)
+pub(crate) fn write_in<S: Sink>(form: Form, name: OsStr<'_, Unix>, sink: &mut S) -> fmt::Result
     requires accepted { AcceptsForm S.pieces.accepts form (bytes name) }
     requires room { S.rules.has_room sink.old (form_text form (bytes name)) }
-    ensures { S.rules.took sink.old (form_text form (bytes name.entry)) sink.new }
+    ensures { Takes S.rules sink.old (form_text form (bytes name.entry)) result sink.new }
 {
     match form {
         Form::Bare => sink.take(name.as_encoded_bytes()),
@@ -28,41 +29,41 @@ pub(crate) fn write_in<S: Sink>(form: Form, name: OsStr<'_, Unix>, sink: &mut S)
 }
 
 /// Writes bytes in single quotes.
-fn write_single<S: Sink>(bytes: &[u8], sink: &mut S)
+fn write_single<S: Sink>(bytes: &[u8], sink: &mut S) -> fmt::Result
     requires accepted { S.pieces.accepts bytes.now }
     requires room { S.rules.has_room sink.old (single_quoted bytes.now) }
-    ensures { S.rules.took sink.old (single_quoted bytes.now) sink.new }
+    ensures { Takes S.rules sink.old (single_quoted bytes.now) result sink.new }
 {
-    sink.take_text("'");
+    sink.take_text("'")?;
     let mut rest = bytes;
     while let Some((prefix, after)) = cut_at_quote(rest) {
-        sink.take(prefix);
-        sink.take_text("'\\''");
+        sink.take(prefix)?;
+        sink.take_text("'\\''")?;
         rest = after;
     }
-    sink.take(rest);
-    sink.take_text("'");
+    sink.take(rest)?;
+    sink.take_text("'")
 }
 
 /// Writes a name in dollar-single-quotes.
-fn write_dollar<S: Sink>(name: OsStr<'_, Unix>, sink: &mut S)
+fn write_dollar<S: Sink>(name: OsStr<'_, Unix>, sink: &mut S) -> fmt::Result
     requires { S.rules.has_room sink.old (dollar_quoted (symbols_of itself (bytes name))) }
-    ensures { S.rules.took sink.old (dollar_quoted (symbols_of itself (bytes name.entry)))
-        sink.new }
+    ensures { Takes S.rules sink.old (dollar_quoted (symbols_of itself (bytes name.entry)))
+        result sink.new }
 {
-    sink.take_text("$'");
+    sink.take_text("$'")?;
     let mut high = false;
     for symbol in name.symbols() {
-        write_after(high, symbol, sink);
+        write_after(high, symbol, sink)?;
         high = is_high(symbol);
     }
-    sink.take_text("'");
+    sink.take_text("'")
 }
 
 /// Writes what means a symbol, after a byte from 0x80 on or not.
-fn write_after<S: Sink>(high: bool, symbol: Symbol, sink: &mut S)
+fn write_after<S: Sink>(high: bool, symbol: Symbol, sink: &mut S) -> fmt::Result
     requires { S.rules.has_room sink.old (text_after high symbol) }
-    ensures { S.rules.took sink.old (text_after high symbol) sink.new }
+    ensures { Takes S.rules sink.old (text_after high symbol) result sink.new }
 {
     if high && is_escape(symbol) {
         return write_again(symbol, sink);
@@ -71,18 +72,18 @@ fn write_after<S: Sink>(high: bool, symbol: Symbol, sink: &mut S)
 }
 
 /// Ends the quotes, begins them again and writes what means a symbol.
-fn write_again<S: Sink>(symbol: Symbol, sink: &mut S)
+fn write_again<S: Sink>(symbol: Symbol, sink: &mut S) -> fmt::Result
     requires { S.rules.has_room sink.old (0x27 ∷ 0x24 ∷ 0x27 ∷ symbol_text symbol) }
-    ensures { S.rules.took sink.old (0x27 ∷ 0x24 ∷ 0x27 ∷ symbol_text symbol) sink.new }
+    ensures { Takes S.rules sink.old (0x27 ∷ 0x24 ∷ 0x27 ∷ symbol_text symbol) result sink.new }
 {
-    sink.take_text("'$'");
+    sink.take_text("'$'")?;
     write_symbol(symbol, sink)
 }
 
 /// Writes what means a symbol.
-fn write_symbol<S: Sink>(symbol: Symbol, sink: &mut S)
+fn write_symbol<S: Sink>(symbol: Symbol, sink: &mut S) -> fmt::Result
     requires { S.rules.has_room sink.old (symbol_text symbol) }
-    ensures { S.rules.took sink.old (symbol_text symbol) sink.new }
+    ensures { Takes S.rules sink.old (symbol_text symbol) result sink.new }
 {
     match symbol {
         Symbol::Character(character) => write_character(character, sink),
@@ -91,9 +92,10 @@ fn write_symbol<S: Sink>(symbol: Symbol, sink: &mut S)
 }
 
 /// Writes what means a character.
-fn write_character<S: Sink>(character: char, sink: &mut S)
+fn write_character<S: Sink>(character: char, sink: &mut S) -> fmt::Result
     requires { S.rules.has_room sink.old (character_text character (letter_for character)) }
-    ensures { S.rules.took sink.old (character_text character (letter_for character)) sink.new }
+    ensures { Takes S.rules sink.old (character_text character (letter_for character)) result
+        sink.new }
 {
     match letter_for(character) {
         Some(letter) => take_ascii(&[b'\\', letter], sink),
@@ -102,9 +104,9 @@ fn write_character<S: Sink>(character: char, sink: &mut S)
 }
 
 /// Writes a character as it is, or byte by byte if it doesn't stay on the line.
-fn write_shown<S: Sink>(character: char, sink: &mut S)
+fn write_shown<S: Sink>(character: char, sink: &mut S) -> fmt::Result
     requires { S.rules.has_room sink.old (shown_or_octal character) }
-    ensures { S.rules.took sink.old (shown_or_octal character) sink.new }
+    ensures { Takes S.rules sink.old (shown_or_octal character) result sink.new }
 {
     let mut room = [0; 4];
     let text: &str = character.encode_utf8(&mut room);
@@ -116,19 +118,20 @@ fn write_shown<S: Sink>(character: char, sink: &mut S)
 }
 
 /// Writes each byte as a backslash and three octal digits.
-fn write_octals<S: Sink>(bytes: &[u8], sink: &mut S)
+fn write_octals<S: Sink>(bytes: &[u8], sink: &mut S) -> fmt::Result
     requires { S.rules.has_room sink.old (flat_map octal_text bytes.now) }
-    ensures { S.rules.took sink.old (flat_map octal_text bytes.now) sink.new }
+    ensures { Takes S.rules sink.old (flat_map octal_text bytes.now) result sink.new }
 {
     for byte in bytes {
-        write_octal(*byte as u16, sink);
+        write_octal(*byte as u16, sink)?;
     }
+    Ok(())
 }
 
 /// Writes a backslash and three octal digits.
-fn write_octal<S: Sink>(number: u16, sink: &mut S)
+fn write_octal<S: Sink>(number: u16, sink: &mut S) -> fmt::Result
     requires { S.rules.has_room sink.old (octal_text number) }
-    ensures { S.rules.took sink.old (octal_text number) sink.new }
+    ensures { Takes S.rules sink.old (octal_text number) result sink.new }
 {
     let text = [
         b'\\',
@@ -140,10 +143,10 @@ fn write_octal<S: Sink>(number: u16, sink: &mut S)
 }
 
 /// Writes ASCII bytes, which are text.
-fn take_ascii<S: Sink>(bytes: &[u8], sink: &mut S)
+fn take_ascii<S: Sink>(bytes: &[u8], sink: &mut S) -> fmt::Result
     requires ascii { AllByRecursion (λ b. b < 0x80) bytes.now }
     requires room { S.rules.has_room sink.old bytes.now }
-    ensures { S.rules.took sink.old bytes.now sink.new }
+    ensures { Takes S.rules sink.old bytes.now result sink.new }
 {
     sink.take(bytes)
 }

@@ -6,10 +6,9 @@ ghost use Rattle.platform_str.specs.Strings.{bytes};
 ghost use Rattle.os_command_line.specs.Windows.{IsBlank, backslashes, IsPlain, IsTextOf, IsCommandLine};
 ghost use Rattle.os_command_line.specs.WindowsWriting.{HasNo, IsAddedFor, IsWritten, IsArgumentFault, IsCommandLineFault, IsWritableName, argument_text, escaped, in_marks, line_text};
 
-use crate::strings::string_at;
 use crate::windows::checks::{first_at, has_no_blank};
 use crate::windows::error::CommandLineError;
-use platform_str::{OsStr, Platform, Windows};
+use platform_str::{OsStr, Platform, Windows, string_at};
 use std::alloc::{AllocError, Allocator};
 
 const BACKSLASH: u16 = 0x5C;

@@ -2,7 +2,7 @@
 use Rattle.os_quote.proofs.Common.{◌≡◌, ℕ, ◌+◌, ◌<◌, ◌^◌, List, [], ◌++◌, length, refl, sym, ap, ◌∙◌, subst, arith, append_assoc, append-nil, length-append, Pushes}
 use Rattle.std.proofs.Common.{Result, Ok, Err, MatchResult}
 use Rattle.std.specs.declared.fmt.Error.{Error}
-pub use Rattle.os_quote.specs.BufferSink.{push_nothing, push_both}
+pub use Rattle.platform_str.specs.BufferSink.{push_nothing, push_both}
 use Rattle.wtf8_core.specs.Truncated.{IsTruncated}
 use Rattle.wtf8_core.proofs.lemmas.buffers.Truncated.{none_yet}
 
@@ -18,10 +18,10 @@ push_bytes {old} {new} {n = n} {m = m} e written len = subst (λ x. Pushes x old
 pub pushed_all : {a old new : List ℕ} {k : ℕ} → Pushes a old 0 new k → IsTruncated a old new k
 pushed_all {a} {old} {new} {k} p = p.0 [] old (none_yet old)
 
--- a buffer refuses nothing
-pub never_refused : {Took : Type 0} (r : Result (Unit {0}) Error) → MatchResult r (λ _. Took) (λ _. ⊥) → Took
-never_refused (Ok x) took = took
-never_refused (Err e) never = absurd never
+-- a buffer rejects nothing
+pub never_rejected : {Took : Type 0} (r : Result (Unit {0}) Error) → MatchResult r (λ _. Took) (λ _. ⊥) → Took
+never_rejected (Ok x) took = took
+never_rejected (Err e) never = absurd never
 
 pub pushed_whole : {text now old new last : List ℕ} {n k : ℕ} → Pushes text now n new k → now ≡ old → n ≡ 0 → last ≡ new → IsTruncated text old last k
 pushed_whole {text} {now} {old} {new} {last} {n} {k} p e z l = subst (λ x. IsTruncated text old x k) (sym l) (pushed_all (subst (λ x. Pushes text x 0 new k) e (subst (λ m. Pushes text now m new k) z p)))

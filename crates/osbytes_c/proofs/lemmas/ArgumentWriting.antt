@@ -2,7 +2,7 @@
 use Rattle.std.proofs.Common.{◌≡◌, ◌≢◌, ℕ, ◌+◌, Bool, true, false, List, [], ◌∷◌, ◌++◌, length, refl, sym, ap, subst, arith, length-append}
 use Rattle.std.proofs.lemmas.List.{replicate_more, length-replicate}
 use Rattle.wtf8_core.specs.Truncated.{IsTruncated}
-use Rattle.os_quote.specs.Buffers.{Pushes}
+use Rattle.platform_str.specs.BufferSink.{Pushes}
 use Rattle.os_quote.proofs.lemmas.Pushing.{push_both, push_nothing, push_same, pushed_all}
 use Rattle.os_command_line.specs.Windows.{backslash, quote, backslashes, IsTextOf, IsPlain}
 use Rattle.os_command_line.specs.WindowsWriting.{IsWritten}

@@ -1,6 +1,6 @@
 //! Units in a buffer that may be too short for them.
 ghost use Rattle.std.specs.Prelude.{◌+◌, ◌<◌, ◌^◌, ◌∷◌, []};
-ghost use Rattle.os_quote.specs.Buffers.{Pushes};
+ghost use Rattle.platform_str.specs.BufferSink.{Pushes};
 
 /// Appends a unit to a buffer that has `count` units, as far as there is room.
 #[inline(always)]

@@ -1,7 +1,7 @@
 //! The words of a line, as a shell reads it.
 ghost use Rattle.std.specs.Prelude.{◌≡◌, ◌⊎◌, ◌≤◌, ◌<◌, ◌↔◌, ◌*◌, ◌+◌, ◌^◌, ◌∷◌, ◌++◌, [], List, ℕ, Result, Ok, Err, map, length, MatchOption, MatchResult};
 ghost use Rattle.wtf8_core.specs.Truncated.{IsTruncated};
-ghost use Rattle.os_quote.specs.Buffers.{Pushes};
+ghost use Rattle.platform_str.specs.BufferSink.{Pushes};
 ghost use Rattle.os_command_line.specs.Shell.{IsRead};
 ghost use Rattle.os_command_line.specs.ShellViews.{word_bytes};
 ghost use Rattle.os_command_line.specs.ShellWriting.{HasNoNul, IsFirstNul};

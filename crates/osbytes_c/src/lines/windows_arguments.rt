@@ -3,7 +3,7 @@ ghost use Rattle.std.specs.Prelude.{◌≡◌, ◌⊎◌, ◌<◌, ◌↔◌, �
 ghost use Rattle.wtf8_core.specs.Truncated.{IsTruncated};
 ghost use Rattle.wtf8_core.specs.UnitsOf.{units_of};
 ghost use Rattle.wtf8_core.specs.Wtf8.{IsWtf8};
-ghost use Rattle.os_quote.specs.Buffers.{Pushes};
+ghost use Rattle.platform_str.specs.BufferSink.{Pushes};
 ghost use Rattle.os_command_line.specs.ShellWriting.{HasNoNul, IsFirstNul};
 ghost use Rattle.os_command_line.specs.WindowsViews.{argument_units};
 ghost use Rattle.osbytes_c.specs.Answers.{IsOneOf, IsWritten};

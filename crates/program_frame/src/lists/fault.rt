@@ -4,7 +4,8 @@ ghost use Rattle.std.specs.Fmt.{WritesStyledOnOk};
 ghost use Rattle.program_frame.specs.ListFault.{index_text};
 
 use crate::ended::ProgramFault;
-use crate::fault::{Failure, write_number};
+use crate::fault::Failure;
+use os_str_bytes::write_number;
 use std::fmt;
 use std::fmt::Display as _;
 

@@ -1,5 +1,5 @@
 use Rattle.os_quote.proofs.Common.{refl, rules, sym, arith, bytes, shown_by, are_chunks_of}
-use Rattle.os_quote.proofs.lemmas.{ItemLengths.escape_is_short, Pushing.never_refused, Pushing.pushed_whole}
+use Rattle.os_quote.proofs.lemmas.{ItemLengths.escape_is_short, Pushing.never_rejected, Pushing.pushed_whole}
 use Rattle.os_quote.proofs.write_buffer.push_escape.Goals as goal
 
 pub write_escape_to-requires : goal.write_escape_to-requires
@@ -7,6 +7,6 @@ write_escape_to-requires g c = grind (arith, escape_is_short, shown_by, are_chun
 
 pub returns : goal.returns
 returns g c =
-    let pushed = never_refused c.write_escape_to.result c.write_escape_to.ensures in
+    let pushed = never_rejected c.write_escape_to.result c.write_escape_to.ensures in
     let same = sym pushed.0 in
     pushed_whole pushed.1 refl refl (search (rules, same))

@@ -1,4 +1,5 @@
-use Rattle.os_quote.proofs.{Common.length, Common.bytes, Common.shown_by, Common.escape_of, lemmas.Taking.TakesRest}
+use Rattle.os_quote.proofs.{Common.length, Common.bytes, Common.shown_by, Common.escape_of}
+use Rattle.platform_str.proofs.lemmas.Taking.{TakesRest}
 use Rattle.os_quote.proofs.write_walk.walk.Given as goal
 
 abbrev pub invariant-loop-rest : goal.invariant-loop-rest

@@ -35,8 +35,8 @@ from_utf8_unchecked-requires g c =
     ] in
     subst (λ t. IsUtf8 (take c.loop-len.len t)) (sym same) c.loop-len.invariant.1
 
-pub take-requires : goal.take-requires
-take-requires g c =
+pub take_text-requires : goal.take_text-requires
+take_text-requires g c =
     let sink = g.S.Sink.rules in
     let old = c.args.sink.now in
     let same : c.loop-len-test.texts ≡ c.loop-len.texts = elim c.loop-len-test.branch [
@@ -47,8 +47,8 @@ take-requires g c =
     let all = parts c.loop-len.len _ c.loop-len.invariant.4 same c.from_utf8_unchecked.ensures in
     sink.room_before old _ _ (subst (sink.has_room old) all c.requires.room)
 
-pub returns-in_err-take-clause-taken : goal.returns-in_err-take-clause-taken
-returns-in_err-take-clause-taken g c =
+pub returns-in_err-take_text-clause-taken : goal.returns-in_err-take_text-clause-taken
+returns-in_err-take_text-clause-taken g c =
     let sink = g.S.Sink.rules in
     let old = c.args.sink.now in
     let same : c.loop-len-test.texts ≡ c.loop-len.texts = elim c.loop-len-test.branch [
@@ -57,7 +57,7 @@ returns-in_err-take-clause-taken g c =
       | then-loop-len-test+then-shown-lt-SHOWN+in_default w ↦ w.texts-is ∙ w.in_default.ensures
     ] in
     let all = parts c.loop-len.len _ c.loop-len.invariant.4 same c.from_utf8_unchecked.ensures in
-    rw (err_from_is_err_and c.from_residual.result c.from_residual.ensures.1).1 (subst (sink.refuses old) (sym all) (sink.refuses_after old old [] _ _ (sink.took_nothing old) c.in_err-take.ensures))
+    rw (err_from_is_err_and c.from_residual.result c.from_residual.ensures.1).1 (subst (sink.rejects old) (sym all) (sink.rejects_after old old [] _ _ (sink.took_nothing old) c.in_err-take_text.ensures))
 
 pub returns : goal.returns
 returns g c =
@@ -68,6 +68,6 @@ returns g c =
       | then-loop-len-test+then-shown-lt-SHOWN+in_default w ↦ w.texts-is ∙ w.in_default.ensures
     ] in
     record {
-      taken = (c.from_utf8_unchecked.result.now, c.in_ok-take.ensures, parts c.loop-len.len _ so_far.4 same c.from_utf8_unchecked.ensures);
+      taken = (c.from_utf8_unchecked.result.now, c.in_ok-take_text.ensures, parts c.loop-len.len _ so_far.4 same c.from_utf8_unchecked.ensures);
       rest = (so_far.2, so_far.3);
     }

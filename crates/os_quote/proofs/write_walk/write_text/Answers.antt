@@ -1,6 +1,6 @@
 use Rattle.os_quote.proofs.Common.{[], ◌∙◌, refl, sym, append-nil}
-use Rattle.std.proofs.lemmas.Result.{err_from_is_err_and}
-use Rattle.os_quote.proofs.lemmas.{Texts.cut_escape, Texts.unchanged_text, Lines.cut_is_shorter, Taking.one_taken, Taking.last_taken, Taking.room_left, Taking.none_taken}
+use Rattle.os_quote.proofs.lemmas.{Texts.cut_escape, Texts.unchanged_text, Lines.cut_is_shorter}
+use Rattle.platform_str.proofs.lemmas.Taking.{one_taken, last_taken, room_left, none_taken, rejected}
 use Rattle.os_quote.proofs.write_walk.write_text.Goals as goal
 
 pub write_unchanged-requires : goal.write_unchanged-requires
@@ -20,15 +20,15 @@ pub loop-prefix-smaller : goal.loop-prefix-smaller
 loop-prefix-smaller g c = cut_is_shorter _ _ _ _ _ c.in-Some.ensures
 
 pub returns-in_err-write_unchanged : goal.returns-in_err-write_unchanged
-returns-in_err-write_unchanged g c = rw (err_from_is_err_and c.from_residual.result c.from_residual.ensures.1).1 (none_taken g.S.Sink.rules c.loop-prefix.invariant.1 _ _ c.in_err-write_unchanged.ensures (cut_escape _ c.loop-prefix.invariant.0 c.in-Some.ensures))
+returns-in_err-write_unchanged g c = rejected g.S.Sink.rules _ _ c.from_residual.result c.from_residual.ensures.1 (none_taken g.S.Sink.rules c.loop-prefix.invariant.1 _ _ c.in_err-write_unchanged.ensures (cut_escape _ c.loop-prefix.invariant.0 c.in-Some.ensures))
 
 pub returns-in_err-write_character : goal.returns-in_err-write_character
 returns-in_err-write_character g c =
     let sink = g.S.Sink.rules in
-    rw (err_from_is_err_and c.from_residual-in_err-write_character.result c.from_residual-in_err-write_character.ensures.1).1 (none_taken sink (one_taken sink c.loop-prefix.invariant.1 c.in_ok-write_unchanged.ensures (cut_escape _ c.loop-prefix.invariant.0 c.in-Some.ensures)) _ _ c.in_err-write_character.ensures refl)
+    rejected g.S.Sink.rules _ _ c.from_residual-in_err-write_character.result c.from_residual-in_err-write_character.ensures.1 (none_taken sink (one_taken sink c.loop-prefix.invariant.1 c.in_ok-write_unchanged.ensures (cut_escape _ c.loop-prefix.invariant.0 c.in-Some.ensures)) _ _ c.in_err-write_character.ensures refl)
 
-pub take-requires : goal.take-requires
-take-requires g c = room_left g.S.Sink.rules c.loop-prefix.invariant.1 _ [] c.requires (unchanged_text _ _ c.loop-prefix.invariant.0 c.in_default.ensures ∙ sym (append-nil _))
+pub take_text-requires : goal.take_text-requires
+take_text-requires g c = room_left g.S.Sink.rules c.loop-prefix.invariant.1 _ [] c.requires (unchanged_text _ _ c.loop-prefix.invariant.0 c.in_default.ensures ∙ sym (append-nil _))
 
 pub returns : goal.returns
-returns g c = last_taken g.S.Sink.rules _ _ c.loop-prefix.invariant.1 (unchanged_text _ _ c.loop-prefix.invariant.0 c.in_default.ensures) c.take.result c.take.ensures
+returns g c = last_taken g.S.Sink.rules _ _ c.loop-prefix.invariant.1 (unchanged_text _ _ c.loop-prefix.invariant.0 c.in_default.ensures) c.take_text.result c.take_text.ensures

@@ -1,4 +1,5 @@
-use Rattle.os_quote.proofs.{Common.length, Common.shadow, Common.Utf8, Common.text_escape, Common.shown_by, lemmas.Taking.TakesRest}
+use Rattle.os_quote.proofs.{Common.length, Common.shadow, Common.Utf8, Common.text_escape, Common.shown_by}
+use Rattle.platform_str.proofs.lemmas.Taking.{TakesRest}
 use Rattle.os_quote.proofs.write_walk.write_text.Given as goal
 
 abbrev pub invariant-loop-prefix : goal.invariant-loop-prefix

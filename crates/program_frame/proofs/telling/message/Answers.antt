@@ -1,4 +1,4 @@
-use Rattle.os_quote.proofs.lemmas.InlineTexts.{of_writes}
+use Rattle.platform_str.proofs.lemmas.InlineTexts.{of_writes}
 use Rattle.program_frame.proofs.telling.message.Goals as goal
 
 pub returns-in-Ok : goal.returns-in-Ok

@@ -7,4 +7,4 @@ use Rattle.os_args.proofs.arguments.Arguments.value.Goals as goal
 pub returns : goal.returns
 returns g c =
     let now = c.optional_value.new.self in
-    inr (c.in_default.ensures.0, takes_whole (reading c.args.self.now) (reading now) (bytes c.in-Some-first_after.word) (drop (now.index + 1) (map bytes now.words.now)) c.in_default.ensures.1 c.in-Some-first_after.ensures.first)
+    inr (c.in_default.ensures.0, takes_whole (reading c.args.self.now) (reading now) (bytes c.in-Some-string_at.word) (drop (now.index + 1) (map bytes now.words.now)) c.in_default.ensures.1 c.in-Some-string_at.ensures.first)

@@ -1,5 +1,5 @@
 use Rattle.std.proofs.Common.{rules, refl, sym, arith}
-use Rattle.os_quote.proofs.lemmas.Pushing.{pushed_whole}
+use Rattle.os_quote.proofs.lemmas.Pushing.{never_rejected, pushed_whole}
 use Rattle.os_command_line.proofs.lemmas.Fish.{word_len}
 use Rattle.os_command_line.proofs.shell.fish.push_word.Goals as goal
 
@@ -8,6 +8,6 @@ write_word-requires c = record { accepted = tt; room = omega (arith, c.requires,
 
 pub returns : goal.returns
 returns c =
-    let pushed = c.write_word.ensures in
+    let pushed = never_rejected c.write_word.result c.write_word.ensures in
     let same = sym pushed.0 in
     pushed_whole pushed.1 refl refl (search (rules, same))

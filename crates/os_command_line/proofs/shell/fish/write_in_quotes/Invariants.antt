@@ -1,7 +1,7 @@
 use Rattle.std.proofs.Common.{length}
 use Rattle.os_command_line.specs.Fish.{fish_quoted}
 use Rattle.os_command_line.proofs.lemmas.Fish.{inner_text}
-use Rattle.os_command_line.proofs.lemmas.Taking.{TakesRest}
+use Rattle.platform_str.proofs.lemmas.Taking.{TakesRest}
 use Rattle.os_command_line.proofs.shell.fish.write_in_quotes.Given as goal
 
 abbrev pub invariant-loop-prefix : goal.invariant-loop-prefix

@@ -1,5 +1,5 @@
 use Rattle.std.proofs.Common.{rules, refl, sym, arith}
-use Rattle.os_quote.proofs.lemmas.Pushing.{pushed_whole}
+use Rattle.os_quote.proofs.lemmas.Pushing.{never_rejected, pushed_whole}
 use Rattle.os_command_line.proofs.lemmas.PowerShell.{string_len}
 use Rattle.os_command_line.proofs.shell.powershell.push_string.Goals as goal
 
@@ -8,6 +8,6 @@ write_string-requires c = omega (arith, c.requires, string_len c.args.text.now c
 
 pub returns : goal.returns
 returns c =
-    let pushed = c.write_string.ensures in
+    let pushed = never_rejected c.write_string.result c.write_string.ensures in
     let same = sym pushed.0 in
     pushed_whole pushed.1 refl refl (search (rules, same))

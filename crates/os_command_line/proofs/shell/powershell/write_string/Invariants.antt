@@ -2,7 +2,7 @@ use Rattle.std.specs.Str.{IsUtf8, chars}
 use Rattle.std.specs.Str.Iter.{chars_rest}
 use Rattle.os_command_line.specs.PowerShell.{powershell_string}
 use Rattle.os_command_line.proofs.lemmas.PowerShell.{inner_text}
-use Rattle.os_command_line.proofs.lemmas.Taking.{TakesRest}
+use Rattle.platform_str.proofs.lemmas.Taking.{TakesRest}
 use Rattle.os_command_line.proofs.shell.powershell.write_string.Given as goal
 
 abbrev pub invariant-loop-character : goal.invariant-loop-character

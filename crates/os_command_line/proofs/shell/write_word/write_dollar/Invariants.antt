@@ -2,7 +2,7 @@ use Rattle.std.proofs.Common.{[], ◌∷◌, ◌++◌}
 use Rattle.platform_str.specs.PlatformWords.{itself}
 use Rattle.platform_str.specs.Strings.{bytes}
 use Rattle.os_str_ext.specs.Symbols.{symbols_of}
-use Rattle.os_command_line.proofs.lemmas.Taking.{TakesRest}
+use Rattle.platform_str.proofs.lemmas.Taking.{TakesRest}
 use Rattle.os_command_line.specs.ShellWriting.{dollar_text, dollar_quoted}
 use Rattle.os_command_line.proofs.shell.write_word.write_dollar.Given as goal
 

@@ -1,5 +1,5 @@
 use Rattle.std.proofs.Common.{sym, ap, ◌∙◌, subst}
-use Rattle.platform_str.specs.Strings.{bytes}
+use Rattle.platform_str.specs.{Sinks.Takes, Strings.bytes}
 use Rattle.os_command_line.specs.ShellSteps.{form_text, AcceptsForm}
 use Rattle.os_command_line.specs.ShellWriting.{single_quoted}
 use Rattle.os_command_line.proofs.shell.write_word.write_in.Goals as goal
@@ -26,10 +26,10 @@ pub write_dollar-requires : goal.write_dollar-requires
 write_dollar-requires g c = subst (λ f. g.S.Sink.rules.has_room c.args.sink.now (form_text f (bytes c.args.name))) c.in-Dollar.is c.requires.room
 
 pub returns-in-Bare : goal.returns-in-Bare
-returns-in-Bare g c = subst (λ x. g.S.Sink.rules.took c.args.sink.now x c.take.new.self) (c.as_encoded_bytes.ensures.value ∙ ap (λ f. form_text f (bytes c.args.name)) (sym c.in-Bare.is)) c.take.ensures
+returns-in-Bare g c = subst (λ x. Takes g.S.Sink.rules c.args.sink.now x c.take.result c.take.new.self) (c.as_encoded_bytes.ensures.value ∙ ap (λ f. form_text f (bytes c.args.name)) (sym c.in-Bare.is)) c.take.ensures
 
 pub returns-in-Single : goal.returns-in-Single
-returns-in-Single g c = subst (λ x. g.S.Sink.rules.took c.args.sink.now x c.write_single.new.sink) (ap single_quoted c.as_encoded_bytes-in-Single.ensures.value ∙ ap (λ f. form_text f (bytes c.args.name)) (sym c.in-Single.is)) c.write_single.ensures
+returns-in-Single g c = subst (λ x. Takes g.S.Sink.rules c.args.sink.now x c.write_single.result c.write_single.new.sink) (ap single_quoted c.as_encoded_bytes-in-Single.ensures.value ∙ ap (λ f. form_text f (bytes c.args.name)) (sym c.in-Single.is)) c.write_single.ensures
 
 pub returns-in-Dollar : goal.returns-in-Dollar
-returns-in-Dollar g c = subst (λ x. g.S.Sink.rules.took c.args.sink.now x c.write_dollar.new.sink) (ap (λ f. form_text f (bytes c.args.name)) (sym c.in-Dollar.is)) c.write_dollar.ensures
+returns-in-Dollar g c = subst (λ x. Takes g.S.Sink.rules c.args.sink.now x c.write_dollar.result c.write_dollar.new.sink) (ap (λ f. form_text f (bytes c.args.name)) (sym c.in-Dollar.is)) c.write_dollar.ensures

@@ -1,6 +1,6 @@
 use Rattle.std.proofs.Common.{drop}
 use Rattle.std.specs.List.{flat_map}
-use Rattle.os_command_line.proofs.lemmas.Taking.{TakesRest}
+use Rattle.platform_str.proofs.lemmas.Taking.{TakesRest}
 use Rattle.os_command_line.specs.ShellWriting.{octal_text}
 use Rattle.os_command_line.proofs.shell.write_word.write_octals.Given as goal
 

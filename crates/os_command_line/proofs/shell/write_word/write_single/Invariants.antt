@@ -1,5 +1,5 @@
 use Rattle.std.proofs.Common.{length}
-use Rattle.os_command_line.proofs.lemmas.Taking.{TakesRest}
+use Rattle.platform_str.proofs.lemmas.Taking.{TakesRest}
 use Rattle.os_command_line.specs.ShellWriting.{single_quoted}
 use Rattle.os_command_line.proofs.lemmas.ShellWritten.{inner_text}
 use Rattle.os_command_line.proofs.shell.write_word.write_single.Given as goal

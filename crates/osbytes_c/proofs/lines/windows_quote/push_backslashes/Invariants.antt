@@ -1,5 +1,5 @@
 use Rattle.os_command_line.specs.Windows.{backslashes}
-use Rattle.os_quote.specs.Buffers.{Pushes}
+use Rattle.platform_str.specs.BufferSink.{Pushes}
 use Rattle.osbytes_c.proofs.lines.windows_quote.push_backslashes.Given as goal
 
 -- so many backslashes so far
