@@ -16,6 +16,7 @@ pub mod Options
 pub mod PathParts
 pub mod PathSpans
 pub mod Pieces
+pub mod Places
 pub mod Room
 pub mod Steps
 pub mod SymbolFills

@@ -4,10 +4,8 @@ pub mod ChunkFills
 pub mod CommandLines
 pub mod Faults
 pub mod Fills
-pub mod GlobPlaces
 pub mod GlobSets
 pub mod Globs
-pub mod IgnorePlaces
 pub mod IgnoreSets
 pub mod Ignores
 pub mod ItemLists
@@ -17,6 +15,7 @@ pub mod PartBuffers
 pub mod PathBuilding
 pub mod PathParts
 pub mod PathSpans
+pub mod Places
 pub mod Platforms
 pub mod Room
 pub mod Steps

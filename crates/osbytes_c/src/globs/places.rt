@@ -14,9 +14,10 @@ pub struct HeldGlobs {
 }
 
 impl Model for HeldGlobs {
-    ghost use Rattle.osbytes_c.specs.GlobPlaces.{kept};
+    ghost use Rattle.osbytes_c.specs.Places.{kept};
+    ghost use Rattle.osbytes_c.specs.contracts.globs.sets.Globs.{the_row as the_globs};
 
-    ghost also_owns = { λ h. kept h.full h.at h.globs };
+    ghost also_owns = { λ h. kept the_globs h.full h.at h.globs };
 }
 
 // SAFETY: proved in `proofs/globs/places/HeldGlobs/TheSendSync`.

@@ -14,9 +14,10 @@ pub struct HeldIgnores {
 }
 
 impl Model for HeldIgnores {
-    ghost use Rattle.osbytes_c.specs.IgnorePlaces.{kept};
+    ghost use Rattle.osbytes_c.specs.Places.{kept};
+    ghost use Rattle.osbytes_c.specs.contracts.ignores.sets.Ignores.{the_row as the_ignores};
 
-    ghost also_owns = { λ h. kept h.full h.at h.ignores };
+    ghost also_owns = { λ h. kept the_ignores h.full h.at h.ignores };
 }
 
 // SAFETY: proved in `proofs/ignores/places/HeldIgnores/TheSendSync`.

@@ -1,8 +1,15 @@
-use Rattle.std.proofs.Common.{[], ◌∷◌, ◌++◌, get_or, sym, subst}
+use Rattle.std.proofs.Common.{[], ◌∷◌, ◌++◌, get_or, refl, sym, ap, ◌∙◌, subst, arith}
+use Rattle.std.proofs.lemmas.List.{take_all}
 use Rattle.osbytes_c.specs.Globs.{AreTold, IsMatched, IsTold}
+use Rattle.osbytes_c.specs.ItemLists.{items_of}
 use Rattle.osbytes_c.proofs.lemmas.Globs.{one_more_told}
 use Rattle.osbytes_c.proofs.lemmas.ItemLists.{each_more, one_more_item, other_at}
 use Rattle.osbytes_c.proofs.globs.told_of.Goals as goal
+
+pub loop-item-init : goal.loop-item-init
+loop-item-init g c =
+    let set = c.args.set.now.set in
+    ([], (refl, (tt, subst (AreTold (IsMatched g.E.Platform.units set.options set.patterns.items) []) (sym c.new-answers.ensures.items) tt)))
 
 pub loop-item-preserved : goal.loop-item-preserved
 loop-item-preserved g c =
@@ -28,3 +35,16 @@ pub returns-in_default : goal.returns-in_default
 returns-in_default g c =
     other_at g.E.Platform.well_formed c.args.paths.now c.loop-item.item-index (record { ref_ptr = (0, 0); now = [] }) c.loop-item-test.true
     (g.met.E.Platform.laws.faulty _ _ c.in_default.ensures.cases)
+
+pub returns-in_default-push : goal.returns-in_default-push
+returns-in_default-push g c = tt
+
+pub returns : goal.returns
+returns g c =
+    let inv = c.loop-item.invariant in
+    record {
+      names = inv.0;
+      are_names = inv.1.0 ∙ ap items_of (take_all c.loop-item.item-index c.args.paths.now (omega (arith, c.loop-item-test.false)));
+      strings = inv.1.1.0;
+      told = inv.1.1.1;
+    }

@@ -6,7 +6,7 @@ use base.Logic.{guard_i}
 use contract.Monad.{fact_use}
 use types.Logic.{sem}
 use Rattle.std.specs.Prelude.{is_some}
-use Rattle.osbytes_c.specs.GlobPlaces.{kept}
+use Rattle.osbytes_c.specs.Places.{kept}
 use base.Fml.{ftrue, flft}
 use mir.Syntax.{named}
 use mir.Val.{Val, vbool}
@@ -20,9 +20,10 @@ use denote.Ref.{MutRef, mut_vals, mut_Tells}
 use denote.Signature.{plain}
 use denote.Steps.{nothing, opens, closes, peeks}
 use denote.Triple.Walked.{Stays, walk_of, stay_ref, Goes-ref, ends_at}
+use Rattle.osbytes_c.specs.contracts.globs.sets.Globs.{the_row as W}
 use Rattle.osbytes_c.specs.contracts.globs.places.HeldGlobs.{the_row as R}
 use Rattle.osbytes_c.proofs.globs.places.HeldGlobs.TheLaws.{lowers}
-use Rattle.osbytes_c.proofs.lemmas.GlobPlaces.{place, kept_says, says_both}
+use Rattle.osbytes_c.proofs.lemmas.Places.{place, kept_says, says_both}
 use Rattle.osbytes_c.specs.contracts.globs.places.is_full as f
 use Rattle.osbytes_c.proofs.globs.places.is_full.Statement.{statement}
 use Rattle.osbytes_c.proofs.globs.places.is_full.Code as code
@@ -46,7 +47,7 @@ is_full_spec 𝓤 𝓛 𝓜 𝓡 wired =
     let word : us ≡ place h.full h.at ∷ [] = lowers.val_is h us is in
     rewrite ! 0 (λ (ws : List Val). ‵ (R.own_val h ws)) word refl $ rewrite ! 1 (λ (ws : List Val). ‵ (cell_at full_share R.mir ws b o)) word refl $
     fsplit ! $ move ! (1 ∷ []) $
-    use1 𝓛 (given (h.full ≡ is_some h.globs) (‵ (kept h.full h.at h.globs))) (fact_use 𝓤 (h.full ≡ is_some h.globs) (kept_says 𝓛 h.full h.at h.globs) (λ p. guard_i 𝓤 (h.full ≡ is_some h.globs) (sem 𝓛 (kept h.full h.at h.globs)) p)) $ learn ! (λ says_set.
+    use1 𝓛 (given (h.full ≡ is_some h.globs) (‵ (kept W h.full h.at h.globs))) (fact_use 𝓤 (h.full ≡ is_some h.globs) (kept_says W 𝓛 h.full h.at h.globs) (λ p. guard_i 𝓤 (h.full ≡ is_some h.globs) (sem 𝓛 (kept W h.full h.at h.globs)) p)) $ learn ! (λ says_set.
     move ! (1 ∷ 0 ∷ []) $ fjoin ! $ move ! (1 ∷ []) $
     sets ! (of_opd ! (load ! (through ! refl (fld ! refl (stop !))) (look_in ! 0 (sub ! 0 refl (whole !))))) refl (tt, tt) $
     closes ! tt R h (place h.full h.at ∷ []) b o $

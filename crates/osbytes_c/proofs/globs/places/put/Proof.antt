@@ -26,11 +26,13 @@ use denote.Ref.{MutRef, mut_vals, mut_Tells}
 use denote.Signature.{plain}
 use denote.Steps.{nothing, opens, closes, peeks, heard}
 use denote.Triple.Walked.{Stays, walk_of, says, stay_ref, stay_dropped, Goes-ref, ends_at}
-use Rattle.osbytes_c.specs.GlobPlaces.{kept}
+use Rattle.osbytes_c.specs.Places.{kept}
 use Rattle.osbytes_c.specs.contracts.globs.sets.Globs.{the_row as W}
+use Rattle.osbytes_c.proofs.globs.sets.Globs.TheLaws.{the_row_laws as LW}
 use Rattle.osbytes_c.specs.contracts.globs.places.HeldGlobs.{the_row as R}
 use Rattle.osbytes_c.proofs.globs.places.HeldGlobs.TheLaws.{lowers}
-use Rattle.osbytes_c.proofs.lemmas.GlobPlaces.{place, kind, empty_room, fields}
+use Rattle.osbytes_c.proofs.lemmas.Places.{place, kind, empty_room}
+use Rattle.osbytes_c.proofs.lemmas.GlobPlaces.{fields}
 use Rattle.osbytes_c.specs.contracts.globs.places.put as f
 use Rattle.osbytes_c.proofs.globs.places.put.Statement.{statement}
 use Rattle.osbytes_c.proofs.globs.places.put.Code as code
@@ -48,14 +50,14 @@ put_spec 𝓤 𝓛 𝓜 𝓡 wired =
     qed 𝓛 (((‵ (flft κs.0 qs.0) ⊛ ‵ ftrue) ⊛ ‵ (fsep ((MutRef (named 0) κs.0 R).own_val r z.0.4.0) (fsep (W.own_val x z.0.4.1.0) ftrue))) ∷ raw (fact 𝓤 (h.full ≡ false)) ∷ []) ∵
     move ! (1 ∷ []) $ heard ! (h.full ≡ false) (λ fe. split ! $ move ! (1 ∷ []) $ fsplit3 ! $
     -- [self; the set; nothing; the token]
-    move ! (1 ∷ []) $ handle_tells kind ! x z.0.4.1.0 (λ u e₁ gu. move ! (3 ∷ []) $ split ! $ keep ! (3 ∷ 0 ∷ 2 ∷ []) $
+    move ! (1 ∷ []) $ handle_tells (kind W LW) ! x z.0.4.1.0 (λ u e₁ gu. move ! (3 ∷ []) $ split ! $ keep ! (3 ∷ 0 ∷ 2 ∷ []) $
     regoal ! (λ (us : List Val). prop (WpFn 𝓤 H 𝓣.C 𝓣.Λ fn (us ++ (z.0.4.1.0 ++ [])) Post)) (mut_Tells (named 0) κs.0 R r z.0.4.0 are.0) refl $
     regoal ! (λ (us : List Val). prop (WpFn 𝓤 H 𝓣.C 𝓣.Λ fn (mut_vals r ++ (us ++ [])) Post)) e₁ refl $
     enter ! 𝓣.C 𝓣.Λ fn (mut_vals r ++ (u ∷ [])) Post $ alloc_all ! (λ l. pass_all ! refl ((tt, tt), (gu, tt)) $
     let En = env fn.locals l in
     fsplit3 ! $ move ! (1 ∷ 2 ∷ 3 ∷ []) $ opens ! tt R b o (λ us.
     move ! (1 ∷ []) $ peeks ! R _ (shows 𝓛 R) h us (λ is. fsplit ! $ drop ! $
-    rewrite ! 0 (λ (y : Bool). ‵ (kept y h.at h.globs)) fe refl $ use1 𝓛 (‵ (room_at W h.at)) (empty_room 𝓛 h.at h.globs) $
+    rewrite ! 0 (λ (y : Bool). ‵ (kept W y h.at h.globs)) fe refl $ use1 𝓛 (‵ (room_at W h.at)) (empty_room W 𝓛 h.at h.globs) $
     in_a_block ! h.at (λ p. room_at W p) (id⊢ 𝓤 _) (λ b' o' e. use1 𝓛 (‵ (froom (layout W) b' o')) (id⊢ 𝓤 _) $
     let Cell : List Val → Item 𝓤 = λ ws. ‵ (cell_at full_share R.mir ws b o) in
     let word : us ≡ place false (block_ptr b' o') ∷ [] = lowers.val_is h us is ∙ ap (λ (m : Bool × Ptr). place m.0 m.1 ∷ []) (λ i. (fe i, e i)) in

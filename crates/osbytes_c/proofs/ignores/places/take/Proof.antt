@@ -25,13 +25,14 @@ use denote.Ref.{MutRef, mut_vals, mut_Tells}
 use denote.Signature.{plain}
 use denote.Steps.{nothing, opens, closes, peeks, heard}
 use denote.Triple.Walked.{Stays, walk_of, stay_ref, Goes-ref, ends_at}
-use Rattle.osbytes_c.specs.IgnorePlaces.{kept}
+use Rattle.osbytes_c.specs.Places.{kept}
 use Rattle.osbytes_c.specs.declared.ignores.sets.Ignores.{Ignores}
 use Rattle.osbytes_c.specs.contracts.ignores.sets.Ignores.{the_row as W}
 use Rattle.osbytes_c.proofs.ignores.sets.Ignores.TheLaws.{the_row_laws as LW}
 use Rattle.osbytes_c.specs.contracts.ignores.places.HeldIgnores.{the_row as R}
 use Rattle.osbytes_c.proofs.ignores.places.HeldIgnores.TheLaws.{lowers}
-use Rattle.osbytes_c.proofs.lemmas.IgnorePlaces.{place, full_value, fields, says_both}
+use Rattle.osbytes_c.proofs.lemmas.Places.{place, full_value, says_both}
+use Rattle.osbytes_c.proofs.lemmas.IgnorePlaces.{fields}
 use Rattle.osbytes_c.specs.contracts.ignores.places.take as f
 use Rattle.osbytes_c.proofs.ignores.places.take.Statement.{statement}
 use Rattle.osbytes_c.proofs.ignores.places.take.Code as code
@@ -55,8 +56,8 @@ take_spec 𝓤 𝓛 𝓜 𝓡 wired =
     let En = env fn.locals l in
     fsplit3 ! $ move ! (1 ∷ 2 ∷ 3 ∷ []) $ opens ! tt R b o (λ us.
     move ! (1 ∷ []) $ peeks ! R _ (shows 𝓛 R) h us (λ is. fsplit ! $ drop ! $
-    rewrite ! 0 (λ (full : Bool). ‵ (kept full h.at h.ignores)) fe refl $
-    use1 𝓛 (some (λ (x : Ignores). given (h.ignores ≡ Some x) (‵ (lies_at W full_share h.at x)))) (full_value 𝓛 h.at h.ignores) $ pick ! (λ x. learn ! (λ se.
+    rewrite ! 0 (λ (full : Bool). ‵ (kept W full h.at h.ignores)) fe refl $
+    use1 𝓛 (some (λ (x : Ignores). given (h.ignores ≡ Some x) (‵ (lies_at W full_share h.at x)))) (full_value W 𝓛 h.at h.ignores) $ pick ! (λ x. learn ! (λ se.
     in_a_block ! h.at (λ p. lies_at W full_share p x) (id⊢ 𝓤 _) (λ b' o' e.
     use1 𝓛 (some (λ (v : Val). ‵ (fat full_share (layout W) b' o' v) ⊛ ‵ (W.own_val x (v ∷ [])))) (part_out 𝓛 W refl full_share x b' o') $ pick ! (λ v. split ! $
     move ! (1 ∷ []) $ peeks ! (param 0 W) (Is (param 0 W)) (shows 𝓛 (param 0 W)) x (v ∷ []) (λ iw.
