@@ -20,10 +20,10 @@ pub no_error : {T E P : Type 0} → (r : Result T E) → MatchResult r (λ _. P)
 no_error (Ok x) p = p
 no_error (Err x) never = absurd never
 
-pub on_ok : {T E P : Type 0} {Q : E → Type 0} → (r : Result T E) → MatchResult r (λ _. P) Q → OnOk r P
-on_ok (Ok x) p = p
-on_ok (Err x) q = tt
+pub on_ok : {T E : Type 0} (P : Type 0) (Q : E → Type 0) → (r : Result T E) → MatchResult r (λ _. P) Q → OnOk r P
+on_ok P Q (Ok x) p = p
+on_ok P Q (Err x) q = tt
 
-pub where_ok : {T E F P : Type 0} {Q : E → Type 0} → (r : Result T E) → MatchResult r (λ _. F → P) Q → F → IsTrue (is_ok r) → P
-where_ok (Ok x) p flush ok = p flush
-where_ok (Err x) q flush ok = absurd (true≢false (sym ok))
+pub where_ok : {T E F P : Type 0} (Q : E → Type 0) → (r : Result T E) → MatchResult r (λ _. F → P) Q → F → IsTrue (is_ok r) → P
+where_ok Q (Ok x) p flush ok = p flush
+where_ok Q (Err x) q flush ok = absurd (true≢false (sym ok))
