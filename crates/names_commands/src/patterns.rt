@@ -208,7 +208,7 @@ fn run_set<E: Platform, F: Files, A: Allocator + Copy, R: Read, W: Write>(
                 ignore: &ignore,
                 inverted: plan.pick.inverted,
             };
-            let names = Matching::new(picker, plan.form, plan.max);
+            let names = Matching::new(alloc, picker, plan.form, plan.max);
             run_list(alloc, &names, reader, writer)
         }
         Err(fault) => Err(fault),

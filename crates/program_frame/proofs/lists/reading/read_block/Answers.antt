@@ -9,6 +9,7 @@ pub loop-last-init : goal.loop-last-init
 loop-last-init g c = record {
   up_to = at_start (passing (g.N.Refusals.passed c.args.refusals.now) (g.T.ListTask.rules c.args.task.now)) _ _ _ _ c.requires.begun c.requires.counted;
   more = omega arith;
+  memory = c.requires.memory;
 }
 
 pub loop-last-preserved : goal.loop-last-preserved
@@ -18,6 +19,7 @@ loop-last-preserved g c =
     let before = later_up_to (g.T.ListTask.rules c.args.task.now) _ (g.N.Refusals.passed c.end_item.new.refusals) c.in-Ok.ensures.more _ _ _ _ c.loop-last.invariant.up_to in record {
       up_to = after_item (passing (g.N.Refusals.passed c.end_item.new.refusals) (g.T.ListTask.rules c.args.task.now)) _ _ _ _ _ _ _ _ _ before cut text.1 text.2 refl _ c.in-Ok.ensures.none;
       more = omega (arith, c.loop-last.invariant.more, c.in-Ok.ensures.more);
+      memory = c.in-Ok.ensures.memory;
     }
 
 pub returns-in-Err-clause-fault : goal.returns-in-Err-clause-fault

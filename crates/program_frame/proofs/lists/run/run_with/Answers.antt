@@ -23,6 +23,7 @@ loop-alloc-init g c =
       within = omega arith;
       reader_unmarked = c.requires.reader_unmarked;
       writer_unmarked = c.requires.writer_unmarked;
+      memory = search rules;
     }
 
 pub finish-requires-clause-counted : goal.finish-requires-clause-counted
@@ -83,6 +84,7 @@ loop-alloc-preserved g c =
       within = omega (arith, c.if-size-total.false, c.loop-alloc.invariant.within);
       reader_unmarked = search rules;
       writer_unmarked = search rules;
+      memory = c.in-Ok-write_block.ensures.memory;
     }
 
 pub returns-in-Err-write_block-clause-stopped : goal.returns-in-Err-write_block-clause-stopped
