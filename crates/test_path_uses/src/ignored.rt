@@ -122,7 +122,6 @@ pub fn is_undecided<A: Allocator + Copy>(alloc: A, path: &[u8], is_dir: bool) ->
 
 /// The verdict of a walk on a path, and that of the files without a walk: they are equal.
 pub fn walked<A: Allocator + Copy>(
-    alloc: A,
     ignore: &Ignore<A>,
     walk: &mut Walk<'_, A>,
     path: &[u8],
@@ -132,7 +131,7 @@ pub fn walked<A: Allocator + Copy>(
     ensures { IfOk result (λ said. said.0 ≡ said.1) }
 {
     laws::walked_verdict::<A>();
-    let walked = walk.matched(alloc, path, is_dir)?;
+    let walked = walk.matched(path, is_dir)?;
     Ok((walked, ignore.matched(path, is_dir)))
 }
 

@@ -1,6 +1,7 @@
 -- Where a test first passes or last passes, a list of bytes is cut.
-use Rattle.std.proofs.Common.{◌≡◌, ◌<◌, ◌≤◌, ◌+◌, ℕ, Bool, true, false, List, [], ◌++◌, length, take, drop, get_or, sym, ap, ◌∙◌, subst, arith, take-append-drop, length-drop, append-nil, ◌∷◌}
+use Rattle.std.proofs.Common.{◌≡◌, ◌<◌, ◌≤◌, ◌+◌, ◌-◌, ⊎_elim, ℕ, Bool, true, false, List, [], ◌++◌, length, take, drop, get_or, sym, ap, ◌∙◌, subst, arith, take-append-drop, length-drop, append-nil, ◌∷◌}
 use Rattle.std.proofs.lemmas.List.{drop_more, get_or-take, get_or-drop, length-take-le}
+use Rattle.std.proofs.lemmas.Bool.{cases_lt}
 use Rattle.std.proofs.lemmas.List.Elements.{All-from_get_or, All-head, All-tail}
 use Rattle.std.specs.List.{All}
 use Rattle.path_rules.specs.declared.rules.Rules.{Rules}
@@ -13,6 +14,14 @@ module _ (test : ℕ → Bool) (s : List ℕ) where
 
   abbrev pub NoneFrom : ℕ → Type 0
   NoneFrom i = (k : ℕ) → i ≤ k → k < length s → test (get_or s k 0) ≡ false
+
+  -- and so up to i + n
+  pub none_further : (i n : ℕ) → NoneBelow i → ((k : ℕ) → k < n → test (get_or s (i + k) 0) ≡ false) → NoneBelow (i + n)
+  none_further i n h more k l =
+      ⊎_elim
+      (h k)
+      (λ above. (let e : i + (k - i) ≡ k = omega (arith, above) in subst (λ m. test (get_or s m 0) ≡ false) e (more (k - i) (omega (arith, l, above)))))
+      (cases_lt k i)
 
   pub plain_whole : (n : ℕ) → length s ≤ n → NoneBelow n → All (λ b. test b ≡ false) s
   plain_whole n l h = All-from_get_or (λ b. test b ≡ false) s 0 (λ k g. h k (omega arith))

@@ -1,12 +1,35 @@
--- The lanes of two vectors before the first that differs.
-use Rattle.std.proofs.Common.{◌≡◌, ◌<◌, ◌≤◌, ◌%◌, ◌^◌, ℕ, Bool, true, false, cond, List, length, get_or, map, not, eqb, eqb-true, sym, ap, ◌∙◌, subst, arith, w8}
+-- The lanes of a vector before the first that is a certain byte, and those of two that are alike.
+use Rattle.std.proofs.Common.{◌≡◌, ◌<◌, ◌≤◌, ◌%◌, ◌^◌, ℕ, Bool, true, false, cond, List, length, get_or, map, replicate, not, eqb, eqb-true, sym, ap, ◌∙◌, subst, arith, w8}
 use Rattle.std.proofs.lemmas.Bool.{not-true, not-false}
 use Rattle.std.proofs.lemmas.List.{map-id}
-use Rattle.std.proofs.lemmas.Simd.{trailing_mask_l, leading_from_mask_l, tops_compared, mask_l-mod, length-zip2, get_or-zip2}
+use Rattle.std.proofs.lemmas.Simd.{bitmask_splat, trailing_mask_l, leading_from_mask_l, tops_compared, mask_l-mod, length-zip2, get_or-zip2}
 use Rattle.std.proofs.lemmas.List.Sums.{prefix_len_passes, prefix_len-le-length}
 use Rattle.std.specs.Int.Count.{count_trailing_zeros}
 use Rattle.std.specs.List.{prefix_len}
 use lib.Lanes.{zip2, mask_l, top}
+
+module _ (xs : List ℕ) (y n : ℕ) (p : length xs ≡ n) (few : n ≤ 64) where
+  abbrev mask : ℕ
+  mask = mask_l (map (top 7) (zip2 (λ a b. cond (eqb a b) 255 0) xs (replicate n y))) % 2 ^ 64
+
+  -- the lanes before the first that is y
+  abbrev before : ℕ
+  before = prefix_len (λ x. not (eqb x y)) xs
+
+  same_mask : mask ≡ mask_l (map (λ x. eqb x y) xs)
+  same_mask = bitmask_splat w8 eqb xs n y p few
+
+  pub all_before : mask ≡ 0 → n ≡ before
+  all_before e = sym (leading_from_mask_l (λ x. eqb x y) xs (sym same_mask ∙ e) ∙ p)
+
+  pub some_before : (mask ≡ 0 → ⊥) → count_trailing_zeros 64 mask ≡ before
+  some_before e = ap (count_trailing_zeros 64) same_mask ∙ trailing_mask_l (λ x. eqb x y) 64 xs (omega (arith, p, few)) (omega (arith, e, same_mask))
+
+  pub few_before : (m : ℕ) → m ≡ before → m ≤ n
+  few_before m e = omega (arith, e, p, prefix_len-le-length (λ x. not (eqb x y)) xs)
+
+  pub none_before : (m : ℕ) → m ≡ before → (i : ℕ) → i < m → eqb (get_or xs i 0) y ≡ false
+  none_before m e i h = not-true _ (prefix_len_passes (λ x. not (eqb x y)) xs i 0 (subst (λ k. i < k) e h))
 
 module _ (xs ys : List ℕ) (n : ℕ) (p : length xs ≡ n) (q : length ys ≡ n) (few : n ≤ 64) where
   abbrev differ : List Bool

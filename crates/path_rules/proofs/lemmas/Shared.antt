@@ -81,6 +81,9 @@ alike_further xs ys i n h more k l =
     (λ above. (let e : i + (k - i) ≡ k = omega (arith, above) in subst (λ m. get_or xs m 0 ≡ get_or ys m 0) e (more (k - i) (omega (arith, l, above)))))
     (cases_lt k i)
 
+pub alike_less : (xs ys : List ℕ) (i n : ℕ) → n ≤ i → AreAlikeBelow xs ys i → AreAlikeBelow xs ys n
+alike_less xs ys i n l h k g = h k (omega arith)
+
 pub alike_parts : (xs ys : List ℕ) (n : ℕ) → n ≤ length xs → n ≤ length ys → AreAlikeBelow xs ys n → take n xs ≡ take n ys
 alike_parts xs ys n l m h =
     let first = length-take-le n xs l in

@@ -1,15 +1,9 @@
 use Rattle.std.proofs.Common.{◌≤◌, ◌-◌}
 use Rattle.path_rules.specs.Shared.{AreAlikeBelow}
-use Rattle.path_rules.proofs.shared.shared_before.Given as goal
+use Rattle.path_rules.proofs.shared.shared_by_bytes.Given as goal
 
 abbrev pub invariant-loop-at : goal.invariant-loop-at
 invariant-loop-at l = (l.at ≤ l.end) × AreAlikeBelow l.a l.b l.at
 
 abbrev pub decreases-loop-at : goal.decreases-loop-at
 decreases-loop-at l = l.end - l.at
-
-abbrev pub invariant-loop-at-2 : goal.invariant-loop-at-2
-invariant-loop-at-2 l = (l.at ≤ l.end) × AreAlikeBelow l.a l.b l.at
-
-abbrev pub decreases-loop-at-2 : goal.decreases-loop-at-2
-decreases-loop-at-2 l = l.end - l.at
