@@ -12,3 +12,4 @@ pub mod ToWide
 pub mod Choices
 pub mod InlineTexts
 pub mod Taking
+pub mod Pushing

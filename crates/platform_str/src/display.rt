@@ -1,8 +1,8 @@
 //! Strings as texts for printing, written piece by piece.
-ghost use Rattle.std.specs.{Prelude.Some, Fmt.WritesStyledOnOk, Fmt.spec_fill, Fmt.spec_align, Fmt.spec_width};
+ghost use Rattle.std.specs.{Prelude.Some, Fmt.spec_fill, Fmt.spec_align, Fmt.spec_width};
 ghost use Rattle.platform_str.specs.Display.{shown_bytes, filled};
 
-use crate::lossy::first_text;
+use crate::lossy::write_text;
 use crate::os_str::OsStr;
 use crate::platform::Platform;
 use crate::writeable::{Writeable, write_filled};
@@ -35,21 +35,8 @@ impl<'a, E: Platform> fmt::Display for OsStrDisplay<'a, E> {
 impl<'a, E: Platform> Writeable for OsStrDisplay<'a, E> {
     ghost text = { λ shown. E.lossy (shown_bytes shown) };
 
+    #[tactic(auto, using(crate::proofs::lemmas::Taking::written))]
     fn write_to<W: fmt::Write>(&self, f: &mut fmt::Formatter<W>) -> fmt::Result {
-        write_text::<E, W>(self.string.as_encoded_bytes(), f)
+        write_text::<E, _>(self.string.as_encoded_bytes(), f)
     }
-}
-
-/// Writes the lossy text of a string's bytes.
-fn write_text<E: Platform, W: fmt::Write>(encoded: &[u8], f: &mut fmt::Formatter<W>) -> fmt::Result
-    requires { E.well_formed encoded.now }
-    ensures { WritesStyledOnOk W.write_str_gives f.old result (E.lossy encoded.now) f.new }
-{
-    let mut rest = encoded;
-    while let Some((prefix, after)) = first_text::<E>(rest) {
-        f.write_str(prefix)?;
-        f.write_char('\u{FFFD}')?;
-        rest = after;
-    }
-    f.write_str(unsafe { str::from_utf8_unchecked(rest) })
 }

@@ -1,13 +1,14 @@
 //! Lossy texts, by the laws of the platform.
-ghost use Rattle.std.specs.Prelude.{◌≡◌, ◌<◌, ◌≤◌, ◌+◌, ◌*◌, ◌^◌, ◌++◌, length, take, drop, IfOk, MatchOption, OnOk};
+ghost use Rattle.std.specs.Prelude.{◌≡◌, ℕ, ◌≤◌, ◌*◌, List, ◌++◌, length, take, IfOk, MatchOption, OnOk};
 ghost use Rattle.std.specs.Str.{IsUtf8};
-ghost use Rattle.wtf8_core.specs.{Lossy.replacement, Truncated.IsTruncated, Utf8.IsUtf8Fault};
-ghost use Rattle.platform_str.specs.Lossy.{IsFirstText};
+ghost use Rattle.wtf8_core.specs.{Lossy.replacement, Utf8.IsUtf8Fault};
+ghost use Rattle.platform_str.specs.{Lossy.IsFirstText, Sinks.Takes};
 
 use crate::memory::Pushed;
 use crate::platform::Platform;
+use crate::sink::Sink;
 use std::alloc::{AllocError, Allocator};
-use wtf8_core::push_truncated;
+use std::fmt;
 
 /// The bytes of U+FFFD.
 const REPLACEMENT: [u8; 3] = [0xEF, 0xBF, 0xBD];
@@ -24,10 +25,9 @@ fn after_fault<E: Platform>(bytes: &[u8], valid: usize, error_len: Option<u8>) -
 }
 
 /// The text at the start of a string's bytes, and the bytes after the part that follows it and is
-/// replaced by one U+FFFD; `None` if all the bytes are a text. A formatter, which may fail, and a
-/// buffer, which counts, have a loop over it each.
+/// replaced by one U+FFFD; `None` if all the bytes are a text.
 #[inline(always)]
-pub(crate) fn first_text<E: Platform>(bytes: &[u8]) -> Option<(&str, &[u8])>
+fn first_text<E: Platform>(bytes: &[u8]) -> Option<(&str, &[u8])>
     requires { E.well_formed bytes.now }
     ensures { MatchOption result (IsUtf8 bytes.now)
         (λ first. IsFirstText E.well_formed E.lossy bytes.now first.0.now first.1.now) }
@@ -38,33 +38,14 @@ pub(crate) fn first_text<E: Platform>(bytes: &[u8]) -> Option<(&str, &[u8])>
     Some((unsafe { str::from_utf8_unchecked(text) }, rest))
 }
 
-/// The number of bytes of a block.
-const BLOCK: usize = 16;
-
-/// Appends the first `len` bytes. If they fit in a block they are written as a whole block, whose
-/// length is fixed, and the excess is truncated.
-#[inline(always)]
-fn push_prefix<A: Allocator>(text: &mut Vec<u8, A>, bytes: &[u8], len: usize) -> Pushed
-    requires { len ≤ length bytes.now }
-    ensures { OnOk result (text.new.items ≡ text.old.items ++ take len bytes.now) }
-{
-    if len > BLOCK || bytes.len() < BLOCK {
-        let (prefix, _) = bytes.split_at(len);
-        return text.extend_from_slice(prefix);
-    }
-    let (block, _) = bytes.split_at(BLOCK);
-    text.extend_from_slice(block)?;
-    text.truncate(text.len() - (BLOCK - len));
-    Ok(())
-}
-
 /// Appends the first `len` bytes, and then U+FFFD.
 #[inline(always)]
 pub(crate) fn push_replaced<A: Allocator>(text: &mut Vec<u8, A>, bytes: &[u8], len: usize) -> Pushed
     requires { len ≤ length bytes.now }
     ensures { OnOk result (text.new.items ≡ (text.old.items ++ take len bytes.now) ++ replacement) }
 {
-    push_prefix(text, bytes, len)?;
+    let (prefix, _) = bytes.split_at(len);
+    text.extend_from_slice(prefix)?;
     text.extend_from_slice(&REPLACEMENT)
 }
 
@@ -100,21 +81,21 @@ pub(crate) fn text_bytes<E: Platform, A: Allocator>(
     Ok(text)
 }
 
-/// Writes the lossy text of a string's bytes into a buffer, as far as there is room, and returns its
-/// length.
-pub(crate) fn write_text<E: Platform>(bytes: &[u8], buffer: &mut [u8]) -> usize
+/// Writes the lossy text of a string's bytes to a sink: each text as it is in the string, and U+FFFD
+/// for each part between them that isn't text.
+pub(crate) fn write_text<E: Platform, S: Sink>(bytes: &[u8], sink: &mut S) -> fmt::Result
     requires formed { E.well_formed bytes.now }
-    requires short { 3 * length bytes.now < 2 ^ 64 }
-    ensures { IsTruncated (E.lossy bytes.now) buffer.old buffer.new result }
+    requires room { (text : List ℕ) → length text ≤ 3 * length bytes.now
+        → S.rules.has_room sink.old text }
+    ensures { Takes S.rules sink.old (E.lossy bytes.now) result sink.new }
 {
-    let mut count = 0;
     let mut rest = bytes;
     while let Some((text, after)) = first_text::<E>(rest) {
-        count = push_truncated(buffer, count, text.as_bytes());
-        count = push_truncated(buffer, count, &REPLACEMENT);
+        sink.take_text(text)?;
+        sink.take_text("\u{FFFD}")?;
         rest = after;
     }
-    push_truncated(buffer, count, rest)
+    sink.take_text(unsafe { str::from_utf8_unchecked(rest) })
 }
 
 /// Overwrites each part that isn't text with U+FFFD, in a string that isn't IO-safe. If a platform

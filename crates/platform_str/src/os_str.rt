@@ -9,6 +9,7 @@ use crate::display::OsStrDisplay;
 use crate::lossy;
 use crate::os_string::OsString;
 use crate::platform::Platform;
+use crate::sink::TruncatedBuffer;
 use std::alloc::{AllocError, Allocator};
 use std::marker::PhantomData;
 use wtf8_core::EncodingError;
@@ -253,7 +254,13 @@ impl<'a, E: Platform> OsStr<'a, E> {
         requires { 3 * length (bytes self) < 2 ^ 64 }
         ensures { IsTruncated (E.lossy (bytes self.entry)) buffer.old buffer.new result }
     {
-        lossy::write_text::<E>(self.bytes, buffer)
+        let mut sink = TruncatedBuffer {
+            bytes: buffer,
+            count: 0,
+        };
+        // a buffer takes every piece, so no error is lost
+        let _ = lossy::write_text::<E, _>(self.bytes, &mut sink);
+        sink.count
     }
 
     /// Returns an owned copy (std's `OsStr::to_os_string`). A copy of the empty string doesn't

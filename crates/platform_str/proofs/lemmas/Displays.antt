@@ -1,9 +1,8 @@
--- Characters of lossy texts, and texts that are filled.
+-- Texts that are filled.
 use Rattle.platform_str.proofs.Common.{nat_tests, common_steps}
-use Rattle.std.proofs.Common.{◌≡◌, ℕ, ◌+◌, ◌-◌, List, [], ◌∷◌, ◌++◌, length, cond, Option, Some, refl, sym, ap, ◌∙◌, arith, append_assoc}
+use Rattle.std.proofs.Common.{◌≡◌, ℕ, ◌+◌, ◌-◌, List, [], ◌∷◌, ◌++◌, length, cond, Option, Some, refl, sym, ap, ◌∙◌, arith}
 use Rattle.std.specs.{Char.encode_utf8, List.repeat, Fmt.is_char_start, Fmt.char_count, List.FoldsTo, List.concat, declared.fmt.Alignment.Alignment}
-use Rattle.platform_str.specs.{Lossy.IsFirstText, Display.fill_before, Display.filled, declared.writeable.Shortfall.Shortfall}
-use Rattle.platform_str.proofs.lemmas.LossyLoops.{encode_fffd}
+use Rattle.platform_str.specs.{Display.fill_before, Display.filled, declared.writeable.Shortfall.Shortfall}
 
 pub count_none : (text : List ℕ) → length text ≡ 0 → char_count text ≡ 0
 unfolding char_count
@@ -35,8 +34,3 @@ by_padding fill align text padding = repeat (fill_before align padding) (encode_
 pub filled_by : (fill later : ℕ) (align : Option Alignment) (width : Option ℕ) (asked padding before : ℕ) (text : List ℕ) → later ≡ fill → width ≡ Some asked → padding ≡ asked - char_count text → before ≡ fill_before align padding
     → repeat before (encode_utf8 fill) ++ (text ++ repeat (padding - before) (encode_utf8 later)) ≡ filled fill align width text
 filled_by fill later align width asked padding before text l w p b = grind (arith, nat_tests, common_steps)
-
-module _ {well_formed : List ℕ → Type 0} {lossy : List ℕ → List ℕ} {bytes prefix rest : List ℕ} (f : IsFirstText well_formed lossy bytes prefix rest) where
-  -- what is written so far, and then the text and U+FFFD
-  pub write_first : (done all : List ℕ) → done ++ lossy bytes ≡ all → ((done ++ prefix) ++ encode_utf8 0xFFFD) ++ lossy rest ≡ all
-  write_first done all e = grind (arith, nat_tests, common_steps, encode_fffd, append_assoc)

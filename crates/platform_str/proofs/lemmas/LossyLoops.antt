@@ -1,6 +1,6 @@
 -- One step of a loop over a string's faults.
-use Rattle.std.proofs.Common.{◌≡◌, ℕ, ◌<◌, ◌≤◌, List, ◌++◌, length, take, drop, refl, sym, ap, ◌∙◌, subst, arith, append_assoc, length-append, length-drop, ◌+◌, ◌-◌, take-take}
-use Rattle.platform_str.proofs.Common.{take-append-add, length-take-le, IsValidUpTo, replacement, EncodingError, none_at, encode_utf8, StartsWithNoCharacter, PlatformLaws, IsReplaced, IsLeft, IsFirstText, nat_tests, common_steps}
+use Rattle.std.proofs.Common.{◌≡◌, ℕ, ◌<◌, List, ◌++◌, length, take, drop, sym, ap, ◌∙◌, subst, arith, append_assoc, length-drop}
+use Rattle.platform_str.proofs.Common.{length-take-le, IsValidUpTo, replacement, EncodingError, none_at, StartsWithNoCharacter, PlatformLaws, IsReplaced, IsLeft, IsFirstText, nat_tests, common_steps}
 use Rattle.wtf8_core.proofs.lemmas.texts.StdFaults.{no_char}
 
 -- no whole character starts at a fault
@@ -10,11 +10,6 @@ uncovered_at {b} {after} {n} e v = subst StartsWithNoCharacter (sym e) (none_at 
 -- there is some byte
 pub some_at : {b after : List ℕ} {n : ℕ} → after ≡ drop n b → IsValidUpTo b n → 0 < length after
 some_at {b} {after} {n} e v = let s = v.short in omega (arith, length-drop n b, ap length e)
-
--- as std encodes it
-pub encode_fffd : encode_utf8 0xFFFD ≡ replacement
-unfolding encode_utf8
-encode_fffd = refl
 
 module _ {first_fault : List ℕ → EncodingError → Type 0} {well_formed : List ℕ → Type 0} {units : List ℕ → List ℕ} {is_unit_list io_safe : List ℕ → Type 0} {lossy : List ℕ → List ℕ} {replaces : List ℕ → ℕ → Type 0} (laws : PlatformLaws first_fault well_formed units is_unit_list io_safe lossy replaces) where
   -- what follows the text at the start is well formed
@@ -38,9 +33,3 @@ one_more {lossy = lossy} {prefix = prefix} {after = after} made f =
 pub made_more : {well_formed : List ℕ → Type 0} {lossy : List ℕ → List ℕ} {all made prefix rest after : List ℕ} → IsLeft well_formed lossy all made rest → IsFirstText well_formed lossy rest prefix after
     → IsLeft well_formed lossy all ((made ++ prefix) ++ replacement) after
 made_more {made = made} i f = record { rest_is = f.rest_is; lossy_is = i.lossy_is ∙ one_more made f }
-
--- a prefix that was written as a block of n bytes, of which the first k are kept
-pub prefix_of_block : (before bytes block text : List ℕ) (n k : ℕ) → k ≤ n → n ≤ length bytes → block ≡ take n bytes → text ≡ before ++ block → take (length text - (n - k)) text ≡ before ++ take k bytes
-prefix_of_block before bytes block text n k few room b t =
-    let size : length text - (n - k) ≡ length before + k = omega (arith, few, ap length t, length-append before block, ap length b, length-take-le n bytes room) in
-    ap (λ m. take m text) size ∙ ap (take (length before + k)) (t ∙ ap (λ x. before ++ x) b) ∙ take-append-add before (take n bytes) k ∙ ap (λ x. before ++ x) (take-take k n bytes few)
