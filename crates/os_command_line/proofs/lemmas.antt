@@ -16,6 +16,7 @@ pub mod ShellEachLine
 pub mod ShellFirst
 pub mod ShellForms
 pub mod ShellGaps
+pub mod ShellItself
 pub mod ShellItems
 pub mod ShellJoining
 pub mod ShellMeaning

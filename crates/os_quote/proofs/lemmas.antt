@@ -2,7 +2,6 @@ pub mod Items
 pub mod Tokens
 pub mod LongTokens
 pub mod Texts
-pub mod Pushing
 pub mod Stripping
 pub mod Escapes
 pub mod ItemLengths

@@ -30,7 +30,7 @@ special_dollar first b h = elim (cases_Bool (eqb b dollar)) [
   | inr e ↦ e
 ]
 
-is_bare : (l : Language) (first : Bool) (b : ℕ) (text : List ℕ) → is_itself first b ≡ true → IsBare l first b text
+pub is_bare : (l : Language) (first : Bool) (b : ℕ) (text : List ℕ) → is_itself first b ≡ true → IsBare l first b text
 is_bare l first b text h =
     let other = not-false _ h in
     let x = or_false (is_mark b) (is_blank b || is_special first b) other in

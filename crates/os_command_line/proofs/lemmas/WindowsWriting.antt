@@ -1,8 +1,9 @@
 -- What is written of an argument is read as it.
-use Rattle.std.proofs.Common.{◌≡◌, ◌≢◌, ℕ, ◌+◌, ◌*◌, Bool, true, false, if◌then◌else◌, eqb, List, [], ◌∷◌, ◌++◌, length, refl, sym, ap, ◌∙◌, subst, arith, append_assoc, append-nil, length-append, inl, inr}
+use Rattle.std.proofs.Common.{◌≡◌, ◌≢◌, ℕ, ◌+◌, ◌*◌, Bool, true, false, if◌then◌else◌, eqb, List, [], ◌∷◌, ◌++◌, length, take, refl, sym, ap, ◌∙◌, subst, arith, append_assoc, append-nil, length-append, inl, inr}
 use Rattle.std.specs.List.{AllByRecursion}
 use Rattle.std.proofs.lemmas.Bool.{cases_eq, ne_eqb, true≢false}
 use Rattle.std.proofs.lemmas.List.{replicate-append-replicate}
+use Rattle.std.proofs.Math.Seq.{take-append_seam}
 use Rattle.os_command_line.specs.Windows.{backslash, quote, IsBlank, is_blank, backslashes, Ends, StartsWithNoQuote, Begins, Reads, IsTextOf, IsPlain}
 use Rattle.os_command_line.specs.Windows.Reads.{ends, literal, escaped as escaped_mark, opens, closes}
 use Rattle.os_command_line.specs.WindowsWriting.{HasNo, IsFirstAt, leads_to_mark, escaped, in_marks, has_blank, argument_text, unwritten, IsAddedFor, IsPart, IsWritten}
@@ -173,8 +174,6 @@ itself (u ∷ us) h = ap (λ m. if m then backslash ∷ u ∷ escaped false us e
 pub plain_text : (argument : List ℕ) → IsPlain argument → argument_text argument ≡ argument
 plain_text argument p = text_bare argument p.some p.no_blank ∙ itself argument p.no_quote
 
-pub ruleset written_texts = (plain_text, text_is)
-
 -- ---- as it is written
 
 pub marked_new : (old one two three new : List ℕ) (run : ℕ) (argument : List ℕ) → one ≡ old ++ quote ∷ [] → IsWritten true one two run argument → three ≡ two ++ backslashes run → new ≡ three ++ quote ∷ [] → new ≡ old ++ in_marks argument
@@ -201,6 +200,13 @@ plain_written old new run argument w p = w.new_is ∙ ap (λ z. old ++ z) (w.pla
 
 pub grown_on : (old mid new : List ℕ) → (more : List ℕ) × (mid ≡ old ++ more) → (more : List ℕ) × (new ≡ mid ++ more) → (more : List ℕ) × (new ≡ old ++ more)
 grown_on old mid new a b = (a.0 ++ b.0, b.1 ∙ ap (λ z. z ++ b.0) a.1 ∙ append_assoc old a.0 b.0)
+
+pub grown_from : (old mid new : List ℕ) → mid ≡ old → (more : List ℕ) × (new ≡ mid ++ more) → (more : List ℕ) × (new ≡ old ++ more)
+grown_from old mid new e b = (b.0, b.1 ∙ ap (λ z. z ++ b.0) e)
+
+-- what has grown is cut back to its length from before
+pub cut_back : (old mid new : List ℕ) (len : ℕ) → (more : List ℕ) × (mid ≡ old ++ more) → len ≡ length old → new ≡ take len mid → new ≡ old
+cut_back old mid new len grown at cut = cut ∙ ap (take len) grown.1 ∙ ap (λ n. take n (old ++ grown.0)) at ∙ take-append_seam old grown.0
 
 -- ---- a first index
 

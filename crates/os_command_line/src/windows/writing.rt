@@ -45,7 +45,6 @@ const SPACE: u16 = 0x20;
 /// let fault = push_argument(&mut line, OsStr::<Windows>::new("a\0"));
 /// assert_eq!(rt; fault, Err(CommandLineError::Nul(1)));
 /// ```
-#[tactic(auto, using(crate::proofs::lemmas::WindowsWriting::written_texts))]
 pub fn push_argument<A: Allocator>(
     line: &mut Vec<u16, A>,
     argument: OsStr<'_, Windows>,

@@ -1,5 +1,5 @@
 use Rattle.os_quote.proofs.Common.{◌+◌, ◌<◌, ◌^◌, length, sym, subst, form_encode, Pushes, item_bytes, token_item}
-use Rattle.os_quote.proofs.lemmas.Pushing.{push_same}
+use Rattle.platform_str.proofs.lemmas.Pushing.{push_same}
 use Rattle.os_quote.proofs.read_string.push_decoded.Goals as goal
 
 pub push_form-requires-in-Long-clause-room : goal.push_form-requires-in-Long-clause-room

@@ -1,5 +1,6 @@
 use Rattle.os_quote.proofs.Common.{refl, rules, sym, arith, bytes, shown_by, are_chunks_of}
-use Rattle.os_quote.proofs.lemmas.{ItemLengths.escape_is_short, Pushing.never_rejected, Pushing.pushed_whole}
+use Rattle.os_quote.proofs.lemmas.ItemLengths.{escape_is_short}
+use Rattle.platform_str.proofs.lemmas.Pushing.{never_rejected, pushed_whole}
 use Rattle.os_quote.proofs.write_buffer.push_escape.Goals as goal
 
 pub write_escape_to-requires : goal.write_escape_to-requires

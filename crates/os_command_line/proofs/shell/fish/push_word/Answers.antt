@@ -1,5 +1,5 @@
 use Rattle.std.proofs.Common.{rules, refl, sym, arith}
-use Rattle.os_quote.proofs.lemmas.Pushing.{never_rejected, pushed_whole}
+use Rattle.platform_str.proofs.lemmas.Pushing.{never_rejected, pushed_whole}
 use Rattle.os_command_line.proofs.lemmas.Fish.{word_len}
 use Rattle.os_command_line.proofs.shell.fish.push_word.Goals as goal
 

@@ -1,6 +1,6 @@
 use Rattle.std.proofs.Common.{rules, refl, sym, arith}
 use Rattle.platform_str.specs.Strings.{bytes}
-use Rattle.os_quote.proofs.lemmas.Pushing.{never_rejected, pushed_whole}
+use Rattle.platform_str.proofs.lemmas.Pushing.{never_rejected, pushed_whole}
 use Rattle.os_command_line.proofs.lemmas.ShellBare.{any_form}
 use Rattle.os_command_line.proofs.lemmas.ShellWritten.{form_len}
 use Rattle.os_command_line.proofs.shell.write_buffer.push_in.Goals as goal

@@ -1,7 +1,7 @@
 use Rattle.std.proofs.Common.{◌∷◌, ◌<◌, ◌^◌, [], length, arith, refl, rules, sym, subst}
 use Rattle.wtf8_core.specs.Truncated.{IsTruncated}
 use Rattle.wtf8_core.proofs.lemmas.buffers.Truncated.{none_yet}
-use Rattle.os_quote.proofs.lemmas.Pushing.{push_bytes, one_pushed, all_pushed, pushed_all, room_left}
+use Rattle.platform_str.proofs.lemmas.Pushing.{push_bytes, one_pushed, all_pushed, pushed_all, room_left}
 use Rattle.os_command_line.proofs.lemmas.ShellBare.{bare_raw, raw_short}
 use Rattle.os_command_line.proofs.shell.word.Word.write_to.Goals as goal
 

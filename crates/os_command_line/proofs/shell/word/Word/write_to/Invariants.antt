@@ -1,4 +1,4 @@
-use Rattle.os_quote.proofs.lemmas.Pushing.{PushesRest}
+use Rattle.platform_str.proofs.lemmas.Pushing.{PushesRest}
 use Rattle.os_command_line.specs.ShellViews.{word_bytes}
 use Rattle.os_command_line.proofs.shell.word.Word.write_to.Given as goal
 
