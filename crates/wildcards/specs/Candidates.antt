@@ -10,7 +10,7 @@ use Rattle.wildcards.specs.declared.separators.Separators.{Separators}
 use Rattle.wildcards.specs.Components.{components}
 use Rattle.wildcards.specs.Extensions.{LacksExtension, IsExtension}
 use Rattle.wildcards.specs.Filters.{AsksName}
-use Rattle.wildcards.specs.Keys.{EndsIn}
+use Rattle.wildcards.specs.Keys.{EndsIn, key_separators}
 use Rattle.wildcards.specs.Sets.{Has}
 use Rattle.wildcards.specs.Tables.{bucket, slot_of}
 
@@ -27,7 +27,7 @@ module _ {A : Type 0} where
   -- the query is of this filter and path
   pub record IsQuery (q : Query A) (filter : Filter A) (s : Separators) (path : List ℕ) : Type 0 where
     pub filter_is : q.filter.now ≡ filter
-    pub separators_are : q.separators ≡ s
+    pub separators_are : q.separators ≡ key_separators s
     pub path_is : q.path.now ≡ path
     pub name_is : AsksName filter → EndsIn (components s path) q.name.now
     pub extension_is : MatchOption q.extension (filter.extensions ≡ true → LacksExtension (components s path)) (λ text. IsExtension (components s path) text.now)

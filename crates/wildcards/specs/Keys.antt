@@ -1,5 +1,5 @@
 -- What a path needs to be matched by a pattern: only private contracts name this.
-use Rattle.std.specs.Prelude.{◌≡◌, ◌<◌, Bool, true, false, ℕ, List, [], ◌∷◌, ◌++◌}
+use Rattle.std.specs.Prelude.{◌≡◌, ◌⊎◌, ◌<◌, Bool, true, false, ℕ, List, [], ◌∷◌, ◌++◌}
 use Rattle.std.specs.List.{AllByRecursion, join_with_byte}
 use Rattle.wildcards.specs.declared.options.Options.{Options}
 use Rattle.wildcards.specs.declared.separators.Separators.{Separators}
@@ -7,9 +7,12 @@ use Rattle.wildcards.specs.declared.separators.Separators.TheVariants as separat
 use Rattle.wildcards.specs.declared.key.Kind.{Kind}
 use Rattle.wildcards.specs.declared.key.Kind.TheVariants as kind
 use Rattle.wildcards.specs.declared.part.Part.{Part}
+use Rattle.wildcards.specs.declared.piece.Item.{Item}
+use Rattle.wildcards.specs.declared.piece.Item.TheVariants.{Literal}
 use Rattle.wildcards.specs.declared.piece.Piece.{Piece}
 use Rattle.wildcards.specs.declared.piece.Piece.TheVariants.{Many, One}
 use Rattle.wildcards.specs.Components.{components}
+use Rattle.wildcards.specs.Cuts.{IsPlain}
 use Rattle.wildcards.specs.Extensions.{LacksDot}
 use Rattle.wildcards.specs.Literals.{spells}
 use Rattle.wildcards.specs.Match.{Matches}
@@ -19,6 +22,12 @@ abbrev pub joins_by_slash : Separators → Bool
 joins_by_slash separators.None = true
 joins_by_slash separators.Slash = true
 joins_by_slash separators.SlashAndBackslash = false
+
+-- what separates the components that are looked up: a path that is one component has those between `/`
+abbrev pub key_separators : Separators → Separators
+key_separators separators.None = separators.Slash
+key_separators separators.Slash = separators.Slash
+key_separators separators.SlashAndBackslash = separators.SlashAndBackslash
 
 -- what comes before a text, unless it is the first
 abbrev pub slash_before : Bool → List ℕ
@@ -37,7 +46,7 @@ HasPart parts part = (before : List (List ℕ)) × ((after : List (List ℕ)) ×
 abbrev pub HasKey : Options → Kind → List ℕ → List ℕ → Type 0
 HasKey o kind.Path path key = path ≡ key
 HasKey o kind.Name path key = EndsIn (components o.separators path) key
-HasKey o kind.Component path key = HasPart (components o.separators path) key
+HasKey o kind.Component path key = HasPart (components (key_separators o.separators) path) key
 HasKey o kind.Extension path key = LacksDot key × ((start : List ℕ) × EndsIn (components o.separators path) (start ++ 0x2E ∷ key))
 HasKey o kind.Suffix path key = (start : List ℕ) × EndsIn (components o.separators path) (start ++ key)
 
@@ -54,6 +63,18 @@ module _ {A : Type 0} where
   pub record IsNeeded (o : Options) (pieces : List (Piece (Part A))) (k : Kind) (key : List ℕ) : Type 0 where
     pub ascii : AllByRecursion (λ b. b < 0x80) key
     pub needed : (path : List ℕ) → Matches o pieces path → HasKey o k path key
+
+  -- the pieces are at the start, or after a `/`
+  abbrev pub BeginsAt : List (Piece (Item A)) → List (Piece (Item A)) → Type 0
+  BeginsAt pieces rest = (pieces ≡ rest) ⊎ ((before : List (Piece (Item A))) × (pieces ≡ before ++ One (Literal 0x2F) ∷ rest))
+
+  -- the text is literal, between `/`, or between the start and a `/`
+  pub record IsBetween (pieces : List (Piece (Item A))) (text : List ℕ) : Type 0 where
+    pub own : List (Piece (Item A))
+    pub after : List (Piece (Item A))
+    pub begins : BeginsAt pieces (own ++ One (Literal 0x2F) ∷ after)
+    pub spelled : spells own text ≡ true
+    pub plain : IsPlain separators.Slash text
 
   -- the parts are these texts
   abbrev pub AreTexts : List (Piece (Part A)) → List (List ℕ) → Type 0

@@ -8,6 +8,7 @@ ghost use Rattle.wildcards.specs.Candidates.{IsQuery, IsNext, IsNextKey, asked, 
 use crate::component;
 use crate::component::{split_first, split_last};
 use crate::filter::{Filter, Place};
+use crate::key::key_separators;
 use crate::letters::Bytes;
 use crate::separators::Separators;
 use std::alloc::Allocator;
@@ -29,6 +30,7 @@ pub(crate) enum Stage<'s, 'p> {
 #[derive(Drop)]
 pub(crate) struct Query<'s, 'p, A: Allocator> {
     filter: &'s Filter<A>,
+    // what separates the components that are looked up
     separators: Separators,
     path: &'p [u8],
     // the last component, if there are patterns that need it or a suffix of it
@@ -69,7 +71,7 @@ impl<'s, 'p, A: Allocator> Query<'s, 'p, A> {
     {
         Query {
             filter,
-            separators,
+            separators: key_separators(separators),
             path,
             name: name_if(filter.asks_name(), separators, path),
             extension: extension_if(filter.extensions, separators, path),

@@ -1,9 +1,13 @@
 //! What a path needs to be matched by a pattern.
-ghost use Rattle.std.specs.Prelude.{◌≡◌, ◌≤◌, ◌++◌, length, IsTrue, IfOk, IfSome, OnOk};
+ghost use Rattle.std.specs.Prelude.{◌≡◌, ◌≤◌, ◌++◌, ◌∷◌, length, IsTrue, IfOk, IfSome, OnOk};
 ghost use Rattle.wildcards.specs.Extensions.{LacksDot};
-ghost use Rattle.wildcards.specs.Keys.{IsNeeded, IsOfEnd, AreJoinedTexts, joins_by_slash, slash_before};
+ghost use Rattle.wildcards.specs.Keys.{IsNeeded, IsOfEnd, AreJoinedTexts, IsBetween, joins_by_slash, key_separators, slash_before};
 ghost use Rattle.wildcards.specs.declared.key.Kind.TheVariants.{Suffix};
+ghost use Rattle.wildcards.specs.declared.piece.Item.TheVariants.{Literal};
+ghost use Rattle.wildcards.specs.declared.piece.Piece.TheVariants.{One};
+ghost use Rattle.wildcards.specs.declared.separators.Separators.TheVariants.{None};
 
+use crate::component::is_plain;
 use crate::literal::literal_text;
 use crate::options::Options;
 use crate::part::Part;
@@ -19,7 +23,7 @@ pub(crate) enum Kind {
     Path,
     /// The last component.
     Name,
-    /// A component.
+    /// A component; one between `/` of a path that is a component itself.
     Component,
     /// What comes after the last dot of the last component.
     Extension,
@@ -45,6 +49,19 @@ fn joins_by_slash(separators: Separators) -> bool
     }
 }
 
+/// What separates the components that are looked up. A path that is one component has those between
+/// `/`.
+#[inline(always)]
+pub(crate) fn key_separators(separators: Separators) -> Separators
+    ensures { result ≡ key_separators separators }
+{
+    match separators {
+        Separators::None => Separators::Slash,
+        Separators::Slash => Separators::Slash,
+        Separators::SlashAndBackslash => Separators::SlashAndBackslash,
+    }
+}
+
 /// Adds `/` to a text, unless the next text is the first.
 fn push_slash<A: Allocator>(text: &mut Vec<u8, A>, first: bool) -> Result<(), AllocError>
     ensures { OnOk result (text.new.items ≡ text.old.items ++ slash_before first) }
@@ -57,7 +74,7 @@ fn push_slash<A: Allocator>(text: &mut Vec<u8, A>, first: bool) -> Result<(), Al
 }
 
 /// The texts of all parts, joined by `/`, if each part has one.
-fn joined_texts<A: Allocator>(
+fn joined_texts<A: Allocator + Copy>(
     alloc: A,
     pieces: &[Piece<Part<A>>],
 ) -> Result<Option<Vec<u8, A>>, AllocError>
@@ -71,11 +88,11 @@ fn joined_texts<A: Allocator>(
         let Piece::One(part) = piece else {
             return Ok(None);
         };
-        let Some(own) = part.text() else {
+        let Some(own) = literal_text(alloc, part.pieces())? else {
             return Ok(None);
         };
         push_slash(&mut text, first)?;
-        text.extend_from_slice(own)?;
+        text.extend_from_slice(&own)?;
         first = false;
         left = rest;
     }
@@ -191,12 +208,90 @@ fn end_key<A: Allocator + Copy>(
     key_of_end(alloc, &text)
 }
 
+/// Whether a piece is `/`.
+fn is_slash<A: Allocator>(piece: &Piece<Item<A>>) -> bool
+    ensures { IsTrue result → piece.now ≡ One (Literal 0x2F) }
+{
+    match piece {
+        Piece::One(Item::Literal(letter)) => *letter == 0x2F,
+        _ => false,
+    }
+}
+
+/// Returns the pieces on both sides of the first `/`, if there is one.
+fn split_at_slash<A: Allocator>(
+    pieces: &[Piece<Item<A>>],
+) -> Option<(&[Piece<Item<A>>], &[Piece<Item<A>>])>
+    ensures { IfSome result (λ parts. pieces.now ≡ parts.0.now ++ One (Literal 0x2F)
+        ∷ parts.1.now) }
+{
+    let mut at = 0;
+    while at < pieces.len() {
+        let (before, rest) = pieces.split_at(at);
+        if let Some((piece, after)) = rest.split_first() {
+            if is_slash(piece) {
+                return Some((before, after));
+            }
+        }
+        at += 1;
+    }
+    None
+}
+
+/// The longest text after a `/` or the start, and before another `/`.
+fn longest_between<A: Allocator + Copy>(
+    alloc: A,
+    pieces: &[Piece<Item<A>>],
+) -> Result<Option<Vec<u8, A>>, AllocError>
+    ensures { IfOk result (λ text. IfSome text (λ text. IsBetween pieces.entry.now text.items)) }
+{
+    let mut longest = None;
+    let mut size = 0;
+    let mut left = pieces;
+    while let Some((own, after)) = split_at_slash(left) {
+        left = after;
+        if let Some(text) = literal_text(alloc, own)? {
+            if text.len() > size && is_plain(&text) {
+                size = text.len();
+                longest = Some(text);
+            }
+        }
+    }
+    Ok(longest)
+}
+
+/// The longest text between `/` that a path needs which is one component.
+fn between_key<A: Allocator + Copy>(
+    alloc: A,
+    options: Options,
+    pieces: &[Piece<Part<A>>],
+) -> Result<Option<Key<A>>, AllocError>
+    requires { options.separators ≡ None }
+    ensures { IfOk result (λ key. IfSome key (λ key. IsNeeded options pieces.entry.now key.kind
+        key.text.items)) }
+{
+    let Some((Piece::One(part), rest)) = pieces.split_first() else {
+        return Ok(None);
+    };
+    if !rest.is_empty() {
+        return Ok(None);
+    }
+    let Some(text) = longest_between(alloc, part.pieces())? else {
+        return Ok(None);
+    };
+    Ok(Some(Key {
+        kind: Kind::Component,
+        text,
+    }))
+}
+
 /// The longest component that a path needs.
 fn component_key<A: Allocator>(
     alloc: A,
     options: Options,
     pieces: &[Piece<Part<A>>],
 ) -> Result<Option<Key<A>>, AllocError>
+    requires { options.separators ≡ None → ⊥ }
     ensures { IfOk result (λ key. IfSome key (λ key. IsNeeded options pieces.entry.now key.kind
         key.text.items)) }
 {
@@ -235,6 +330,9 @@ pub(crate) fn key_of<A: Allocator + Copy>(
     }
     if let Some(key) = end_key(alloc, options, pieces)? {
         return Ok(Some(key));
+    }
+    if options.separators == Separators::None {
+        return between_key(alloc, options, pieces);
     }
     component_key(alloc, options, pieces)
 }

@@ -1,5 +1,5 @@
 -- What a pattern matches has its keys.
-use Rattle.std.proofs.Common.{◌≡◌, ◌<◌, Bool, true, false, ℕ, List, [], ◌∷◌, ◌++◌, refl, sym, ap, ◌∙◌, subst, arith, append_assoc, append-nil}
+use Rattle.std.proofs.Common.{◌≡◌, inl, inr, ◌<◌, Bool, true, false, ℕ, List, [], ◌∷◌, ◌++◌, refl, sym, ap, ◌∙◌, subst, arith, append_assoc, append-nil}
 use Rattle.std.specs.List.{AllByRecursion, join_with_byte}
 use Rattle.std.specs.Prelude.{Option, None, Some, IfSome}
 use Rattle.std.specs.declared.vec.Vec.{Vec}
@@ -12,15 +12,17 @@ use Rattle.wildcards.specs.declared.key.Kind.{Kind}
 use Rattle.wildcards.specs.declared.key.Kind.TheVariants as kind
 use Rattle.wildcards.specs.declared.part.Part.{Part}
 use Rattle.wildcards.specs.declared.piece.Item.{Item}
+use Rattle.wildcards.specs.declared.piece.Item.TheVariants.{Literal}
 use Rattle.wildcards.specs.declared.piece.Piece.{Piece}
 use Rattle.wildcards.specs.declared.piece.Piece.TheVariants.{Many, One}
 use Rattle.wildcards.specs.Components.{components, separates}
-use Rattle.wildcards.specs.Keys.{IsNeeded, IsOfEnd, AreTexts, AreJoinedTexts, joins_by_slash, slash_before}
+use Rattle.wildcards.specs.Cuts.{IsPlain}
+use Rattle.wildcards.specs.Keys.{BeginsAt, HasPart, IsBetween, IsNeeded, IsOfEnd, AreTexts, AreJoinedTexts, joins_by_slash, key_separators, slash_before}
 use Rattle.wildcards.specs.Literals.{spells, spells_some}
 use Rattle.wildcards.specs.Match.{Fits, TakesLetter, TakesComponent, FitsComponent, MatchesParts, Matches}
 use Rattle.wildcards.specs.Wild.{Wild}
-use Rattle.wildcards.proofs.lemmas.Literals.{only_text, spelled_ascii}
-use Rattle.wildcards.proofs.lemmas.Parts.{one_component}
+use Rattle.wildcards.proofs.lemmas.Literals.{only_text, spelled_ascii, text_first}
+use Rattle.wildcards.proofs.lemmas.Parts.{first_component, one_component, split_append}
 use Rattle.wildcards.proofs.lemmas.Wilds.{rest_matches}
 
 -- the texts that are left, each after a separator unless it is the first
@@ -37,12 +39,65 @@ pub all_joined : (ts : List (List ℕ)) → joined_left true ts ≡ join_with_by
 all_joined [] = refl
 all_joined (t ∷ ts) = joined_is t ts
 
+whole_component : (path : List ℕ) → components separators.None path ≡ path ∷ []
+whole_component path = one_component separators.None path (All-from_get_or (λ b. separates separators.None b ≡ false) path 0 (λ k l. refl))
+
 joined_components : (s : Separators) → joins_by_slash s ≡ true → (path : List ℕ) → join_with_byte 0x2F (components s path) ≡ path
-joined_components separators.None e path = ap (join_with_byte 0x2F) (one_component separators.None path (All-from_get_or (λ b. separates separators.None b ≡ false) path 0 (λ k l. refl)))
+joined_components separators.None e path = ap (join_with_byte 0x2F) (whole_component path)
 joined_components separators.Slash e path = join_with_byte-slice_split 0x2F path
 joined_components separators.SlashAndBackslash e path = let never : false ≡ true = e in cc
 
+-- where a path has several components, these are looked up
+same_separators : (s : Separators) → (s ≡ separators.None → ⊥) → key_separators s ≡ s
+same_separators separators.None n = absurd (n refl)
+same_separators separators.Slash n = refl
+same_separators separators.SlashAndBackslash n = refl
+
+-- a text before a `/` is the first component
+first_part : (text after : List ℕ) → IsPlain separators.Slash text → components separators.Slash (text ++ 0x2F ∷ after) ≡ text ∷ components separators.Slash after
+first_part text after plain = first_component separators.Slash (text ++ 0x2F ∷ after) text after (record { separator = 0x2F; joined = refl; parts = refl }, plain)
+
 module _ {A : Type 0} where
+  -- what begins after a `/` of what begins there
+  pub begins_after : (pieces left own after : List (Piece (Item A))) → left ≡ own ++ One (Literal 0x2F) ∷ after → BeginsAt pieces left → BeginsAt pieces after
+  begins_after pieces left own after e (inl h) = inr (own, h ∙ e)
+  begins_after pieces left own after e (inr h) =
+      inr (h.0 ++ One (Literal 0x2F) ∷ own, h.1 ∙ ap (λ z. h.0 ++ One (Literal 0x2F) ∷ z) e ∙ sym (append_assoc h.0 (One (Literal 0x2F) ∷ own) (One (Literal 0x2F) ∷ after)))
+
+  pub is_between : (pieces left own after : List (Piece (Item A))) (text : List ℕ) → left ≡ own ++ One (Literal 0x2F) ∷ after → BeginsAt pieces left → spells own text ≡ true → IsPlain separators.Slash text → IsBetween pieces text
+  is_between pieces left own after text e begins is plain = record { own = own; after = after; begins = subst (BeginsAt pieces) e begins; spelled = is; plain = plain }
+
+  -- such a text is a component of each path that the pieces match
+  between_part : (pieces : List (Piece (Item A))) (text path : List ℕ) → IsBetween pieces text → Wild TakesLetter Fits pieces path → HasPart (components separators.Slash path) text
+  between_part pieces text path h m = by_start h.begins
+    where
+      slash : Piece (Item A)
+      slash = One (Literal 0x2F)
+
+      at_text : (letters : List ℕ) → Wild TakesLetter Fits (h.own ++ slash ∷ h.after) letters → (rest : List ℕ) × (components separators.Slash letters ≡ text ∷ components separators.Slash rest)
+      at_text letters n =
+          let own = text_first A h.own (slash ∷ h.after) text letters h.spelled n in
+          let next = own.after in
+          let here : letters ≡ text ++ 0x2F ∷ next.rest = own.joined ∙ ap (λ z. text ++ z) (next.joined ∙ ap (λ z. z ∷ next.rest) (sym next.fits)) in
+          (next.rest, ap (components separators.Slash) here ∙ first_part text next.rest h.plain)
+
+      by_start : BeginsAt pieces (h.own ++ slash ∷ h.after) → HasPart (components separators.Slash path) text
+      by_start (inl e) =
+          let at = at_text path (subst (λ z. Wild TakesLetter Fits z path) e m) in
+          ([], (components separators.Slash at.0, at.1))
+      by_start (inr e) =
+          let found = rest_matches TakesLetter Fits e.0 (slash ∷ (h.own ++ slash ∷ h.after)) path (subst (λ z. Wild TakesLetter Fits z path) e.1 m) in
+          let one = found.matched in
+          let at = at_text one.rest one.after in
+          let here : path ≡ found.before ++ 0x2F ∷ one.rest = found.joined ∙ ap (λ z. found.before ++ z) (one.joined ∙ ap (λ z. z ∷ one.rest) (sym one.fits)) in (
+            components separators.Slash found.before,
+            (
+              components separators.Slash at.0,
+              ap (components separators.Slash) here ∙ split_append (separates separators.Slash) found.before 0x2F one.rest refl
+                  ∙ ap (λ z. components separators.Slash found.before ++ z) at.1,
+            ),
+          )
+
   -- with texts for what is left there are texts for all
   pub record AreAll (pieces : List (Piece (Part A))) (text : List ℕ) (first : Bool) (ts : List (List ℕ)) : Type 0 where
     pub all : List (List ℕ)
@@ -107,6 +162,18 @@ module _ {A : Type 0} where
       needed = λ path m. sym (joined_components o.separators e path) ∙ ap (join_with_byte 0x2F) (each_text pieces h.0 (components o.separators path) h.1.0 m) ∙ sym h.1.1;
     }
 
+    -- a part that is a whole path needs a text between its `/`
+    pub between_needed : (pieces rest : List (Piece (Part A))) (part : Part A) (text : List ℕ) → o.separators ≡ separators.None → pieces ≡ One part ∷ rest → rest ≡ [] → IsBetween part.pieces.items text → IsNeeded o pieces kind.Component text
+    between_needed pieces rest part text one e none h = record {
+      ascii = spelled_ascii _ h.own text h.spelled;
+      needed = λ path m.
+          let n : MatchesParts o.literal_leading_dot (One part ∷ []) (components separators.None path) = subst (λ s. MatchesParts o.literal_leading_dot (One part ∷ []) (components s path)) one (subst (λ z. MatchesParts o.literal_leading_dot z (components o.separators path)) (e ∙ ap (λ z. One part ∷ z) none) m) in
+          let here : path ∷ [] ≡ n.letter ∷ n.rest = sym (whole_component path) ∙ n.joined in
+          let same : n.letter ≡ path = cc in
+          subst (λ s. HasPart (components (key_separators s) path) text) (sym one)
+          (between_part part.pieces.items text path h (subst (Wild TakesLetter Fits part.pieces.items) same n.fits.0));
+    }
+
     module _ (pieces before after : List (Piece (Part A))) (part : Part A) (e : pieces ≡ before ++ One part ∷ after) where
       -- the component that the part matches
       pub record AtPart (path : List ℕ) : Type 0 where
@@ -124,10 +191,13 @@ module _ {A : Type 0} where
           let one = h.matched in
           record { parts_before = h.before; component = one.letter; parts_after = one.rest; joined = h.joined ∙ ap (λ z. h.before ++ z) one.joined; fits = one.fits; rest = one.after }
 
-      pub component_needed : (text : List ℕ) → spells part.pieces.items text ≡ true → IsNeeded o pieces kind.Component text
-      component_needed text is = record {
+      pub component_needed : (text : List ℕ) → spells part.pieces.items text ≡ true → (o.separators ≡ separators.None → ⊥) → IsNeeded o pieces kind.Component text
+      component_needed text is several = record {
         ascii = spelled_ascii _ part.pieces.items text is;
-        needed = λ path m. let h = at_part path m in (h.parts_before, (h.parts_after, h.joined ∙ ap (λ z. h.parts_before ++ z ∷ h.parts_after) (fits_text part text h.component is h.fits)));
+        needed = λ path m.
+            let h = at_part path m in
+            subst (λ s. HasPart (components s path) text) (sym (same_separators o.separators several))
+            (h.parts_before, (h.parts_after, h.joined ∙ ap (λ z. h.parts_before ++ z ∷ h.parts_after) (fits_text part text h.component is h.fits)));
       }
 
       pub name_needed : (text : List ℕ) → spells part.pieces.items text ≡ true → after ≡ [] → IsNeeded o pieces kind.Name text

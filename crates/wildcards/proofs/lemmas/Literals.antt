@@ -21,6 +21,12 @@ pub record AreLiteral {A : Type 0} (pieces : List (Piece (Item A))) (bytes : Lis
   pub are : pieces ≡ map literal_piece bytes
   pub ascii : AllByRecursion (λ b. b < 0x80) bytes
 
+-- the letters are a text, and then what the pieces match
+pub record AfterText {A : Type 0} (text : List ℕ) (pieces : List (Piece (Item A))) (letters : List ℕ) : Type 0 where
+  pub rest : List ℕ
+  pub joined : letters ≡ text ++ rest
+  pub after : Wild TakesLetter Fits pieces rest
+
 both_true : (a b : Bool) → (a && b) ≡ true → (a ≡ true) × (b ≡ true)
 both_true true b e = (refl, e)
 both_true false b e = let never : false ≡ true = e in absurd (cc)
@@ -32,6 +38,12 @@ module _ (A : Type 0) where
   text_only : (bytes letters : List ℕ) → Wild TakesLetter Fits (text_pieces bytes) letters → letters ≡ bytes
   text_only [] letters m = m
   text_only (b ∷ bytes) letters m = m.joined ∙ ap (λ z. z ∷ m.rest) (sym m.fits) ∙ ap (λ z. b ∷ z) (text_only bytes m.rest m.after)
+
+  text_then : (bytes : List ℕ) (pieces : List (Piece (Item A))) (letters : List ℕ) → Wild TakesLetter Fits (text_pieces bytes ++ pieces) letters → AfterText bytes pieces letters
+  text_then [] pieces letters m = record { rest = letters; joined = refl; after = m }
+  text_then (b ∷ bytes) pieces letters m =
+      let h = text_then bytes pieces m.rest m.after in
+      record { rest = h.rest; joined = m.joined ∙ ap (λ z. z ∷ m.rest) (sym m.fits) ∙ ap (λ z. b ∷ z) h.joined; after = h.after }
 
   text_itself : (bytes : List ℕ) → Wild TakesLetter Fits (text_pieces bytes) bytes
   text_itself [] = refl
@@ -59,6 +71,10 @@ module _ (A : Type 0) where
   -- what pieces match that are a text
   pub only_text : (pieces : List (Piece (Item A))) (bytes letters : List ℕ) → spells pieces bytes ≡ true → Wild TakesLetter Fits pieces letters → letters ≡ bytes
   only_text pieces bytes letters e m = text_only bytes letters (subst (λ z. Wild TakesLetter Fits z letters) (spelled pieces bytes e).are m)
+
+  -- what pieces match that begin with a text
+  pub text_first : (own pieces : List (Piece (Item A))) (bytes letters : List ℕ) → spells own bytes ≡ true → Wild TakesLetter Fits (own ++ pieces) letters → AfterText bytes pieces letters
+  text_first own pieces bytes letters e m = text_then bytes pieces letters (subst (λ z. Wild TakesLetter Fits (z ++ pieces) letters) (spelled own bytes e).are m)
 
   -- pieces that are a text match it
   pub matches_itself : (pieces : List (Piece (Item A))) (bytes : List ℕ) → spells pieces bytes ≡ true → Wild TakesLetter Fits pieces bytes

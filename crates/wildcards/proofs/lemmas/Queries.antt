@@ -22,7 +22,7 @@ use Rattle.wildcards.specs.Components.{components, separates}
 use Rattle.wildcards.specs.Cuts.{IsPlain, IsCut}
 use Rattle.wildcards.specs.Extensions.{LacksDot, IsExtension, LacksExtension}
 use Rattle.wildcards.specs.Filters.{Asks, IsCovered, AreCovered, CoversAll, IsHitAt}
-use Rattle.wildcards.specs.Keys.{HasPart, HasKey}
+use Rattle.wildcards.specs.Keys.{HasPart, HasKey, key_separators}
 use Rattle.wildcards.specs.Match.{Matches}
 use Rattle.wildcards.specs.Reading.{LetterLaws}
 use Rattle.wildcards.specs.Sets.{Has, MatchesChoice, IsHit}
@@ -234,8 +234,10 @@ module _ {A : Type 0} (formed : List ℕ → Type 0) (letters : List ℕ → Lis
       let same : q.name.now ≡ key = itself formed letters laws o.separators q.name.now key n.0 ascii n.1 in
       subst (Has (path_keys q)) same (after_key q.filter.now.paths q.path.now q.name.now (name_keys q) (key_asked q.filter.now.names q.name.now (if q.filter.now.components then parts ++ end_keys q else end_keys q) a))
   of_key kind.Component key ascii asks a e =
-      let h = part_itself formed letters laws o.separators (components o.separators path) e.0 e.1.0 key reading.formed_each ascii (sym reading.are ∙ e.1.1) in
-      let here : parts ≡ h.0 ++ key ∷ h.1.0 = ap (λ z. components z q.path.now) is.separators_are ∙ ap (components o.separators) is.path_is ∙ h.1.1 in
+      let s = key_separators o.separators in
+      let read = read_parts formed letters laws s (length path + 1) path (omega arith) f in
+      let h = part_itself formed letters laws s (components s path) e.0 e.1.0 key read.formed_each ascii (sym read.are ∙ e.1.1) in
+      let here : parts ≡ h.0 ++ key ∷ h.1.0 = ap (λ z. components z q.path.now) is.separators_are ∙ ap (components s) is.path_is ∙ h.1.1 in
       of_names key (parts_asked q.filter.now.components key (parts ++ end_keys q) (end_keys q) a (of_part q parts h.0 h.1.0 (end_keys q) key here))
   of_key kind.Extension key ascii asks a e =
       of_names key (after_parts q.filter.now.components key parts (end_keys q) (of_extension q key q.extension (suffix_keys q q.filter.now.lengths.items) (its_extension key ascii e.1.0 e.1.1.0 e.1.1.1 e.0 asks q.extension is.extension_is)))

@@ -18,5 +18,5 @@ returns g c =
     let is = ap (spells one.part.pieces.items) c.in_ok-text.ensures.items ∙ c.in-Some.ensures in
     elim c.if-is_empty.branch [
       | then-is_empty w ↦ subst (λ kind. IsNeeded c.args.options c.args.pieces.now kind text) (sym w.kind-is) (name_needed c.args.options c.args.pieces.now c.split_at.result.0.now one.after.now one.part parts text is (nil_from_length _ (eqb-true _ _ (sym c.is_empty.ensures ∙ w.if-is_empty.true))))
-      | else-is_empty w ↦ subst (λ kind. IsNeeded c.args.options c.args.pieces.now kind text) (sym w.kind-is) (component_needed c.args.options c.args.pieces.now c.split_at.result.0.now one.after.now one.part parts text is)
+      | else-is_empty w ↦ subst (λ kind. IsNeeded c.args.options c.args.pieces.now kind text) (sym w.kind-is) (component_needed c.args.options c.args.pieces.now c.split_at.result.0.now one.after.now one.part parts text is c.requires)
     ]
