@@ -1,3 +1,4 @@
+pub mod Above
 pub mod Added
 pub mod Below
 pub mod Bodies

@@ -1,3 +1,4 @@
+pub mod Above
 pub mod Class
 pub mod ClassSteps
 pub mod ClassText

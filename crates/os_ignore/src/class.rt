@@ -124,7 +124,8 @@ impl Member {
         folds: bool,
         ranges: &mut Vec<Range, A>,
     ) -> Result<(), AllocError>
-        ensures { IfOk result (λ _. ranges.new.items ≡ ranges.old.items ++ member_ranges folds self) }
+        ensures { IfOk result (λ _.
+            ranges.new.items ≡ ranges.old.items ++ member_ranges folds self) }
     {
         self.push_exact(ranges)?;
         if folds {

@@ -39,8 +39,8 @@ pub fn one_meaning<A: Allocator>()
 /// A `!` before a line takes in again exactly what the line matches, with regard to case or without.
 pub fn taken_in_again<A: Allocator>()
     ensures { (folds : Bool) → (text : List ℕ) → (line : Line A) → (again : Line A)
-        → IsLine folds text line → IsLine folds (0x21 ∷ text) again → line.takes_in ≡ false → (again.takes_in ≡ true)
-        × ((path : List ℕ) → (is_dir : Bool)
+        → IsLine folds text line → IsLine folds (0x21 ∷ text) again → line.takes_in ≡ false
+        → (again.takes_in ≡ true) × ((path : List ℕ) → (is_dir : Bool)
         → LineMatches line path is_dir ↔ LineMatches again path is_dir) }
 {}
 

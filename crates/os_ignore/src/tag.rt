@@ -76,7 +76,8 @@ fn suffix_tag<A: Allocator + Copy>(
     star: Letter,
     rest: &[Letter],
 ) -> Result<u8, AllocError>
-    ensures { IfOk result (λ tag. (pattern : List (Piece (Part A))) → IsPattern false (star ∷ rest.now) pattern
+    ensures { IfOk result (λ tag. (pattern : List (Piece (Part A)))
+        → IsPattern false (star ∷ rest.now) pattern
         → IsTagOf false anchored literal.now pattern tag) }
 {
     let (suffix, left) = read_literal(alloc, false, rest)?;
@@ -96,7 +97,8 @@ fn exact_tag<A: Allocator + Copy>(
     literal: &[u8],
     rest: &[Letter],
 ) -> Result<u8, AllocError>
-    ensures { IfOk result (λ tag. (pattern : List (Piece (Part A))) → IsPattern false rest.now pattern
+    ensures { IfOk result (λ tag. (pattern : List (Piece (Part A)))
+        → IsPattern false rest.now pattern
         → IsTagOf false anchored literal.now pattern tag) }
 {
     if anchored {

@@ -1,26 +1,73 @@
 //! Verdicts of paths that come one after the other.
-ghost use Rattle.std.specs.Prelude.{◌≡◌, ◌++◌, ◌∷◌, ℕ, List, IfOk, OnOk, true};
+ghost use Rattle.std.specs.Prelude.{◌≡◌, ◌≤◌, ◌++◌, ◌∷◌, ℕ, List, take, IfOk, OnOk, true};
+ghost use Rattle.std.specs.List.{All};
+ghost use Rattle.os_ignore.specs.Above.{IsDecided, IsIn, IsShared};
 ghost use Rattle.os_ignore.specs.Components.{IsPlain};
 ghost use Rattle.os_ignore.specs.Ignores.{files_of};
 ghost use Rattle.os_ignore.specs.Verdicts.{IsVerdict};
 
-use crate::component::split_last;
 use crate::file::File;
 use crate::ignore::Ignore;
-use crate::verdict::{Verdict, decide, own};
+use crate::verdict::{Verdict, own};
 use std::alloc::{AllocError, Allocator, Global};
 
-/// The verdicts of paths that come one after the other, as `find` or a walk of a tree lists them. What
-/// was decided for the directory of a path isn't decided again for the next path in that directory.
+/// A directory above a path.
+#[derive(Clone, Copy)]
+struct Above {
+    /// The index in the path of what is in it, after the slash at its end.
+    start: usize,
+    /// Its verdict.
+    verdict: Verdict,
+}
+
+/// The verdicts of paths that come one after the other, as `find` or a walk of a tree lists them.
+/// It keeps the path before and the verdict of each directory above it, so a directory above both
+/// this path and the next isn't decided again. The memory for them is of the allocator that
+/// [`Walk::new`] gets.
 #[derive(Drop)]
 pub struct Walk<'i, A: Allocator + 'i = Global> {
     files: &'i [File<A>],
-    directory: Vec<u8, A>,
-    verdict: Verdict,
-    ghost decided: { ∥ IsVerdict files.now directory.items true verdict ∥₁ },
+    path: Vec<u8, A>,
+    above: Vec<Above, A>,
+    ghost decided: { All (IsDecided files.now path.items) above.items },
 }
 
-/// Whether files ignore a path in a directory, given their verdict on the directory.
+/// The number of bytes that two paths share at their start.
+fn shared_bytes(path: &[u8], other: &[u8]) -> usize
+    ensures { IsShared path.now other.now result }
+{
+    let mut count = 0;
+    while count < path.len() && count < other.len() && path[count] == other[count] {
+        count += 1;
+    }
+    count
+}
+
+/// The number of directories at the start of the list that are above both of two paths which share
+/// this many bytes.
+fn shared_directories(above: &[Above], shared: usize) -> usize
+    ensures { All (λ directory. directory.start ≤ shared) (take result above.now) }
+{
+    for (count, directory) in above.iter().enumerate() {
+        if directory.start > shared {
+            return count;
+        }
+    }
+    above.len()
+}
+
+/// The index of what is in the last of the directories, and its verdict.
+fn last_of<A: Allocator>(above: &[Above]) -> (usize, Option<Verdict>)
+    ensures { (files : List (File A)) (path : List ℕ) → All (IsDecided files path) above.now
+        → IsIn files (take result.0 path) result.1 }
+{
+    match above.last() {
+        Some(directory) => (directory.start, Some(directory.verdict)),
+        None => (0, None),
+    }
+}
+
+/// The verdict of files on a path in a directory, given their verdict on that.
 #[tactic(auto, using(crate::proofs::lemmas::Below::hidden_in, crate::proofs::lemmas::Below::own_in))]
 fn in_directory<A: Allocator>(
     files: &[File<A>],
@@ -39,6 +86,49 @@ fn in_directory<A: Allocator>(
     }
 }
 
+/// The verdict of files on a path, given their verdict on the directory that it is in. It has none
+/// if it has no slash.
+#[tactic(auto, using(crate::proofs::lemmas::Below::own_at_top))]
+fn decide_in<A: Allocator>(
+    files: &[File<A>],
+    above: Option<Verdict>,
+    path: &[u8],
+    is_dir: bool,
+) -> Verdict
+    requires { IsIn files.now path.now above }
+    ensures { ∥ IsVerdict files.now path.now is_dir result ∥₁ }
+{
+    match above {
+        Some(above) => in_directory(files, above, path, is_dir),
+        None => own(files, path, is_dir),
+    }
+}
+
+/// Decides the directories above a path that aren't in the list, and adds them. Returns the verdict
+/// of the one that the path is in.
+fn decide_above<A: Allocator>(
+    files: &[File<A>],
+    path: &[u8],
+    above: &mut Vec<Above, A>,
+) -> Result<Option<Verdict>, AllocError>
+    requires { All (IsDecided files.now path.now) above.old.items }
+    ensures decided { All (IsDecided files.now path.now) above.new.items }
+    ensures last { IfOk result (λ last. IsIn files.now path.now last) }
+{
+    let (start, mut last) = last_of::<A>(above);
+    for end in start..path.len() {
+        if path[end] == b'/' {
+            let verdict = decide_in(files, last, &path[..end], true);
+            above.push(Above {
+                start: end + 1,
+                verdict,
+            })?;
+            last = Some(verdict);
+        }
+    }
+    Ok(last)
+}
+
 impl<'i, A: Allocator + Copy> Walk<'i, A> {
     ghost use Rattle.os_ignore.specs.Walks.{files_of_walk};
 
@@ -49,84 +139,57 @@ impl<'i, A: Allocator + Copy> Walk<'i, A> {
     ///
     /// let ignore = Ignore::new(alloc, b"*.o\nout/\n")?;
     /// let mut walk = Walk::new(alloc, &ignore);
-    /// assert_eq!(rt; walk.matched(alloc, b"src", true)?, Verdict::Neither);
-    /// assert_eq!(rt; walk.matched(alloc, b"src/a.o", false)?, Verdict::Ignored { file: 0, line: 1 });
-    /// assert_eq!(rt; walk.matched(alloc, b"out/a.c", false)?, Verdict::Ignored { file: 0, line: 2 });
+    /// assert_eq!(rt; walk.matched(b"src", true)?, Verdict::Neither);
+    /// assert_eq!(rt; walk.matched(b"src/a.o", false)?, Verdict::Ignored { file: 0, line: 1 });
+    /// assert_eq!(rt; walk.matched(b"out/a.c", false)?, Verdict::Ignored { file: 0, line: 2 });
     /// ```
-    #[tactic(auto, using(crate::proofs::lemmas::Below::merely))]
     pub fn new(alloc: A, ignore: &'i Ignore<A>) -> Walk<'i, A>
         ensures { files_of_walk result ≡ files_of ignore.entry.now }
     {
-        let files = ignore.files();
         Walk {
-            files,
-            directory: Vec::new(alloc),
-            verdict: decide(files, b"", true),
+            files: ignore.files(),
+            path: Vec::new(alloc),
+            above: Vec::new(alloc),
         }
     }
 
     /// Returns whether the files ignore a path, and which line decides it: the verdict that
-    /// [`Ignore::matched`] returns. Paths may come in any order; it is fast where most of them are
-    /// in the directory of the path before, or in one below it.
+    /// [`Ignore::matched`] returns. Paths may come in any order. Only those directories above the
+    /// path are decided that aren't above the path before.
     ///
     /// # Errors
     ///
-    /// [`AllocError`] if the allocation for the directory of the path fails. The walk can go on.
+    /// [`AllocError`] if the allocation for the path or for the directories above it fails. The
+    /// walk can go on.
     ///
     /// ```
     /// use os_ignore::{Ignore, Walk};
     ///
     /// let ignore = Ignore::new(alloc, b"build/\n")?;
     /// let mut walk = Walk::new(alloc, &ignore);
-    /// assert!(rt; walk.matched(alloc, b"build", true)?.is_ignored());
-    /// assert!(rt; walk.matched(alloc, b"build/a/b", false)?.is_ignored());
-    /// assert!(rt; !walk.matched(alloc, b"a", false)?.is_ignored());
+    /// assert!(rt; walk.matched(b"build", true)?.is_ignored());
+    /// assert!(rt; walk.matched(b"build/a/b", false)?.is_ignored());
+    /// assert!(rt; !walk.matched(b"a", false)?.is_ignored());
     /// ```
-    #[tactic(auto, using(crate::proofs::lemmas::Below::own_at_top))]
-    pub fn matched(&mut self, alloc: A, path: &[u8], is_dir: bool) -> Result<Verdict, AllocError>
+    pub fn matched(&mut self, path: &[u8], is_dir: bool) -> Result<Verdict, AllocError>
         ensures verdict { IfOk result (λ verdict.
             ∥ IsVerdict (files_of_walk self.old) path.now is_dir verdict ∥₁) }
         ensures files { files_of_walk self.new ≡ files_of_walk self.old }
     {
-        let Some((directory, _)) = split_last(b'/', path) else {
-            return Ok(own(self.files, path, is_dir));
-        };
-        self.enter(alloc, directory)?;
-        Ok(in_directory(self.files, self.verdict, path, is_dir))
+        self.turn_to(path)?;
+        let above = decide_above(self.files, path, &mut self.above)?;
+        Ok(decide_in(self.files, above, path, is_dir))
     }
 
-    /// Decides a directory, unless it is that of the path before.
-    fn enter(&mut self, alloc: A, directory: &[u8]) -> Result<(), AllocError>
-        ensures entered { OnOk result (self.new.directory.items ≡ directory.now) }
+    /// Keeps a path in place of the path before, and the directories that are above both.
+    fn turn_to(&mut self, path: &[u8]) -> Result<(), AllocError>
+        ensures path { OnOk result (self.new.path.items ≡ path.now) }
         ensures files { files_of_walk self.new ≡ files_of_walk self.old }
     {
-        if self.directory.as_slice() == directory {
-            return Ok(());
-        }
-        let copy = Vec::from_slice(alloc, directory)?;
-        *self = Walk {
-            files: self.files,
-            directory: copy,
-            verdict: self.verdict_of(directory),
-        };
+        let shared = shared_bytes(&self.path, path);
+        self.above.truncate(shared_directories(&self.above, shared));
+        self.path.truncate(shared);
+        self.path.extend_from_slice(&path[shared..])?;
         Ok(())
-    }
-
-    /// Returns whether the files ignore a directory. It takes one step if the directory is in that
-    /// of the path before.
-    #[tactic(auto, using(crate::proofs::lemmas::Below::merely, crate::proofs::lemmas::Below::own_at_top))]
-    fn verdict_of(&self, directory: &[u8]) -> Verdict
-        ensures { ∥ IsVerdict (files_of_walk self.now) directory.now true result ∥₁ }
-    {
-        match split_last(b'/', directory) {
-            Some((above, _)) => {
-                if self.directory.as_slice() == above {
-                    in_directory(self.files, self.verdict, directory, true)
-                } else {
-                    decide(self.files, directory, true)
-                }
-            }
-            None => own(self.files, directory, true),
-        }
     }
 }
