@@ -6,6 +6,7 @@ pub mod Options
 pub mod Files
 pub mod Command
 pub mod Pick
+pub mod Work
 pub mod Program
 pub mod Back
 pub mod Words

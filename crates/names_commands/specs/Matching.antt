@@ -3,6 +3,7 @@ use Rattle.std.specs.Prelude.{◌≡◌, ◌⊎◌, ℕ, Bool, true, false, List
 use Rattle.std.specs.List.{AllByRecursion}
 use denote.Ref.{Bor}
 use Rattle.os_str_bytes.specs.Platform.{Ghosts}
+use Rattle.glob_patterns.specs.GlobSets.{AreMeanings}
 use Rattle.glob_patterns.specs.Letters.{letters_of}
 use Rattle.glob_patterns.specs.Options.{options_of, syntax_of}
 use Rattle.glob_patterns.specs.declared.glob_set.GlobSet.{GlobSet}
@@ -91,6 +92,10 @@ module _ {E : Type 0} (p : Ghosts E) where
     pub index_is : index ≡ length before
     pub fine : AllByRecursion (IsPattern o) before
     pub is : IsFault p.well_formed (letters_of p.units) (syntax_of o) text fault
+
+  -- the set has the texts, compiled one by one
+  abbrev pub IsSetOf : (A : Type 0) → GlobOptions → List (List ℕ) → GlobSet E A → Type 0
+  IsSetOf A o texts set = (set.set.options ≡ options_of o) × AreMeanings p.well_formed (letters_of p.units) (syntax_of o) A texts set.set.patterns.items
 
   -- one of the patterns of a compiled set matches the name
   abbrev pub IsMatchedBy : {A : Type 0} → GlobSet E A → List ℕ → Type 0

@@ -3,6 +3,7 @@ use Rattle.std.specs.Prelude.{◌≡◌, ◌⊎◌, ◌+◌, ℕ, Bool, List, dr
 use Rattle.std.specs.Fmt.InlineText.{inline_text}
 use Rattle.os_str_bytes.specs.Platform.{Ghosts}
 use Rattle.os_ignore.specs.declared.file.File.{File}
+use Rattle.glob_patterns.specs.declared.options.GlobOptions.{GlobOptions}
 use Rattle.glob_text.specs.declared.fault.PatternFault.{PatternFault}
 use Rattle.glob_text.specs.Marks.{Mark}
 use Rattle.os_args.specs.Views.{fault_of}
@@ -20,24 +21,20 @@ use Rattle.program_frame.specs.Marked.{marked_inner}
 use Rattle.program_frame.specs.declared.marked.Marked.{Marked}
 use Rattle.program_frame.specs.Strings.{strings}
 use Rattle.program_frame.specs.declared.os.Os.{Os}
-use Rattle.program_frame.specs.declared.os.Os.TheVariants.{Unix}
 use Rattle.program_frame.specs.Written.{WritesText}
 use Rattle.program_frame.specs.ListRun.{Runs}
 use Rattle.program_frame.specs.declared.fault.Failure.TheVariants.{Memory, Write}
 use Rattle.program_frame.specs.declared.lists.fault.ListFault.TheVariants.{Run}
 use Rattle.names_commands.specs.declared.command.Command.{Command}
-use Rattle.names_commands.specs.declared.command.Command.TheVariants.{ListNames, ListWords, Filter, Why, Join, JoinWords, Check, Help, Version}
 use Rattle.program_frame.specs.declared.lists.program_fault.Fault as program_fault
 use Rattle.program_frame.specs.declared.lists.program_fault.Fault.TheVariants.{List as OfList, Words}
 use Rattle.names_commands.specs.declared.fault.Refusal.{Refusal}
 use Rattle.names_commands.specs.declared.fault.CommandFault.{CommandFault}
 use Rattle.names_commands.specs.declared.fault.CommandFault.TheVariants.{Unreadable, Misuse, Pattern, NoFile, Unread}
-use Rattle.names_commands.specs.declared.task.Task.{Task}
-use Rattle.names_commands.specs.declared.task.Task.TheVariants as task
 use Rattle.names_commands.specs.declared.matching.Form.{Form}
-use Rattle.names_commands.specs.declared.matching.Form.TheVariants as form
-use Rattle.names_commands.specs.declared.pick.Pick.{Pick}
 use Rattle.names_commands.specs.declared.plan.Plan.{Plan}
+use Rattle.names_commands.specs.declared.plan.Work.{Work}
+use Rattle.names_commands.specs.declared.plan.Work.TheVariants.{Each, Picked, Why}
 use Rattle.names_commands.specs.Caret.{IsPointed}
 use Rattle.names_commands.specs.Ignoring.{AreRead, IsFileIn, IsFirstUnread}
 use Rattle.names_commands.specs.Matching.{picking, AreWrittenOut, IsChosen, IsFirstFault, IsPicked}
@@ -47,6 +44,7 @@ use Rattle.names_commands.specs.declared.option.NamesOption.TheVariants.{Ignore}
 use Rattle.names_commands.specs.declared.command.Request.{Request}
 use Rattle.names_commands.specs.Command.{AsksFor, IsRejected, Line, options_of}
 use Rattle.names_commands.specs.Task.{rules_of}
+use Rattle.names_commands.specs.Work.{work_of}
 
 -- what keeps the program from its output
 abbrev pub Fault : Type 0
@@ -68,10 +66,6 @@ EndsAtOnce fault input left old new answer = (answer ≡ Err fault) × ((left �
 abbrev pub UnlessOutOfMemory : Doing → Doing
 UnlessOutOfMemory Done input left old new answer = EndsAtOnce (OfList (Run Memory)) input left old new answer ⊎ Done input left old new answer
 
--- the result of a run over all items
-abbrev pub RunsTask : Os → Task → ℕ → Doing
-RunsTask os what max input left old new answer = Runs (rules_of (strings os) (record { task = what; max = max })) OfList input left old new answer
-
 -- a text of the program's own is written, and nothing is read
 abbrev pub WritesSomeText : Doing
 WritesSomeText input left old new answer = (left ≡ input) × ((text : List ℕ) × WritesText text (OfList (Run Write)) old new answer)
@@ -87,6 +81,10 @@ IsFaultOfOne known number value fault = (fault ≡ OfList (Run Memory)) ⊎ (((f
 -- the fault of the pattern with this number, where the first `added` bytes of its text come before what was typed: the fault of what was typed, and the lines that show where it is
 abbrev pub IsOfPattern : ℕ → ℕ → List ℕ → PatternFault → Fault → Type 0
 IsOfPattern added number text fault why = (lines : _) × IsPointed (drop added text) (typed_fault added fault).index (inline_text lines) × (why ≡ Words (Pattern number (typed_fault added fault) lines))
+
+-- why patterns are rejected, the first `plain` of which come before those of `--name`: the fault of the first that has one
+abbrev pub IsOfPatterns : {E : Type 0} → Ghosts E → GlobOptions → ℕ → List (List ℕ) → Fault → Type 0
+IsOfPatterns p o plain texts why = (index : ℕ) × (fault : PatternFault) × (first : IsFirstFault p o texts index fault) × IsOfPattern (added_before plain index) (index + 1) first.text fault why
 
 -- where this is known of files, and memory is taken of an allocator of this type:
 module _ (known : KnownFiles) (A : Type 0) where
@@ -144,22 +142,20 @@ module _ (known : KnownFiles) (A : Type 0) where
     abbrev pub RunsWhy : Os → ℕ → Doing
     RunsWhy os max input left old new answer = UnlessOutOfMemory (RunsWhyOn (strings os) max) input left old new answer
 
-    -- a run over all items, or over the names that are picked, in this form
-    abbrev pub RunsNames : Os → Task → Form → Option Pick → ℕ → Doing
-    RunsNames os what shape None max input left old new answer = RunsTask os what max input left old new answer
-    RunsNames os what shape (Some pick) max input left old new answer = RunsPlan (record { os = os; form = shape; pick = pick; max = max }) input left old new answer
+    -- what is done with a list of names, on a platform that states this of its strings, where a name may have `max` bytes
+    abbrev pub RunsWork : {E : Type 0} → Ghosts E → ℕ → Work → Doing
+    RunsWork p max (Each what) input left old new answer = Runs (rules_of p (record { task = what; max = max })) OfList input left old new answer
+    RunsWork p max (Picked os shape pick) input left old new answer = RunsPick p (record { os = os; form = shape; pick = pick; max = max }) input left old new answer
+    RunsWork p max Why input left old new answer = UnlessOutOfMemory (RunsWhyOn p max) input left old new answer
+
+    -- a work on the names of a platform, or none
+    abbrev pub DoesWork : ℕ → Option (Os × Work) → Doing
+    DoesWork max None input left old new answer = WritesSomeText input left old new answer
+    DoesWork max (Some of) input left old new answer = RunsWork (strings of.0) max of.1 input left old new answer
 
     -- what the command does where a name may have `max` bytes
     abbrev pub Does : Command → ℕ → Doing
-    Does (ListNames os pick) max input left old new answer = RunsNames os task.ListAll form.Line pick max input left old new answer
-    Does (ListWords shape pick) max input left old new answer = RunsNames Unix (task.ListWords shape) (form.Word shape) pick max input left old new answer
-    Does (Filter os pick) max input left old new answer = RunsPlan (record { os = os; form = form.Name; pick = pick; max = max }) input left old new answer
-    Does (Why os) max input left old new answer = RunsWhy os max input left old new answer
-    Does (Join os last) max input left old new answer = RunsTask os (task.Join last) max input left old new answer
-    Does (JoinWords last) max input left old new answer = RunsTask Unix (task.JoinWords last) max input left old new answer
-    Does (Check os) max input left old new answer = RunsTask os task.Check max input left old new answer
-    Does Help max input left old new answer = WritesSomeText input left old new answer
-    Does Version max input left old new answer = WritesSomeText input left old new answer
+    Does command max input left old new answer = DoesWork max (work_of command) input left old new answer
 
   -- the options and operands make up no request, and the run ends at once with what is wrong
   abbrev pub RejectsLine : Line → Doing

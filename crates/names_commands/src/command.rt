@@ -5,7 +5,7 @@ ghost use Rattle.names_commands.specs.Command.{AsksFor, Fits, HasOperands, IsMis
 ghost use Rattle.names_commands.specs.declared.command.Name.{Name as DeclaredName};
 ghost use Rattle.names_commands.specs.declared.command.Name.TheVariants.{Filter as FilterName, Join as JoinName, List as ListName, Why as WhyName};
 
-use crate::fitting::{fits, ignores, no_operand};
+use crate::fitting::{fits, ignores, no_operand, words};
 use crate::given::{LONGEST_NAME, form_of, last_line, limit, maybe_pick};
 use crate::option::NamesOption;
 use crate::pick::Pick;
@@ -235,10 +235,9 @@ impl<'a> Command<'a> {
         let Some((form, option)) = form_of(given) else {
             return Ok(Command::ListNames(os, pick));
         };
-        match os {
-            Os::Unix => Ok(Command::ListWords(form, pick)),
-            Os::Windows => Err(Misuse::Misplaced(option.word(), "windows")),
-            Os::Wasm => Err(Misuse::Misplaced(option.word(), "wasm")),
+        match words(given, os, option) {
+            Ok(()) => Ok(Command::ListWords(form, pick)),
+            Err(misuse) => Err(misuse),
         }
     }
 
@@ -293,10 +292,9 @@ impl<'a> Command<'a> {
         let Some((_, option)) = form_of(given) else {
             return Ok(Command::Join(os, last));
         };
-        match os {
-            Os::Unix => Ok(Command::JoinWords(last)),
-            Os::Windows => Err(Misuse::Misplaced(option.word(), "windows")),
-            Os::Wasm => Err(Misuse::Misplaced(option.word(), "wasm")),
+        match words(given, os, option) {
+            Ok(()) => Ok(Command::JoinWords(last)),
+            Err(misuse) => Err(misuse),
         }
     }
 }

@@ -4,7 +4,8 @@ ghost use Rattle.os_args.specs.Reading.{UnexpectedArgument};
 ghost use Rattle.os_args.specs.Views.{fault_of};
 ghost use Rattle.os_args.specs.Word.{Value};
 ghost use Rattle.program_frame.specs.Arguments.{HasOption, IsOf, operands_of};
-ghost use Rattle.names_commands.specs.Command.{Fits, FitsOne, HasOperands, IsMisuse, TakesOption};
+ghost use Rattle.program_frame.specs.declared.os.Os.TheVariants.{Unix};
+ghost use Rattle.names_commands.specs.Command.{Fits, FitsOne, HasOperands, IsMisuse, IsWordOption, TakesOption};
 ghost use Rattle.names_commands.specs.Pick.{TakesIgnore};
 ghost use Rattle.names_commands.specs.declared.option.NamesOption.TheVariants.{Glob, Ignore};
 
@@ -18,7 +19,8 @@ use program_frame::os::Os;
 
 /// Checks that a command takes each option that was given.
 pub(crate) fn fits<'a>(given: Line<'_, 'a>, command: Name) -> Result<(), Misuse<'a>>
-    requires operands { (os : Os) × ((more : List (List ℕ)) × HasOperands given.now command os more) }
+    requires operands { (os : Os)
+        × ((more : List (List ℕ)) × HasOperands given.now command os more) }
     ensures fits { OnOk result (Fits command given.entry.now) }
     ensures misuse { IfErr result (λ misuse. IsMisuse given.entry.now misuse) }
 {
@@ -77,6 +79,21 @@ pub(crate) fn ignores<'a>(given: Line<'_, 'a>, os: Os) -> Result<(), Misuse<'a>>
                 Ok(())
             }
         }
+    }
+}
+
+/// Checks that an option for words of a shell is given only for the platform that has them.
+pub(crate) fn words<'a>(given: Line<'_, 'a>, os: Os, option: NamesOption) -> Result<(), Misuse<'a>>
+    requires operands { (command : Name)
+        × ((more : List (List ℕ)) × HasOperands given.now command os more) }
+    requires option { IsWordOption given.now option }
+    ensures unix { OnOk result (os ≡ Unix) }
+    ensures misuse { IfErr result (λ misuse. IsMisuse given.entry.now misuse) }
+{
+    match os {
+        Os::Unix => Ok(()),
+        Os::Windows => Err(Misuse::Misplaced(option.word(), "windows")),
+        Os::Wasm => Err(Misuse::Misplaced(option.word(), "wasm")),
     }
 }
 

@@ -1,6 +1,7 @@
 //! Names that ignore files leave out.
 ghost use Rattle.std.specs.Prelude.{◌≡◌, ◌↔◌, ◌⊎◌, ◌+◌, ◌<◌, ◌∷◌, [], ℕ, List, map, length, drop, IsTrue, IfErr, IfOk, IfSome, MatchOption, MatchResult, OnOk};
 ghost use Rattle.os_ignore.specs.Ignores.{IsAdded, files_of};
+ghost use Rattle.os_ignore.specs.Walks.{files_of_walk};
 ghost use Rattle.names_commands.specs.Ignoring.{AreRead, IsDirectory, IsFileIn, IsIgnored, IsPath, text_of, without_dot};
 ghost use Rattle.names_commands.specs.Why.{IsDecided, numbers_of};
 ghost use Rattle.program_frame.specs.declared.fault.Failure.TheVariants.{Memory};
@@ -10,12 +11,12 @@ ghost use Rattle.names_commands.specs.Program.{IsFaultOf, IsFaultOfOne};
 ghost use Rattle.names_commands.specs.declared.fault.CommandFault.TheVariants.{NoFile, Unread};
 
 use crate::fault::{CommandFault, Fault};
-use os_ignore::{Ignore, Verdict};
+use os_ignore::{Ignore, Verdict, Walk};
 use program_frame::fault::Failure;
 use program_frame::files::{FileFault, Files};
 use program_frame::lists::fault::ListFault;
 use program_frame::lists::items::split_at_end;
-use std::alloc::Allocator;
+use std::alloc::{AllocError, Allocator};
 
 /// The name without one `./` before it.
 fn without_dot(name: &[u8]) -> &[u8]
@@ -37,12 +38,20 @@ fn path_of(name: &[u8]) -> (&[u8], bool)
     }
 }
 
-/// Whether the lines of ignore files ignore a name.
-pub fn is_ignored<A: Allocator + Copy>(ignore: &Ignore<A>, name: &[u8]) -> bool
-    ensures { IsTrue result ↔ IsIgnored (files_of ignore.now) name.now }
+/// Whether no line of the ignore files of a walk ignores a name.
+pub fn is_shown<A: Allocator + Copy>(
+    walk: &mut Walk<'_, A>,
+    name: &[u8],
+) -> Result<bool, AllocError>
+    ensures shown { IfOk result (λ shown. IsTrue shown
+        ↔ (¬ (IsIgnored (files_of_walk walk.old) name.now))) }
+    ensures files { files_of_walk walk.new ≡ files_of_walk walk.old }
 {
     let (path, is_dir) = path_of(without_dot(name));
-    ignore.matched(path, is_dir).is_ignored()
+    match walk.matched(path, is_dir) {
+        Ok(verdict) => Ok(!verdict.is_ignored()),
+        Err(fault) => Err(fault),
+    }
 }
 
 /// The file and the line that decide a name, by their numbers.

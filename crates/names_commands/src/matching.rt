@@ -1,21 +1,22 @@
 //! Names that are picked.
-ghost use Rattle.std.specs.Prelude.{◌≡◌, ◌↔◌, ◌++◌, ℕ, List, cond, false, not, IfErr, IsTrue, OnErr, OnOk};
+ghost use Rattle.std.specs.Prelude.{◌≡◌, ◌↔◌, ◌++◌, ℕ, List, cond, false, not, IfErr, IfOk, IsTrue, OnErr, OnOk};
 ghost use Rattle.program_frame.specs.Rules.{IsItemFault};
 ghost use Rattle.os_ignore.specs.Ignores.{files_of};
+ghost use Rattle.os_ignore.specs.Walks.{files_of_walk};
 ghost use Rattle.os_str_bytes.specs.Strings.{bytes};
 ghost use Rattle.names_commands.specs.Matching.{IsChosenBy, IsPickedBy, IsTextOfMatched, matching};
 
 use crate::fault::Refusal;
-use crate::ignoring::is_ignored;
+use crate::ignoring::is_shown;
 use crate::item::{named, push_name, write_line};
 use crate::task::WordForm;
 use crate::words::write_word;
 use glob_patterns::GlobSet;
-use os_ignore::Ignore;
+use os_ignore::{Ignore, Walk};
 use os_str_bytes::{OsStr, Platform};
 use program_frame::lists::fault::ItemFault;
 use program_frame::lists::task::ListTask;
-use std::alloc::{Allocator, Global};
+use std::alloc::{AllocError, Allocator, Global};
 
 /// What is written for a name.
 #[derive(Clone, Copy, PartialEq, Eq)]
@@ -41,31 +42,51 @@ pub struct Picker<'g, E: Platform, A: Allocator = Global> {
 }
 
 impl<'g, E: Platform, A: Allocator + Copy> Picker<'g, E, A> {
-    /// Whether the name is picked.
+    /// Whether the name is picked. The walk must be one of the picker's files.
+    ///
+    /// # Errors
+    ///
+    /// [`AllocError`] if the allocation for the name or for the directories above it fails.
     ///
     /// ```
     /// use names_commands::matching::Picker;
-    /// use os_ignore::Ignore;
+    /// use os_ignore::{Ignore, Walk};
     /// use os_str_bytes::{OsStr, Unix};
     ///
     /// let ignore = Ignore::new(alloc, b"*.o\nout/\n")?;
     /// let picker = Picker { globs: None, ignore: &ignore, inverted: false };
-    /// assert!(rt; picker.picks(OsStr::<Unix>::new("./a.c")) && !picker.picks(OsStr::new("./a.o")));
-    /// assert!(rt; picker.picks(OsStr::new("out")) && !picker.picks(OsStr::new("out/")));
+    /// let mut walk = Walk::new(alloc, &ignore);
+    /// assert!(rt; picker.picks(&mut walk, OsStr::<Unix>::new("./a.c"))?);
+    /// assert!(rt; !picker.picks(&mut walk, OsStr::new("./a.o"))?);
+    /// assert!(rt; picker.picks(&mut walk, OsStr::new("out"))?);
+    /// assert!(rt; !picker.picks(&mut walk, OsStr::new("out/"))?);
     /// ```
-    pub fn picks(&self, name: OsStr<'_, E>) -> bool
-        ensures { IsTrue result ↔ IsPickedBy ⟦<E as Platform>⟧ self.now.inverted self.now.globs
-            (files_of self.now.ignore.now) (bytes name.entry) }
+    pub fn picks(&self, walk: &mut Walk<'_, A>, name: OsStr<'_, E>) -> Result<bool, AllocError>
+        requires { files_of_walk walk.old ≡ files_of self.now.ignore.now }
+        ensures picks { IfOk result (λ picks. IsTrue picks
+            ↔ IsPickedBy ⟦<E as Platform>⟧ self.now.inverted self.now.globs
+            (files_of self.now.ignore.now) (bytes name.entry)) }
+        ensures files { files_of_walk walk.new ≡ files_of_walk walk.old }
     {
-        turned(self.inverted, self.matches(name))
+        match self.matches(walk, name) {
+            Ok(matches) => Ok(turned(self.inverted, matches)),
+            Err(fault) => Err(fault),
+        }
     }
 
     /// Whether the name is picked where the others aren't.
-    fn matches(&self, name: OsStr<'_, E>) -> bool
-        ensures { IsTrue result ↔ IsPickedBy ⟦<E as Platform>⟧ false self.now.globs
-            (files_of self.now.ignore.now) (bytes name.entry) }
+    fn matches(&self, walk: &mut Walk<'_, A>, name: OsStr<'_, E>) -> Result<bool, AllocError>
+        requires { files_of_walk walk.old ≡ files_of self.now.ignore.now }
+        ensures matches { IfOk result (λ matches. IsTrue matches
+            ↔ IsPickedBy ⟦<E as Platform>⟧ false self.now.globs
+            (files_of self.now.ignore.now) (bytes name.entry)) }
+        ensures files { files_of_walk walk.new ≡ files_of_walk walk.old }
     {
-        is_chosen(self.globs, name) && !is_ignored(self.ignore, name.as_encoded_bytes())
+        if is_chosen(self.globs, name) {
+            is_shown(walk, name.as_encoded_bytes())
+        } else {
+            Ok(false)
+        }
     }
 }
 
@@ -89,13 +110,15 @@ fn is_chosen<E: Platform, A: Allocator>(globs: Option<&GlobSet<E, A>>, name: OsS
 /// Each name that is picked is written, and nothing for the others.
 #[derive(Clone, Copy)]
 pub struct Matching<'g, E: Platform, A: Allocator = Global> {
+    alloc: A,
     picker: Picker<'g, E, A>,
     form: Form,
     max: usize,
 }
 
 impl<'g, E: Platform, A: Allocator> Matching<'g, E, A> {
-    /// The names that are picked, in this form, where a name may have `max` bytes.
+    /// The names that are picked, in this form, where a name may have `max` bytes. The memory for the
+    /// directories above a name is of this allocator.
     ///
     /// ```
     /// use glob_patterns::{GlobOptions, GlobSet, GlobSetError, Separators};
@@ -108,27 +131,37 @@ impl<'g, E: Platform, A: Allocator> Matching<'g, E, A> {
     /// let globs = GlobSet::new(alloc, GlobOptions::new(Separators::Slash), &patterns)?;
     /// let ignore = Ignore::new(alloc, b"b.*\n")?;
     /// let picker = Picker { globs: Some(&globs), ignore: &ignore, inverted: false };
-    /// let names = Matching::new(picker, Form::Line, 255);
-    /// let mut output = Vec::new(alloc);
+    /// let names = Matching::new(alloc, picker, Form::Line, 255);
+    /// let (mut memory, mut output) = (names.memory(), Vec::new(alloc));
     /// for name in ["a.c", "a.o", "a.h", "b.h"] {
-    ///     assert!(rt; names.write_item(alloc, name.as_bytes(), &mut output).is_ok());
+    ///     let answer = names.write_item(alloc, &mut memory, name.as_bytes(), &mut output);
+    ///     assert!(rt; answer.is_ok());
     /// }
     /// assert_eq!(rt; output.as_slice(), b"a.c\na.h\n".as_slice());
     /// ```
-    pub fn new(picker: Picker<'g, E, A>, form: Form, max: usize) -> Matching<'g, E, A>
+    pub fn new(alloc: A, picker: Picker<'g, E, A>, form: Form, max: usize) -> Matching<'g, E, A>
         ensures picker { result.picker ≡ picker.entry }
         ensures form { result.form ≡ form }
         ensures max { result.max ≡ max }
     {
-        Matching { picker, form, max }
+        Matching {
+            alloc,
+            picker,
+            form,
+            max,
+        }
     }
 }
 
 impl<'g, E: Platform, B: Allocator + Copy> ListTask for Matching<'g, E, B> {
     type Refusal = Refusal;
 
+    type Memory = Walk<'g, B>;
+
     ghost rules = { λ m. matching ⟦<E as Platform>⟧ m.form m.max m.picker.inverted
         m.picker.globs (files_of m.picker.ignore.now) };
+
+    ghost remembers = { λ m walk. files_of_walk walk ≡ files_of m.picker.ignore.now };
 
     fn end(&self) -> u8 {
         0
@@ -146,13 +179,18 @@ impl<'g, E: Platform, B: Allocator + Copy> ListTask for Matching<'g, E, B> {
         self.max
     }
 
+    fn memory(&self) -> Walk<'g, B> {
+        Walk::new(self.alloc, self.picker.ignore)
+    }
+
     fn write_item<A: Allocator + Copy>(
         &self,
         alloc: A,
+        memory: &mut Walk<'g, B>,
         item: &[u8],
         output: &mut Vec<u8, A>,
     ) -> Result<(), ItemFault<Refusal>> {
-        write_matching::<E, A, B>(alloc, &self.picker, self.form, item, output)
+        write_matching::<E, A, B>(alloc, &self.picker, memory, self.form, item, output)
     }
 }
 
@@ -160,10 +198,12 @@ impl<'g, E: Platform, B: Allocator + Copy> ListTask for Matching<'g, E, B> {
 fn write_matching<E: Platform, A: Allocator, B: Allocator + Copy>(
     alloc: A,
     picker: &Picker<'_, E, B>,
+    walk: &mut Walk<'_, B>,
     form: Form,
     item: &[u8],
     output: &mut Vec<u8, A>,
 ) -> Result<(), ItemFault<Refusal>>
+    requires { files_of_walk walk.old ≡ files_of picker.now.ignore.now }
     ensures ok { OnOk result ((text : List ℕ)
         × (IsTextOfMatched ⟦<E as Platform>⟧ form picker.now.inverted picker.now.globs
         (files_of picker.now.ignore.now)
@@ -173,18 +213,22 @@ fn write_matching<E: Platform, A: Allocator, B: Allocator + Copy>(
         (files_of picker.now.ignore.now)) item.now
         fault) }
     ensures unchanged { OnErr result (output.new.items ≡ output.old.items) }
+    ensures files { files_of_walk walk.new ≡ files_of_walk walk.old }
 {
     match named::<E>(item) {
-        Ok(name) => {
-            if !picker.picks(name) {
-                return Ok(());
+        Ok(name) => match picker.picks(walk, name) {
+            Ok(picks) => {
+                if !picks {
+                    return Ok(());
+                }
+                match form {
+                    Form::Line => write_line::<E, A>(alloc, name, output),
+                    Form::Name => push_name(item, output),
+                    Form::Word(form) => write_word(alloc, form, item, output),
+                }
             }
-            match form {
-                Form::Line => write_line::<E, A>(alloc, name, output),
-                Form::Name => push_name(item, output),
-                Form::Word(form) => write_word(alloc, form, item, output),
-            }
-        }
+            Err(_) => Err(ItemFault::Memory),
+        },
         Err(fault) => Err(fault),
     }
 }

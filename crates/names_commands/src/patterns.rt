@@ -1,14 +1,14 @@
 //! Runs over names that are picked by patterns and ignore files.
-ghost use Rattle.std.specs.Prelude.{◌≡◌, ◌≢◌, ◌⊎◌, [], map, string_bytes, false, MatchOption};
-ghost use Rattle.os_str_bytes.specs.Strings.{bytes};
+ghost use Rattle.std.specs.Prelude.{◌≡◌, ◌≢◌, ◌⊎◌, [], map, string_bytes, false, MatchOption, MatchResult};
 ghost use Rattle.program_frame.specs.Marked.{has_failed};
 ghost use Rattle.program_frame.specs.ProgramFault.{BlamesEnds};
 ghost use Rattle.program_frame.specs.declared.fault.Failure.TheVariants.{Memory};
 ghost use Rattle.program_frame.specs.declared.lists.fault.ListFault.TheVariants.{Run};
 ghost use Rattle.program_frame.specs.declared.lists.program_fault.Fault.TheVariants.{List as OfList};
+ghost use Rattle.names_commands.specs.Command.{options_of};
 ghost use Rattle.names_commands.specs.Ignoring.{text_of};
-ghost use Rattle.names_commands.specs.Matching.{IsChosenBy};
-ghost use Rattle.names_commands.specs.Program.{Did, IsOfPattern, RunsBut, RunsPatterns, RunsPick, RunsPlan, UnlessOutOfMemory};
+ghost use Rattle.names_commands.specs.Matching.{IsSetOf};
+ghost use Rattle.names_commands.specs.Program.{Did, IsOfPattern, IsOfPatterns, RunsPatterns, RunsPick, UnlessOutOfMemory};
 
 use crate::caret::pointed;
 use crate::command::Line;
@@ -17,10 +17,10 @@ use crate::given::options_of;
 use crate::ignoring::read_ignore;
 use crate::matching::{Matching, Picker};
 use crate::option::NamesOption;
-use crate::pick::{added_before, strings_of, typed, typed_fault};
+use crate::pick::{Patterns, added_before, strings_of, typed, typed_fault};
 use crate::plan::Plan;
 use glob_patterns::{GlobSet, GlobSetError, PatternFault};
-use os_str_bytes::{OsStr, Platform, Unix, Wasm, Windows};
+use os_str_bytes::Platform;
 use program_frame::arguments::values;
 use program_frame::fault::Failure;
 use program_frame::files::Files;
@@ -31,32 +31,8 @@ use program_frame::os::Os;
 use std::alloc::Allocator;
 use std::io::{Read, Write};
 
-/// Returns the result for names that are picked on a platform.
-pub(crate) fn run_plan<'a, F: Files, A: Allocator + Copy, R: Read, W: Write>(
-    alloc: A,
-    files: &F,
-    given: Line<'_, 'a>,
-    plan: Plan<'a>,
-    reader: &mut Marked<R>,
-    writer: &mut Marked<W>,
-) -> Result<(), Fault>
-    requires reader_unmarked { has_failed reader.old ≡ false }
-    requires writer_unmarked { has_failed writer.old ≡ false }
-    ensures run { Did R.remaining W.contents (RunsPlan (F.known files.now) A given.now plan.entry)
-        reader.old reader.new writer.old writer.new result }
-    ensures ends { BlamesEnds result (has_failed reader.new) (has_failed writer.new) }
-{
-    match plan.os {
-        Os::Unix => run_plan_on::<Unix, F, A, R, W>(alloc, files, given, plan, reader, writer),
-        Os::Windows => run_plan_on::<Windows, F, A, R, W>(
-            alloc, files, given, plan, reader, writer,
-        ),
-        Os::Wasm => run_plan_on::<Wasm, F, A, R, W>(alloc, files, given, plan, reader, writer),
-    }
-}
-
-/// Returns the result for names that are picked, where the platform is a type.
-fn run_plan_on<'a, E: Platform + 'a, F: Files, A: Allocator + Copy, R: Read, W: Write>(
+/// Returns the result for names of a platform that are picked.
+pub(crate) fn run_picked<'a, E: Platform + 'a, F: Files, A: Allocator + Copy, R: Read, W: Write>(
     alloc: A,
     files: &F,
     given: Line<'_, 'a>,
@@ -76,58 +52,19 @@ fn run_plan_on<'a, E: Platform + 'a, F: Files, A: Allocator + Copy, R: Read, W: 
     };
     match values(alloc, given, NamesOption::Ignore) {
         Ok(names) => {
-            let plain = patterns.plain;
-            run_texts::<E, F, A, R, W>(
-                alloc,
-                files,
-                plan,
-                plain,
-                &patterns.texts,
-                &names,
-                reader,
-                writer,
-            )
+            run_patterns::<E, F, A, R, W>(alloc, files, plan, &patterns, &names, reader, writer)
         }
         Err(_) => Err(Fault::List(ListFault::Run(Failure::Memory))),
     }
 }
 
-/// Returns the result for the texts of patterns, and for the names of ignore files. The first `plain`
-/// patterns come before those of `--name`.
-fn run_texts<E: Platform, F: Files, A: Allocator + Copy, R: Read, W: Write>(
-    alloc: A,
-    files: &F,
-    plan: Plan<'_>,
-    plain: usize,
-    patterns: &[String<A>],
-    names: &[&str],
-    reader: &mut Marked<R>,
-    writer: &mut Marked<W>,
-) -> Result<(), Fault>
-    requires reader_unmarked { has_failed reader.old ≡ false }
-    requires writer_unmarked { has_failed writer.old ≡ false }
-    ensures run { Did R.remaining W.contents (UnlessOutOfMemory
-        (RunsPatterns (F.known files.now) A ⟦<E as Platform>⟧ plan.entry plain
-        (map string_bytes patterns.now) (map text_of names.now)))
-        reader.old reader.new writer.old writer.new result }
-    ensures ends { BlamesEnds result (has_failed reader.new) (has_failed writer.new) }
-{
-    match strings_of::<E, A>(alloc, patterns) {
-        Ok(globs) => {
-            run_patterns::<E, F, A, R, W>(alloc, files, plan, plain, &globs, names, reader, writer)
-        }
-        Err(_) => Err(Fault::List(ListFault::Run(Failure::Memory))),
-    }
-}
-
-/// Returns the result for patterns, which are compiled once, and for the names of ignore files. The
-/// first `plain` patterns come before those of `--name`.
+/// Returns the result for patterns, which are compiled once, and for the names of ignore files,
+/// which are read once.
 fn run_patterns<E: Platform, F: Files, A: Allocator + Copy, R: Read, W: Write>(
     alloc: A,
     files: &F,
     plan: Plan<'_>,
-    plain: usize,
-    globs: &[OsStr<'_, E>],
+    patterns: &Patterns<A>,
     names: &[&str],
     reader: &mut Marked<R>,
     writer: &mut Marked<W>,
@@ -135,19 +72,52 @@ fn run_patterns<E: Platform, F: Files, A: Allocator + Copy, R: Read, W: Write>(
     requires reader_unmarked { has_failed reader.old ≡ false }
     requires writer_unmarked { has_failed writer.old ≡ false }
     ensures run { Did R.remaining W.contents (UnlessOutOfMemory
-        (RunsPatterns (F.known files.now) A ⟦<E as Platform>⟧ plan.entry plain
-        (map bytes globs.now) (map text_of names.now)))
+        (RunsPatterns (F.known files.now) A ⟦<E as Platform>⟧ plan.entry patterns.now.plain
+        (map string_bytes patterns.now.texts.items) (map text_of names.now)))
         reader.old reader.new writer.old writer.new result }
     ensures ends { BlamesEnds result (has_failed reader.new) (has_failed writer.new) }
 {
-    match GlobSet::<E, A>::new(alloc, options_of(plan.os), globs) {
-        Ok(set) => {
-            let globs = set_of(globs, &set);
-            run_set::<E, F, A, R, W>(alloc, files, plan, globs, names, reader, writer)
-        }
+    let set = match compiled::<E, A>(alloc, plan.os, patterns) {
+        Ok(set) => set,
+        Err(fault) => return Err(fault),
+    };
+    let ignore = match read_ignore(alloc, files, names) {
+        Ok(ignore) => ignore,
+        Err(fault) => return Err(fault),
+    };
+    let globs = set_of(&patterns.texts, &set);
+    let picker = Picker {
+        globs,
+        ignore: &ignore,
+        inverted: plan.pick.inverted,
+    };
+    let matching = Matching::new(alloc, picker, plan.form, plan.max);
+    run_list(alloc, &matching, reader, writer)
+}
+
+/// The set of patterns.
+fn compiled<E: Platform, A: Allocator + Copy>(
+    alloc: A,
+    os: Os,
+    patterns: &Patterns<A>,
+) -> Result<GlobSet<E, A>, Fault>
+    ensures { MatchResult result
+        (λ set. IsSetOf ⟦<E as Platform>⟧ A (options_of os)
+        (map string_bytes patterns.now.texts.items) set)
+        (λ fault. (fault ≡ OfList (Run Memory))
+        ⊎ IsOfPatterns ⟦<E as Platform>⟧ (options_of os) patterns.now.plain
+        (map string_bytes patterns.now.texts.items) fault) }
+{
+    let Ok(strings) = strings_of::<E, A>(alloc, &patterns.texts) else {
+        return Err(Fault::List(ListFault::Run(Failure::Memory)));
+    };
+    let globs = strings.as_slice();
+    match GlobSet::<E, A>::new(alloc, options_of(os), globs) {
+        Ok(set) => Ok(set),
         Err(GlobSetError::Pattern(index, fault)) => {
             let pattern = globs[index].as_encoded_bytes();
-            Err(rejection(alloc, added_before(plain, index), index + 1, pattern, fault))
+            let added = added_before(patterns.plain, index);
+            Err(rejection(alloc, added, index + 1, pattern, fault))
         }
         Err(GlobSetError::Memory) => Err(Fault::List(ListFault::Run(Failure::Memory))),
     }
@@ -173,44 +143,11 @@ fn rejection<A: Allocator + Copy>(
 
 /// The set that was compiled of patterns, if there are any.
 fn set_of<'g, E: Platform, A: Allocator>(
-    globs: &[OsStr<'_, E>],
+    patterns: &[String<A>],
     set: &'g GlobSet<E, A>,
 ) -> Option<&'g GlobSet<E, A>>
-    ensures { MatchOption result (globs.now ≡ [])
-        (λ chosen. (globs.now ≢ []) × (chosen.now ≡ set.entry.now)) }
+    ensures { MatchOption result (patterns.now ≡ [])
+        (λ chosen. (patterns.now ≢ []) × (chosen.now ≡ set.entry.now)) }
 {
-    if globs.is_empty() { None } else { Some(set) }
-}
-
-/// Returns the result for a compiled set, if there is one, and for ignore files, which are read once.
-fn run_set<E: Platform, F: Files, A: Allocator + Copy, R: Read, W: Write>(
-    alloc: A,
-    files: &F,
-    plan: Plan<'_>,
-    globs: Option<&GlobSet<E, A>>,
-    names: &[&str],
-    reader: &mut Marked<R>,
-    writer: &mut Marked<W>,
-) -> Result<(), Fault>
-    requires reader_unmarked { has_failed reader.old ≡ false }
-    requires writer_unmarked { has_failed writer.old ≡ false }
-    ensures run { Did R.remaining W.contents (UnlessOutOfMemory
-        (RunsBut (F.known files.now) A ⟦<E as Platform>⟧ plan.entry.form plan.entry.max
-        plan.entry.pick.inverted (IsChosenBy ⟦<E as Platform>⟧ globs.entry)
-        (map text_of names.now)))
-        reader.old reader.new writer.old writer.new result }
-    ensures ends { BlamesEnds result (has_failed reader.new) (has_failed writer.new) }
-{
-    match read_ignore(alloc, files, names) {
-        Ok(ignore) => {
-            let picker = Picker {
-                globs,
-                ignore: &ignore,
-                inverted: plan.pick.inverted,
-            };
-            let names = Matching::new(picker, plan.form, plan.max);
-            run_list(alloc, &names, reader, writer)
-        }
-        Err(fault) => Err(fault),
-    }
+    if patterns.is_empty() { None } else { Some(set) }
 }

@@ -2,18 +2,17 @@
 ghost use Rattle.std.specs.Prelude.{◌≡◌, false};
 ghost use Rattle.program_frame.specs.Marked.{has_failed};
 ghost use Rattle.program_frame.specs.ProgramFault.{BlamesEnds};
-ghost use Rattle.names_commands.specs.Program.{Did, Does, RunsLine, RunsTask};
+ghost use Rattle.names_commands.specs.Program.{Did, Does, RunsLine, RunsWork};
 
 use crate::command::{Command, Line, Request};
 use crate::fault::{CommandFault, Fault, Refusal};
 use crate::help::{HELP, VERSION};
-use crate::matching::Form;
 use crate::option::NamesOption;
-use crate::patterns::run_plan;
-use crate::plan::Plan;
+use crate::patterns::run_picked;
+use crate::plan::{Plan, Work};
 use crate::reasons::run_why;
-use crate::task::{OnPlatform, Settings, Task};
-use os_str_bytes::{Unix, Wasm, Windows};
+use crate::task::{OnPlatform, Settings};
+use os_str_bytes::{Platform, Unix, Wasm, Windows};
 use program_frame::arguments::{ReadFault, read_arguments};
 use program_frame::fault::Failure;
 use program_frame::files::Files;
@@ -132,93 +131,64 @@ fn run_command<'a, F: Files, A: Allocator + Copy, R: Read, W: Write>(
 ) -> Result<(), Fault>
     requires reader_unmarked { has_failed reader.old ≡ false }
     requires writer_unmarked { has_failed writer.old ≡ false }
-    ensures run { Did R.remaining W.contents (Does (F.known files.now) A given.now command.entry max)
+    ensures run { Did R.remaining W.contents
+        (Does (F.known files.now) A given.now command.entry max)
         reader.old reader.new writer.old writer.new result }
     ensures ends { BlamesEnds result (has_failed reader.new) (has_failed writer.new) }
 {
-    match command {
-        Command::ListNames(os, None) => run_on(alloc, os, Task::ListAll, max, reader, writer),
-        Command::ListNames(os, Some(pick)) => {
-            let form = Form::Line;
-            run_plan(
-                alloc,
-                files,
-                given,
-                Plan {
-                    os,
-                    form,
-                    pick,
-                    max,
-                },
-                reader,
-                writer,
-            )
+    match Work::of(command) {
+        None => {
+            let text = match command {
+                Command::Help => HELP,
+                _ => VERSION,
+            };
+            write_help(text, writer)
         }
-        Command::ListWords(form, None) => {
-            run_on(alloc, Os::Unix, Task::ListWords(form), max, reader, writer)
-        }
-        Command::ListWords(form, Some(pick)) => {
-            let (os, form) = (Os::Unix, Form::Word(form));
-            run_plan(
-                alloc,
-                files,
-                given,
-                Plan {
-                    os,
-                    form,
-                    pick,
-                    max,
-                },
-                reader,
-                writer,
-            )
-        }
-        Command::Filter(os, pick) => {
-            let form = Form::Name;
-            run_plan(
-                alloc,
-                files,
-                given,
-                Plan {
-                    os,
-                    form,
-                    pick,
-                    max,
-                },
-                reader,
-                writer,
-            )
-        }
-        Command::Why(os) => run_why(alloc, files, given, os, max, reader, writer),
-        Command::Join(os, last) => run_on(alloc, os, Task::Join(last), max, reader, writer),
-        Command::JoinWords(last) => {
-            run_on(alloc, Os::Unix, Task::JoinWords(last), max, reader, writer)
-        }
-        Command::Check(os) => run_on(alloc, os, Task::Check, max, reader, writer),
-        Command::Help => write_help(HELP, writer),
-        Command::Version => write_help(VERSION, writer),
+        Some((os, work)) => match os {
+            Os::Unix => {
+                run_work::<Unix, F, A, R, W>(alloc, files, given, work, max, reader, writer)
+            }
+            Os::Windows => {
+                run_work::<Windows, F, A, R, W>(alloc, files, given, work, max, reader, writer)
+            }
+            Os::Wasm => {
+                run_work::<Wasm, F, A, R, W>(alloc, files, given, work, max, reader, writer)
+            }
+        },
     }
 }
 
-/// Returns the result of the run on a platform.
-fn run_on<A: Allocator, R: Read, W: Write>(
+/// Returns the result of what is done with a list of names of a platform.
+fn run_work<'a, E: Platform + 'a, F: Files, A: Allocator + Copy, R: Read, W: Write>(
     alloc: A,
-    os: Os,
-    task: Task,
+    files: &F,
+    given: Line<'_, 'a>,
+    work: Work<'a>,
     max: usize,
     reader: &mut Marked<R>,
     writer: &mut Marked<W>,
 ) -> Result<(), Fault>
     requires reader_unmarked { has_failed reader.old ≡ false }
     requires writer_unmarked { has_failed writer.old ≡ false }
-    ensures run { Did R.remaining W.contents (RunsTask os task max)
+    ensures run { Did R.remaining W.contents
+        (RunsWork (F.known files.now) A given.now ⟦<E as Platform>⟧ max work.entry)
         reader.old reader.new writer.old writer.new result }
     ensures ends { BlamesEnds result (has_failed reader.new) (has_failed writer.new) }
 {
-    let settings = Settings { task, max };
-    match os {
-        Os::Unix => run_list(alloc, &OnPlatform::<Unix>::new(settings), reader, writer),
-        Os::Windows => run_list(alloc, &OnPlatform::<Windows>::new(settings), reader, writer),
-        Os::Wasm => run_list(alloc, &OnPlatform::<Wasm>::new(settings), reader, writer),
+    match work {
+        Work::Each(task) => {
+            let each = OnPlatform::<E>::new(Settings { task, max });
+            run_list(alloc, &each, reader, writer)
+        }
+        Work::Picked(os, form, pick) => {
+            let plan = Plan {
+                os,
+                form,
+                pick,
+                max,
+            };
+            run_picked::<E, F, A, R, W>(alloc, files, given, plan, reader, writer)
+        }
+        Work::Why => run_why::<E, F, A, R, W>(alloc, files, given, max, reader, writer),
     }
 }

@@ -157,7 +157,11 @@ impl<E> OnPlatform<E> {
 impl<E: Platform> ListTask for OnPlatform<E> {
     type Refusal = Refusal;
 
+    type Memory = ();
+
     ghost rules = { λ on. rules_of ⟦<E as Platform>⟧ on.settings };
+
+    ghost remembers = { λ _ _. Unit {0} };
 
     fn end(&self) -> u8 {
         self.settings.task.end()
@@ -175,9 +179,12 @@ impl<E: Platform> ListTask for OnPlatform<E> {
         self.settings.longest_item()
     }
 
+    fn memory(&self) {}
+
     fn write_item<A: Allocator + Copy>(
         &self,
         alloc: A,
+        _memory: &mut (),
         item: &[u8],
         output: &mut Vec<u8, A>,
     ) -> Result<(), ItemFault<Refusal>> {

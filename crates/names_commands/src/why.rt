@@ -35,8 +35,12 @@ pub struct Reasons<'g, E, A: Allocator = Global> {
 impl<'g, E: Platform, B: Allocator + Copy> ListTask for Reasons<'g, E, B> {
     type Refusal = Refusal;
 
+    type Memory = ();
+
     ghost rules = { λ r. deciding ⟦<E as Platform>⟧ r.max (map text_of r.values.now)
         (files_of r.ignore.now) };
+
+    ghost remembers = { λ _ _. Unit {0} };
 
     fn end(&self) -> u8 {
         0
@@ -54,9 +58,12 @@ impl<'g, E: Platform, B: Allocator + Copy> ListTask for Reasons<'g, E, B> {
         self.max
     }
 
+    fn memory(&self) {}
+
     fn write_item<A: Allocator + Copy>(
         &self,
         alloc: A,
+        _memory: &mut (),
         item: &[u8],
         output: &mut Vec<u8, A>,
     ) -> Result<(), ItemFault<Refusal>> {

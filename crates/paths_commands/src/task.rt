@@ -76,7 +76,11 @@ impl<'a, E> OnPlatform<'a, E> {
 impl<'a, E: PathStyle> ListTask for OnPlatform<'a, E> {
     type Refusal = Refusal;
 
+    type Memory = ();
+
     ghost rules = { λ on. rules_of ⟦<E as Platform>⟧ E.follows on.task on.max };
+
+    ghost remembers = { λ _ _. Unit {0} };
 
     fn end(&self) -> u8 {
         0
@@ -94,9 +98,12 @@ impl<'a, E: PathStyle> ListTask for OnPlatform<'a, E> {
         self.max
     }
 
+    fn memory(&self) {}
+
     fn write_item<A: Allocator + Copy>(
         &self,
         alloc: A,
+        _memory: &mut (),
         item: &[u8],
         output: &mut Vec<u8, A>,
     ) -> Result<(), ItemFault<Refusal>> {

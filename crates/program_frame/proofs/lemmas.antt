@@ -1,4 +1,5 @@
 pub mod lists
 pub mod Arguments
 pub mod Pieces
+pub mod Results
 pub mod Values

@@ -206,6 +206,7 @@ pub fn unended_line<E: Platform, A: Allocator, W: Write>(
 /// Filters one name, which is written with NUL, or not at all.
 pub fn filtered<E: Platform, A: Allocator, B: Allocator + Copy, W: Write>(
     alloc: A,
+    of_walk: B,
     max: usize,
     picker: Picker<'_, E, B>,
     name: &[u8],
@@ -227,7 +228,7 @@ pub fn filtered<E: Platform, A: Allocator, B: Allocator + Copy, W: Write>(
     let mut reader = Marked::new(name);
     run(
         alloc,
-        &Matching::new(picker, Form::Name, max),
+        &Matching::new(of_walk, picker, Form::Name, max),
         &mut reader,
         writer,
     )

@@ -1,5 +1,7 @@
 -- The one path that a name is, and ignore files that are read one after the other.
-use Rattle.std.proofs.Common.{◌≡◌, ◌≢◌, ◌⊎◌, ◌+◌, inl, inr, ℕ, Bool, true, false, List, [], ◌∷◌, ◌++◌, map, length, refl, sym, ap, ◌∙◌, subst, append_assoc, append-nil}
+use Rattle.std.proofs.Common.{◌≡◌, ◌↔◌, ◌+◌, inl, inr, ℕ, Bool, true, false, not, List, [], ◌∷◌, ◌++◌, length, refl, sym, ap, ◌∙◌, subst, append_assoc, append-nil}
+use Rattle.std.proofs.Math.Logic.{∥∥₁_elim}
+use Rattle.std.proofs.Props.{props}
 use Rattle.std.proofs.lemmas.List.{append_cancel_right, length-append}
 use Rattle.std.specs.List.{AllByRecursion}
 use Rattle.os_ignore.specs.Ignores.{IsAdded}
@@ -8,7 +10,7 @@ use Rattle.os_ignore.specs.declared.file.File.{File}
 use Rattle.os_ignore.specs.declared.verdict.Verdict.{Verdict}
 use Rattle.os_ignore.proofs.lemmas.OneVerdict.{one_verdict}
 use Rattle.program_frame.specs.Files.{KnownFiles}
-use Rattle.names_commands.specs.Ignoring.{AreAdded, AreRead, FileRead, IsFileIn, IsFirstUnread, IsIgnored, IsPath, WasRead, value_of, without_dot}
+use Rattle.names_commands.specs.Ignoring.{AreAdded, AreRead, FileRead, IsFirstUnread, IsIgnored, IsPath, WasRead, value_of, without_dot}
 use Rattle.names_commands.specs.Program.{Fault, IsFaultOf, IsFaultOfOne}
 use Rattle.names_commands.specs.declared.fault.CommandFault.TheVariants.{NoFile, Unread}
 use Rattle.names_commands.proofs.lemmas.Picks.{pushed}
@@ -30,6 +32,18 @@ module _ {A : Type 0} where
       let same = one_path (without_dot name) i.path path i.is_dir is_dir i.path_is is in
       let here = subst (λ p. IsVerdict files p is_dir i.verdict) same.0 (subst (λ d. IsVerdict files i.path d i.verdict) same.1 i.verdict_is) in
       ap is_ignored (one_verdict files path is_dir verdict i.verdict verdict_is here) ∙ i.ignored
+
+  -- a name is shown where the verdict on its path is none that ignores it, although which steps led to that isn't known
+  pub shown_where : (files : List (File A)) (name path : List ℕ) (is_dir : Bool) (verdict : Verdict) (ignored : Bool) → IsPath (without_dot name) path is_dir → ∥ IsVerdict files path is_dir verdict ∥₁ → ignored ≡ is_ignored verdict
+      → (not ignored ≡ true) ↔ (¬ (IsIgnored files name))
+  shown_where files name path is_dir verdict false is m e = (
+    λ _ i. ∥∥₁_elim m (Prim.hlevel props) (λ v. let never : false ≡ true = e ∙ its_verdict files name path is_dir verdict is v i in cc),
+    λ _. refl,
+  )
+  shown_where files name path is_dir verdict true is m e = (
+    λ yes. absurd (cc),
+    λ none. absurd (∥∥₁_elim m (Prim.hlevel props) (λ v. none (record { path = path; is_dir = is_dir; path_is = is; verdict = verdict; verdict_is = v; ignored = sym e }))),
+  )
 
   one_added : (reads : List FileRead) (read : FileRead) (old mid new : List (File A)) → AreAdded reads old mid → IsAdded read.directory read.content mid new → AreAdded (reads ++ read ∷ []) old new
   one_added [] read old mid new a i = (new, subst (λ x. IsAdded read.directory read.content x new) a i, refl)

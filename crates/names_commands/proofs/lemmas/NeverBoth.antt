@@ -1,7 +1,7 @@
 -- Options and operands that make up a command have nothing wrong with them.
-use Rattle.std.proofs.Common.{◌≡◌, ◌≢◌, ◌⊎◌, ℕ, List, [], ◌∷◌, length, get_or, Option, Some, None, inl, inr, refl, sym, ap, ◌∙◌, subst, arith}
+use Rattle.std.proofs.Common.{◌≡◌, ◌⊎◌, ℕ, List, [], ◌∷◌, get_or, Option, Some, None, inl, inr, refl, sym, ap, ◌∙◌, subst, arith}
 use denote.Ref.{Bor}
-use Rattle.program_frame.specs.Arguments.{HasOption, HasValue, IsOf, LastValue, operands_of}
+use Rattle.program_frame.specs.Arguments.{HasOption, HasValue, IsOf, LastValue}
 use Rattle.program_frame.specs.Os.{os_word}
 use Rattle.program_frame.specs.declared.arguments.Given.{Given}
 use Rattle.program_frame.specs.declared.arguments.Given.TheVariants.{Operand, Flag, Valued}

@@ -29,6 +29,7 @@ use Rattle.wildcards.specs.declared.set.Pattern.{Pattern}
 use Rattle.program_frame.specs.declared.lists.program_fault.Fault.TheVariants.{List as OfList}
 use Rattle.os_ignore.specs.declared.file.File.{File}
 use Rattle.program_frame.specs.Files.{KnownFiles}
+use Rattle.names_commands.specs.Ignoring.{IsIgnored}
 use Rattle.names_commands.specs.Matching.{picking, matching, AreWrittenOut, IsChosen, IsChosenBy, IsFirstFault, IsMatched, IsMatchedBy, IsPattern, IsPicked, IsTextOfPicked}
 use Rattle.names_commands.specs.Program.{Fault, RunsBut}
 
@@ -114,6 +115,14 @@ matching_runs p form its_form max its_max inverted its_inverted globs its_globs 
     (subst (λ z. Runs (matching p its_form its_max z globs files) OfList input left old new answer) v
     (subst (λ z. Runs (matching p its_form its_max its_inverted z files) OfList input left old new answer) g
     (subst (λ z. Runs (matching p its_form its_max its_inverted its_globs z) OfList input left old new answer) i run))))
+
+-- a name that is chosen is picked where the files don't ignore its text
+pub picked_shown : {A : Type 0} (Chosen : List ℕ → Type 0) (files its_files : List (File A)) (name text : List ℕ) (shown : Bool) → its_files ≡ files → text ≡ name → Chosen name
+    → ((shown ≡ true) ↔ (¬ (IsIgnored its_files text))) → ((shown ≡ true) ↔ IsPicked false Chosen files name)
+picked_shown Chosen files its_files name text shown f t chosen said = (
+  λ yes. (chosen, subst (λ n. ¬ (IsIgnored files n)) t (subst (λ z. ¬ (IsIgnored z text)) f (said.0 yes))),
+  λ k. said.1 (subst (λ z. ¬ (IsIgnored z text)) (sym f) (subst (λ n. ¬ (IsIgnored files n)) (sym t) k.1)),
+)
 
 -- a name is picked, inverted, where it doesn't match
 pub picked_turned : {A : Type 0} (inverted : Bool) (Chosen : List ℕ → Type 0) (files : List (File A)) (name : List ℕ) (matches picks : Bool) → picks ≡ cond inverted (not matches) matches → ((matches ≡ true) ↔ IsPicked false Chosen files name) → ((picks ≡ true) ↔ IsPicked inverted Chosen files name)

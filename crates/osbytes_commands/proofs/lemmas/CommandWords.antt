@@ -3,7 +3,8 @@ use Rattle.std.proofs.Common.{◌≡◌, ℕ, ◌<◌, ◌≤◌, List, [], ◌�
 use Rattle.std.specs.Prelude.{codes}
 use Rattle.osbytes_commands.specs.declared.command.Command.{Command}
 use Rattle.osbytes_commands.specs.declared.command.Command.TheVariants.{Units, Raw, Find, Split, Chunks, Quote, Unquote}
-use Rattle.osbytes_commands.specs.Command.{words_of}
+use Rattle.program_frame.specs.Os.{os_word}
+use Rattle.osbytes_commands.specs.Command.{words_of, os_of}
 
 pub two_words : {S : Type 0} (bytes : S → List ℕ) (words : List S) (a b : S) (x y : List ℕ) → 2 ≤ length words → length words < 3
     → a ≡ get_or words 0 a → b ≡ get_or words 1 b → bytes a ≡ x → bytes b ≡ y → map bytes words ≡ x ∷ y ∷ []
@@ -46,3 +47,13 @@ unnamed_three x y z find split (Raw os) e = let lengths : ◌≡◌ {A = ℕ} 3 
 unnamed_three x y z find split (Chunks os) e = let lengths : ◌≡◌ {A = ℕ} 3 2 = ap length e in absurd (omega arith)
 unnamed_three x y z find split (Quote os) e = let lengths : ◌≡◌ {A = ℕ} 3 2 = ap length e in absurd (omega arith)
 unnamed_three x y z find split (Unquote os) e = let lengths : ◌≡◌ {A = ℕ} 3 2 = ap length e in absurd (omega arith)
+
+-- the second word is the platform's
+pub second_is_os : (command : Command) (words : List (List ℕ)) → words ≡ words_of command → get_or words 1 [] ≡ os_word (os_of command)
+second_is_os (Units os) words e = ap (λ words. get_or words 1 []) e
+second_is_os (Raw os) words e = ap (λ words. get_or words 1 []) e
+second_is_os (Find os pattern) words e = ap (λ words. get_or words 1 []) e
+second_is_os (Split os pattern) words e = ap (λ words. get_or words 1 []) e
+second_is_os (Chunks os) words e = ap (λ words. get_or words 1 []) e
+second_is_os (Quote os) words e = ap (λ words. get_or words 1 []) e
+second_is_os (Unquote os) words e = ap (λ words. get_or words 1 []) e

@@ -16,12 +16,14 @@ use std::alloc::Allocator;
 pub fn read_block<T: ListTask, N: Refusals<T::Refusal>, A: Allocator + Copy>(
     alloc: A,
     task: &T,
+    memory: &mut T::Memory,
     count: u64,
     block: &[u8],
     begun: &mut Vec<u8, A>,
     refusals: &mut N,
     output: &mut Vec<u8, A>,
 ) -> Result<u64, ListFault<T::Refusal>>
+    requires memory { T.remembers task.now memory.old }
     requires counted { count + length begun.old.items + length block.now + 1 < 2 ^ 64 }
     requires begun { HasBegun (passing (N.passed refusals.old) (T.rules task.now)) begun.old.items }
     ensures ok { IfOk result
@@ -34,11 +36,21 @@ pub fn read_block<T: ListTask, N: Refusals<T::Refusal>, A: Allocator + Copy>(
         (block.now ++ more) output.new.items fault) }
     ensures more { N.passed refusals.old ≤ N.passed refusals.new }
     ensures ends { IfErr result (λ fault. EndsRun N.stops fault) }
+    ensures memory { T.remembers task.now memory.new }
 {
     let mut ended = count;
     let mut rest = block;
     while let Some((last, after)) = split_at_end(task.end(), rest) {
-        match end_item::<T, N, A>(alloc, task, ended + 1, last, begun, refusals, output) {
+        match end_item::<T, N, A>(
+            alloc,
+            task,
+            memory,
+            ended + 1,
+            last,
+            begun,
+            refusals,
+            output,
+        ) {
             Ok(()) => {}
             Err(fault) => return Err(fault),
         }
@@ -55,12 +67,14 @@ pub fn read_block<T: ListTask, N: Refusals<T::Refusal>, A: Allocator + Copy>(
 fn end_item<T: ListTask, N: Refusals<T::Refusal>, A: Allocator + Copy>(
     alloc: A,
     task: &T,
+    memory: &mut T::Memory,
     number: u64,
     last: &[u8],
     begun: &mut Vec<u8, A>,
     refusals: &mut N,
     output: &mut Vec<u8, A>,
 ) -> Result<(), ListFault<T::Refusal>>
+    requires memory { T.remembers task.now memory.old }
     requires begun { HasBegun (passing (N.passed refusals.old) (T.rules task.now)) begun.old.items }
     requires whole { Lacks (T.rules task.now).end last.now }
     ensures ok { OnOk result ((text : List ℕ)
@@ -73,15 +87,16 @@ fn end_item<T: ListTask, N: Refusals<T::Refusal>, A: Allocator + Copy>(
     ensures unchanged { OnErr result (output.new.items ≡ output.old.items) }
     ensures more { N.passed refusals.old ≤ N.passed refusals.new }
     ensures ends { IfErr result (λ fault. EndsRun N.stops fault) }
+    ensures memory { T.remembers task.now memory.new }
 {
     if begun.is_empty() && last.len() <= task.longest_item() {
-        return write_at::<T, N, A>(alloc, task, number, last, refusals, output);
+        return write_at::<T, N, A>(alloc, task, memory, number, last, refusals, output);
     }
     match keep(task, number, last, begun) {
         Ok(()) => {}
         Err(fault) => return Err(fault),
     }
-    match write_at::<T, N, A>(alloc, task, number, begun, refusals, output) {
+    match write_at::<T, N, A>(alloc, task, memory, number, begun, refusals, output) {
         Ok(()) => {}
         Err(fault) => return Err(fault),
     }
@@ -93,12 +108,14 @@ fn end_item<T: ListTask, N: Refusals<T::Refusal>, A: Allocator + Copy>(
 pub fn write_at<T: ListTask, N: Refusals<T::Refusal>, A: Allocator + Copy>(
     alloc: A,
     task: &T,
+    memory: &mut T::Memory,
     number: u64,
     item: &[u8],
     refusals: &mut N,
     output: &mut Vec<u8, A>,
 ) -> Result<(), ListFault<T::Refusal>>
-    requires { length item.now ≤ (T.rules task.now).longest }
+    requires memory { T.remembers task.now memory.old }
+    requires short { length item.now ≤ (T.rules task.now).longest }
     ensures ok { OnOk result ((text : List ℕ)
         × ((passing (N.passed refusals.new) (T.rules task.now)).is_text item.now text
         × (output.new.items ≡ output.old.items ++ text))) }
@@ -106,8 +123,9 @@ pub fn write_at<T: ListTask, N: Refusals<T::Refusal>, A: Allocator + Copy>(
     ensures unchanged { OnErr result (output.new.items ≡ output.old.items) }
     ensures more { N.passed refusals.old ≤ N.passed refusals.new }
     ensures ends { IfErr result (λ fault. EndsRun N.stops fault) }
+    ensures memory { T.remembers task.now memory.new }
 {
-    match task.write_item(alloc, item, output) {
+    match task.write_item(alloc, memory, item, output) {
         Ok(()) => Ok(()),
         Err(ItemFault::Refused(why)) => {
             if refusals.passes(number, item, why) {

@@ -143,13 +143,22 @@ pub fn run_with<T: ListTask, N: Refusals<T::Refusal>, A: Allocator, R: Read, W: 
     ensures read { (result ≡ Err (ListFault.Run Failure.Read)) ↔ (has_failed reader.new ≡ true) }
     ensures write { (result ≡ Err (ListFault.Run Failure.Write)) ↔ (has_failed writer.new ≡ true) }
 {
+    let mut memory = task.memory();
     let mut begun = Vec::new(&alloc);
     let mut count = 0;
     let mut total = 0;
     let mut piece = [0u8; BLOCK];
     loop {
         let size = match reader.read(&mut piece) {
-            Ok(0) => return finish::<T, N, &A, W>(&alloc, task, count, &begun, refusals, writer),
+            Ok(0) => return finish::<T, N, &A, W>(
+                &alloc,
+                task,
+                &mut memory,
+                count,
+                &begun,
+                refusals,
+                writer,
+            ),
             Ok(size) => size,
             Err(_) => return Err(ListFault::Run(Failure::Read)),
         };
@@ -158,7 +167,16 @@ pub fn run_with<T: ListTask, N: Refusals<T::Refusal>, A: Allocator, R: Read, W: 
         }
         total += size as u64;
         let block = &piece[..size];
-        match write_block::<T, N, &A, W>(&alloc, task, count, block, &mut begun, refusals, writer) {
+        match write_block::<T, N, &A, W>(
+            &alloc,
+            task,
+            &mut memory,
+            count,
+            block,
+            &mut begun,
+            refusals,
+            writer,
+        ) {
             Ok(ended) => count = ended,
             Err(fault) => return Err(fault),
         }
@@ -170,12 +188,14 @@ pub fn run_with<T: ListTask, N: Refusals<T::Refusal>, A: Allocator, R: Read, W: 
 fn write_block<T: ListTask, N: Refusals<T::Refusal>, A: Allocator + Copy, W: Write>(
     alloc: A,
     task: &T,
+    memory: &mut T::Memory,
     count: u64,
     block: &[u8],
     begun: &mut Vec<u8, A>,
     refusals: &mut N,
     writer: &mut Marked<W>,
 ) -> Result<u64, ListFault<T::Refusal>>
+    requires memory { T.remembers task.now memory.old }
     requires counted { count + length begun.old.items + length block.now + 1 < 2 ^ 64 }
     requires begun { HasBegun (passing (N.passed refusals.old) (T.rules task.now)) begun.old.items }
     requires unmarked { has_failed writer.old ≡ false }
@@ -200,9 +220,19 @@ fn write_block<T: ListTask, N: Refusals<T::Refusal>, A: Allocator + Copy, W: Wri
     ensures marked { (result ≡ Err (ListFault.Run Failure.Write)) ↔ (has_failed writer.new ≡ true) }
     ensures more { N.passed refusals.old ≤ N.passed refusals.new }
     ensures ends { IfErr result (λ fault. EndsRun N.stops fault) }
+    ensures memory { T.remembers task.now memory.new }
 {
     let mut output = Vec::new(alloc);
-    let ended = read_block::<T, N, A>(alloc, task, count, block, begun, refusals, &mut output);
+    let ended = read_block::<T, N, A>(
+        alloc,
+        task,
+        memory,
+        count,
+        block,
+        begun,
+        refusals,
+        &mut output,
+    );
     match write_output(writer, &output) {
         Ok(()) => ended,
         Err(fault) => Err(fault),
@@ -213,11 +243,13 @@ fn write_block<T: ListTask, N: Refusals<T::Refusal>, A: Allocator + Copy, W: Wri
 fn finish<T: ListTask, N: Refusals<T::Refusal>, A: Allocator + Copy, W: Write>(
     alloc: A,
     task: &T,
+    memory: &mut T::Memory,
     count: u64,
     begun: &[u8],
     refusals: &mut N,
     writer: &mut Marked<W>,
 ) -> Result<(), ListFault<T::Refusal>>
+    requires memory { T.remembers task.now memory.old }
     requires counted { count + 1 < 2 ^ 64 }
     requires begun { HasBegun (passing (N.passed refusals.old) (T.rules task.now)) begun.now }
     requires unmarked { has_failed writer.old ≡ false }
@@ -238,6 +270,7 @@ fn finish<T: ListTask, N: Refusals<T::Refusal>, A: Allocator + Copy, W: Write>(
     ensures marked { (result ≡ Err (ListFault.Run Failure.Write)) ↔ (has_failed writer.new ≡ true) }
     ensures more { N.passed refusals.old ≤ N.passed refusals.new }
     ensures ends { IfErr result (λ fault. EndsRun N.stops fault) }
+    ensures memory { T.remembers task.now memory.new }
 {
     if begun.is_empty() {
         return Ok(());
@@ -246,7 +279,7 @@ fn finish<T: ListTask, N: Refusals<T::Refusal>, A: Allocator + Copy, W: Write>(
         return Err(ListFault::Unended(count + 1));
     }
     let mut output = Vec::new(alloc);
-    match write_at::<T, N, A>(alloc, task, count + 1, begun, refusals, &mut output) {
+    match write_at::<T, N, A>(alloc, task, memory, count + 1, begun, refusals, &mut output) {
         Ok(()) => write_output(writer, &output),
         Err(fault) => Err(fault),
     }

@@ -10,7 +10,13 @@ pub trait ListTask {
     /// Why an item is rejected.
     type Refusal: Copy;
 
+    /// What is kept from one item to the next, so that less is to be done for that.
+    type Memory: Drop;
+
     ghost rules: { Self → ListRules Self.Refusal };
+
+    // the memory is one of this task
+    ghost remembers: { Self → Self.Memory → Type 0 };
 
     /// The byte that ends an item.
     ///
@@ -64,7 +70,24 @@ pub trait ListTask {
     fn longest_item(&self) -> usize
         ensures { result ≡ min (rules self.now).longest (2 ^ 64 - 1) };
 
-    /// Appends what is written for an item.
+    /// The memory before the first item.
+    ///
+    /// ```
+    /// use names_commands::task::{OnPlatform, Settings, Task};
+    /// use os_str_bytes::Unix;
+    /// use program_frame::lists::task::ListTask;
+    ///
+    /// let settings = Settings { task: Task::Check, max: 255 };
+    /// let checking = OnPlatform::<Unix>::new(settings);
+    /// let mut memory = checking.memory();
+    /// let mut output = Vec::new(alloc);
+    /// assert!(rt; checking.write_item(alloc, &mut memory, b"a", &mut output).is_ok());
+    /// ```
+    fn memory(&self) -> Self::Memory
+        ensures { remembers self.now result };
+
+    /// Appends what is written for an item. The memory must be one of this task
+    /// ([`ListTask::memory`]).
     ///
     /// # Errors
     ///
@@ -77,17 +100,21 @@ pub trait ListTask {
     ///
     /// let settings = Settings { task: Task::ListAll, max: 255 };
     /// let mut output = Vec::new(alloc);
-    /// let answer = OnPlatform::<Unix>::new(settings).write_item(alloc, b"a\nb", &mut output);
-    /// assert!(rt; answer.is_ok());
+    /// let listing = OnPlatform::<Unix>::new(settings);
+    /// let mut memory = listing.memory();
+    /// assert!(rt; listing.write_item(alloc, &mut memory, b"a\nb", &mut output).is_ok());
     /// assert_eq!(rt; output.as_slice(), b"a\\u000Ab\n".as_slice());
     /// ```
     fn write_item<A: Allocator + Copy>(
         &self,
         alloc: A,
+        memory: &mut Self::Memory,
         item: &[u8],
         output: &mut Vec<u8, A>,
     ) -> Result<(), ItemFault<Self::Refusal>>
-        requires { length item.now ≤ (rules self.now).longest }
+        requires memory { remembers self.now memory.old }
+        requires short { length item.now ≤ (rules self.now).longest }
+        ensures memory { remembers self.now memory.new }
         ensures ok { OnOk result ((text : List ℕ) × ((rules self.now).is_text item.now text
             × (output.new.items ≡ output.old.items ++ text))) }
         ensures fault { IfErr result (λ fault. IsItemFault (rules self.now) item.now fault) }

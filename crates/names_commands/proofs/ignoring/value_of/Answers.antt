@@ -1,4 +1,4 @@
-use Rattle.std.proofs.Common.{◌∷◌, ◌+◌, map, drop, sym, ap, ◌∙◌, slice_index_or, []}
+use Rattle.std.proofs.Common.{◌∷◌, ◌+◌, map, sym, ap, ◌∙◌, slice_index_or, []}
 use Rattle.std.proofs.lemmas.List.{drop-map, drop_more}
 use Rattle.names_commands.specs.Ignoring.{text_of}
 use Rattle.names_commands.proofs.ignoring.value_of.Goals as goal

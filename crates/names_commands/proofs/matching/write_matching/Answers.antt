@@ -9,7 +9,7 @@ pub returns-then-not-picks-clause-ok : goal.returns-then-not-picks-clause-ok
 returns-then-not-picks-clause-ok g c =
     let Picked = IsPickedBy g.E.Platform c.args.picker.now.inverted c.args.picker.now.globs (files_of c.args.picker.now.ignore.now) in
     let other : ¬ (Picked c.args.item.now) = λ picked.
-    let picks = c.picks.ensures.1 (subst Picked (sym c.in-Ok.ensures.bytes) picked) in
+    let picks = c.in-Ok-picks.ensures.picks.1 (subst Picked (sym c.in-Ok.ensures.bytes) picked) in
     let never = sym picks ∙ c.if-not-picks.true in cc in
     ([], ((c.in-Ok.ensures.formed, inr (other, refl)), sym (append-nil c.args.output.now.items)))
 
@@ -17,7 +17,7 @@ pub returns-in-Line-clause-ok : goal.returns-in-Line-clause-ok
 returns-in-Line-clause-ok g c =
     let P = g.E.Platform in
     let name = c.args.item.now in
-    let picked = subst (IsPickedBy P c.args.picker.now.inverted c.args.picker.now.globs (files_of c.args.picker.now.ignore.now)) c.in-Ok.ensures.bytes (c.picks.ensures.0 c.if-not-picks.false) in
+    let picked = subst (IsPickedBy P c.args.picker.now.inverted c.args.picker.now.globs (files_of c.args.picker.now.ignore.now)) c.in-Ok.ensures.bytes (c.in-Ok-picks.ensures.picks.0 c.if-not-picks.false) in
     on_ok_weaker c.write_line.result
     (λ w.
     let line = subst (λ n. IsLineEscape P.units n w.0) c.in-Ok.ensures.bytes w.1.0 in
@@ -28,7 +28,7 @@ pub returns-in-Name-clause-ok : goal.returns-in-Name-clause-ok
 returns-in-Name-clause-ok g c =
     let P = g.E.Platform in
     let name = c.args.item.now in
-    let picked = subst (IsPickedBy P c.args.picker.now.inverted c.args.picker.now.globs (files_of c.args.picker.now.ignore.now)) c.in-Ok.ensures.bytes (c.picks.ensures.0 c.if-not-picks.false) in
+    let picked = subst (IsPickedBy P c.args.picker.now.inverted c.args.picker.now.globs (files_of c.args.picker.now.ignore.now)) c.in-Ok.ensures.bytes (c.in-Ok-picks.ensures.picks.0 c.if-not-picks.false) in
     on_ok_weaker c.push_name.result
     (λ e. (name ++ 0 ∷ [], ((c.in-Ok.ensures.formed, inl (picked, subst (λ f. IsInForm P f name (name ++ 0 ∷ [])) (sym c.in-Name.is) refl)), e)))
     c.push_name.ensures.ok
@@ -37,7 +37,7 @@ pub returns-in-Word-clause-ok : goal.returns-in-Word-clause-ok
 returns-in-Word-clause-ok g c =
     let P = g.E.Platform in
     let name = c.args.item.now in
-    let picked = subst (IsPickedBy P c.args.picker.now.inverted c.args.picker.now.globs (files_of c.args.picker.now.ignore.now)) c.in-Ok.ensures.bytes (c.picks.ensures.0 c.if-not-picks.false) in
+    let picked = subst (IsPickedBy P c.args.picker.now.inverted c.args.picker.now.globs (files_of c.args.picker.now.ignore.now)) c.in-Ok.ensures.bytes (c.in-Ok-picks.ensures.picks.0 c.if-not-picks.false) in
     on_ok_weaker c.write_word.result
     (λ w. (w.0, ((c.in-Ok.ensures.formed, inl (picked, subst (λ f. IsInForm P f name w.0) (sym c.in-Word.is) w.1.0)), w.1.1)))
     c.write_word.ensures.line

@@ -1,27 +1,31 @@
-use Rattle.std.proofs.Common.{◌≡◌, ℕ, List, Option, sym, subst}
-use Rattle.std.specs.Prelude.{Result, ⊤}
-use Rattle.program_frame.specs.Files.{KnownFiles}
-use Rattle.program_frame.specs.Marked.{marked_inner}
-use Rattle.program_frame.specs.Strings.{strings}
-use Rattle.program_frame.specs.declared.os.Os.{Os}
-use Rattle.names_commands.specs.Command.{Line}
-use Rattle.names_commands.specs.Program.{Fault, RunsWhy, RunsWhyOn, UnlessOutOfMemory}
+use Rattle.std.proofs.Common.{⊎_elim, inl, inr, map, refl, sym, ap, subst, Err}
+use Rattle.std.proofs.lemmas.List.{length-map}
+use Rattle.os_ignore.specs.Ignores.{files_of}
+use Rattle.program_frame.specs.Arguments.{AreValues}
+use Rattle.names_commands.specs.Ignoring.{text_of}
+use Rattle.names_commands.specs.Why.{LinesAreKnown}
+use Rattle.names_commands.specs.declared.option.NamesOption.TheVariants.{Ignore}
+use Rattle.names_commands.proofs.lemmas.Decided.{known_lines}
 use Rattle.names_commands.proofs.reasons.run_why.Goals as goal
 
--- what is so of a platform is so of an equal one
-same_run : (known : KnownFiles) (A : Type 0) (given : Line) (max : ℕ) (os other : Os) (input left old new : Option (List ℕ)) (answer : Result ⊤ Fault) → os ≡ other
-    → UnlessOutOfMemory (RunsWhyOn known A given (strings other) max) input left old new answer → RunsWhy known A given os max input left old new answer
-same_run known A given max os other input left old new answer is ran =
-    subst (λ z. UnlessOutOfMemory (RunsWhyOn known A given (strings z) max) input left old new answer) (sym is) ran
+pub returns-in-Ok-read_ignore-clause-run : goal.returns-in-Ok-read_ignore-clause-run
+returns-in-Ok-read_ignore-clause-run g c =
+    let values = map text_of c.as_slice-values.result.now in
+    let stated = subst (λ items. AreValues Ignore c.args.given.now (map text_of items)) (sym c.as_slice-values.ensures.value) c.in-Ok.ensures in
+    inr (values, stated, inr (files_of c.in-Ok-read_ignore.ignore, c.in-Ok-read_ignore.ensures, c.run_list.ensures.run))
 
-pub returns-in-Unix-clause-run : goal.returns-in-Unix-clause-run
-returns-in-Unix-clause-run g c =
-    same_run (g.F.Files.known c.args.files.now) g.row.A.Denot c.args.given.now c.args.max _ _ (g.R.Read.remaining (marked_inner c.args.reader.now)) (g.R.Read.remaining (marked_inner c.run_why_on.new.reader)) (g.W.Write.contents (marked_inner c.args.writer.now)) (g.W.Write.contents (marked_inner c.run_why_on.new.writer)) c.run_why_on.result c.in-Unix.is c.run_why_on.ensures.run
+pub returns-clause-run : goal.returns-clause-run
+returns-clause-run g c =
+    let values = map text_of c.as_slice-values.result.now in
+    let stated = subst (λ items. AreValues Ignore c.args.given.now (map text_of items)) (sym c.as_slice-values.ensures.value) c.in-Ok.ensures in
+    ⊎_elim
+    (λ memory. inl (ap Err memory, (refl, refl)))
+    (λ of. inr (values, stated, inl (of.0, of.1, (ap Err of.2, (refl, refl)))))
+    c.in-Err.ensures
 
-pub returns-in-Windows-clause-run : goal.returns-in-Windows-clause-run
-returns-in-Windows-clause-run g c =
-    same_run (g.F.Files.known c.args.files.now) g.row.A.Denot c.args.given.now c.args.max _ _ (g.R.Read.remaining (marked_inner c.args.reader.now)) (g.R.Read.remaining (marked_inner c.run_why_on-in-Windows.new.reader)) (g.W.Write.contents (marked_inner c.args.writer.now)) (g.W.Write.contents (marked_inner c.run_why_on-in-Windows.new.writer)) c.run_why_on-in-Windows.result c.in-Windows.is c.run_why_on-in-Windows.ensures.run
-
-pub returns-in-Wasm-clause-run : goal.returns-in-Wasm-clause-run
-returns-in-Wasm-clause-run g c =
-    same_run (g.F.Files.known c.args.files.now) g.row.A.Denot c.args.given.now c.args.max _ _ (g.R.Read.remaining (marked_inner c.args.reader.now)) (g.R.Read.remaining (marked_inner c.run_why_on-in-Wasm.new.reader)) (g.W.Write.contents (marked_inner c.args.writer.now)) (g.W.Write.contents (marked_inner c.run_why_on-in-Wasm.new.writer)) c.run_why_on-in-Wasm.result c.in-Wasm.is c.run_why_on-in-Wasm.ensures.run
+pub invariant_of-reasons : goal.invariant_of-reasons
+invariant_of-reasons g c =
+    let values = c.as_slice-values.result.now in
+    let files = files_of c.in-Ok-read_ignore.ignore in record {
+      known = subst (λ n. LinesAreKnown n files) (length-map values text_of) (known_lines (g.F.Files.known c.args.files.now) (map text_of values) files c.in-Ok-read_ignore.ensures);
+    }

@@ -5,8 +5,16 @@ use Rattle.std.proofs.lemmas.Grind.{flat_map-append}
 use Rattle.program_frame.specs.declared.lists.fault.ListFault.{ListFault}
 use Rattle.program_frame.specs.declared.lists.fault.ListFault.TheVariants.{Refused, TooLong, Unended, TooMuch, Run}
 use Rattle.program_frame.specs.Items.{Entry, Lacks, IsCutAt, ended, text_of, items_of, texts_of}
-use Rattle.program_frame.specs.Rules.{ListRules, IsFaultAt, IsRefused, IsEntry}
+use Rattle.program_frame.specs.Rules.{ListRules, IsFaultAt, IsRefused, IsEntry, EndsRun}
 use Rattle.program_frame.specs.Reading.{State, HasBegun, Reads, Stops, IsEnded, IsKeepFault, IsUpTo}
+
+-- a fault with which a run may end whatever becomes of rejected items
+pub ends_any : {F : Type 0} (stops : Type 0) (fault : ListFault F) → EndsRun ⊥ fault → EndsRun stops fault
+ends_any stops (Refused n why) e = absurd e
+ends_any stops (TooLong n most) e = tt
+ends_any stops (Unended n) e = tt
+ends_any stops TooMuch e = tt
+ends_any stops (Run why) e = tt
 
 pub all-append : (P : Entry → Type 0) (es ds : List Entry) → AllByRecursion P es → AllByRecursion P ds → AllByRecursion P (es ++ ds)
 all-append P [] ds a b = b

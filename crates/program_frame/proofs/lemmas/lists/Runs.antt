@@ -51,6 +51,9 @@ write_no_memory e = cc
 pub write_no_read : {X F : Type 0} → ◌≡◌ {A = Result X (ListFault F)} (Err (Run failure.Write)) (Err (Run failure.Read)) → ⊥
 write_no_read e = cc
 
+pub too_much_no_run : {X F : Type 0} {why : Failure} → ◌≡◌ {A = Result X (ListFault F)} (Err TooMuch) (Err (Run why)) → ⊥
+too_much_no_run e = cc
+
 module _ {F : Type 0} (list : ListRules F) where
   abbrev end : ℕ
   end = list.end

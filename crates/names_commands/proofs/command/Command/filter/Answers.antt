@@ -1,4 +1,4 @@
-use Rattle.std.proofs.Common.{◌∷◌, [], inl, inr, refl, ap, ◌∙◌, subst}
+use Rattle.std.proofs.Common.{◌∷◌, inl, inr, refl, ap, ◌∙◌, subst}
 use Rattle.program_frame.specs.Arguments.{operands_of}
 use Rattle.program_frame.specs.Os.{os_word}
 use Rattle.names_commands.specs.Command.{IsMaybePick, SomePicked, name_word}

@@ -1,7 +1,9 @@
-use Rattle.std.proofs.Common.{◌≡◌, refl, sym, ◌∙◌, subst}
-use Rattle.std.specs.Prelude.{IfSome, string_bytes}
+use Rattle.std.proofs.Common.{◌≡◌, Result, Ok, Err, OnErr, refl, sym, ◌∙◌, subst}
+use Rattle.std.specs.Prelude.{IfSome, IfNone, string_bytes}
 use Rattle.program_frame.specs.Os.{os_word}
-use Rattle.osbytes_commands.proofs.lemmas.CommandWords.{two_words, three_words, unnamed_two, unnamed_three}
+use Rattle.program_frame.specs.declared.os.Os.{Os}
+use Rattle.osbytes_commands.specs.Command.{os_of}
+use Rattle.osbytes_commands.proofs.lemmas.CommandWords.{two_words, three_words, unnamed_two, unnamed_three, second_is_os}
 use Rattle.osbytes_commands.proofs.command.Command.parse.Goals as goal
 
 pub returns-in-units-clause-command : goal.returns-in-units-clause-command
@@ -50,3 +52,20 @@ returns-in_default-as_str-2-clause-no_command c = λ command e.
     let other = c.in_default-as_str-2 in
     let words = three_words string_bytes c.args.words.now _ _ _ _ _ _ c.in-len3.len_at_least c.in-len3.len_below c.name-item-then-words-lt4.is c.os-item-then-words-lt4.is c.pattern-item.is (sym c.as_str-in-len3-2.ensures.value) refl refl in
     unnamed_three _ _ _ other.not-find other.not-split command (sym words ∙ e)
+
+-- what needs no error
+on_err : {X E P : Type 0} (r : Result X E) → P → OnErr r P
+on_err (Ok x) h = tt
+on_err (Err e) h = h
+
+pub returns-in_err-os-in-len2-clause-no_command : goal.returns-in_err-os-in-len2-clause-no_command
+returns-in_err-os-in-len2-clause-no_command c = on_err c.from_residual.result (λ command e.
+    let unnamed = subst (λ named. IfNone named ((os : Os) → ¬ (c.as_str.result.now ≡ os_word os))) c.in_err-os-in-len2.ensures.ok_part c.named.ensures.none in
+    let words = two_words string_bytes c.args.words.now _ _ _ _ c.in-len2.len_at_least c.in-len2.len_below c.name-item.is c.os-item.is refl (sym c.as_str.ensures.value) in
+    unnamed (os_of command) (second_is_os command _ (sym words ∙ e)))
+
+pub returns-in_err-os-in-len3-clause-no_command : goal.returns-in_err-os-in-len3-clause-no_command
+returns-in_err-os-in-len3-clause-no_command c = on_err c.from_residual-in_err-os-in-len3.result (λ command e.
+    let unnamed = subst (λ named. IfNone named ((os : Os) → ¬ (c.as_str-in-len3.result.now ≡ os_word os))) c.in_err-os-in-len3.ensures.ok_part c.named-in-len3.ensures.none in
+    let words = three_words string_bytes c.args.words.now _ _ _ _ _ _ c.in-len3.len_at_least c.in-len3.len_below c.name-item-then-words-lt4.is c.os-item-then-words-lt4.is c.pattern-item.is refl (sym c.as_str-in-len3.ensures.value) refl in
+    unnamed (os_of command) (second_is_os command _ (sym words ∙ e)))

@@ -9,6 +9,7 @@ invariant-loop-last g l = record {
       IsUpTo (passing (g.N.Refusals.passed l.refusals) (g.T.ListTask.rules l.task)) (record { begun = l.fn.begun.items; count = l.count; output = l.fn.output.items }) l.block l.rest
       (record { begun = l.begun.items; count = l.ended; output = l.output.items });
   more : g.N.Refusals.passed l.fn.refusals ≤ g.N.Refusals.passed l.refusals;
+  memory : g.T.ListTask.remembers l.task l.memory;
 }
 
 abbrev pub decreases-loop-last : goal.decreases-loop-last

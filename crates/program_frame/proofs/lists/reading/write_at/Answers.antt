@@ -1,4 +1,4 @@
-use Rattle.std.proofs.Common.{inr, [], refl, sym, ◌∙◌, subst, append-nil}
+use Rattle.std.proofs.Common.{inl, inr, [], refl, sym, ◌∙◌, subst, append-nil, arith}
 use Rattle.program_frame.specs.Rules.{IsItemFault}
 use Rattle.program_frame.proofs.lists.reading.write_at.Goals as goal
 
@@ -6,3 +6,44 @@ pub returns-then-passes-clause-ok : goal.returns-then-passes-clause-ok
 returns-then-passes-clause-ok g c =
     let refused = subst (IsItemFault (g.T.ListTask.rules c.args.task.now) c.args.item.now) c.in-Err-Refused.field-0-is c.in-Err-Refused.ensures.fault in
     ([], (inr (c.passes.ensures.some c.if-passes.true, (refl, (c.in-Err-Refused.why, refused))), c.in-Err-Refused.ensures.unchanged ∙ sym (append-nil c.args.output.now.items)))
+
+pub returns-in-Ok : goal.returns-in-Ok
+returns-in-Ok g c =
+    let text = c.in-Ok.ensures.ok in record {
+      ok = (text.0, (inl text.1.0, text.1.1));
+      fault = tt;
+      unchanged = tt;
+      more = omega arith;
+      ends = tt;
+      memory = c.in-Ok.ensures.memory;
+    }
+
+pub returns-else-passes : goal.returns-else-passes
+returns-else-passes g c = record {
+  ok = tt;
+  fault = (refl, (c.requires.short, subst (IsItemFault (g.T.ListTask.rules c.args.task.now) c.args.item.now) c.in-Err-Refused.field-0-is c.in-Err-Refused.ensures.fault));
+  unchanged = c.in-Err-Refused.ensures.unchanged;
+  more = c.passes.ensures.more;
+  ends = c.passes.ensures.ends c.if-passes.false;
+  memory = c.in-Err-Refused.ensures.memory;
+}
+
+pub returns-in-Err-TooLong : goal.returns-in-Err-TooLong
+returns-in-Err-TooLong g c = record {
+  ok = tt;
+  fault = (refl, (c.max.ensures, inr (subst (IsItemFault (g.T.ListTask.rules c.args.task.now) c.args.item.now) c.in-Err-TooLong.field-0-is c.in-Err-TooLong.ensures.fault)));
+  unchanged = c.in-Err-TooLong.ensures.unchanged;
+  more = omega arith;
+  ends = tt;
+  memory = c.in-Err-TooLong.ensures.memory;
+}
+
+pub returns-in-Err-Memory : goal.returns-in-Err-Memory
+returns-in-Err-Memory g c = record {
+  ok = tt;
+  fault = refl;
+  unchanged = c.in-Err-Memory.ensures.unchanged;
+  more = omega arith;
+  ends = tt;
+  memory = c.in-Err-Memory.ensures.memory;
+}

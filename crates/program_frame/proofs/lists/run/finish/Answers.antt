@@ -28,6 +28,7 @@ returns-then-is_empty g c =
       marked = (λ e. absurd (no_err e), λ set. absurd (false≢true (sym c.requires.unmarked ∙ set)));
       more = omega arith;
       ends = tt;
+      memory = c.requires.memory;
     }
 
 pub returns : goal.returns
@@ -43,6 +44,7 @@ returns g c =
       marked = (λ e. absurd (write_no_memory (refused Write e)), λ set. absurd (false≢true (sym c.requires.unmarked ∙ set)));
       more = c.in-Err.ensures.more;
       ends = c.in-Err.ensures.ends;
+      memory = c.in-Err.ensures.memory;
     }
 
 pub returns-in-Ok : goal.returns-in-Ok
@@ -66,4 +68,5 @@ returns-in-Ok g c =
       marked = written.marked;
       more = c.in-Ok.ensures.more;
       ends = IfErr-weaker c.write_output.result _ _ (λ fault is. subst (EndsRun (g.N.Refusals.stops)) (sym is) tt) written.fault;
+      memory = c.in-Ok.ensures.memory;
     }

@@ -10,6 +10,7 @@ invariant-loop-alloc g l = record {
   within : l.total + 1 < 2 ^ 64;
   reader_unmarked : has_failed l.reader ≡ false;
   writer_unmarked : has_failed l.writer ≡ false;
+  memory : g.T.ListTask.remembers l.task l.memory;
 }
 
 abbrev pub decreases-loop-alloc : goal.decreases-loop-alloc

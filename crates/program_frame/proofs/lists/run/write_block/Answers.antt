@@ -31,6 +31,7 @@ returns-in-Ok g c =
       marked = (λ e. absurd (write_no_memory (refused Write e)), λ set. absurd (no_err (c.in-Ok.ensures.marked.1 set)));
       more = read.more;
       ends = read.ends;
+      memory = read.memory;
     }
 
 pub returns : goal.returns
@@ -50,4 +51,5 @@ returns g c =
       marked = (λ e. c.in-Err.ensures.marked.0 (other_err ℕ ⊤ _ _ e), λ set. other_err ⊤ ℕ _ _ (c.in-Err.ensures.marked.1 set));
       more = read.more;
       ends = subst (EndsRun (g.N.Refusals.stops)) (sym c.in-Err.ensures.fault) tt;
+      memory = read.memory;
     }

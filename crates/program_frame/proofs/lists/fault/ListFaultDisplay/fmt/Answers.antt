@@ -1,5 +1,6 @@
 use Rattle.std.proofs.Common.{true, refl, sym, ap}
 use Rattle.std.proofs.Output.{has_written_styled_append, has_written_styled_of_eq}
+use Rattle.os_args.proofs.lemmas.Plain.{plainly}
 use Rattle.program_frame.specs.ListFault.{text_of}
 use Rattle.program_frame.proofs.lists.fault.ListFaultDisplay.fmt.Goals as goal
 
@@ -22,3 +23,12 @@ returns-in_ok-write_index-in-Unended-clause-styled g c = λ flush ok.
     let head = c.in_ok-write_index-in-Unended.ensures flush (refl {a = true}) in
     let end = c.write_str-in-Unended.ensures.styled head.flush ok in
     has_written_styled_of_eq _ _ _ _ _ (sym (ap (text_of g.F.ItemRefusal.item g.F.ItemRefusal.text_of) c.in-Unended.is)) (has_written_styled_append _ _ _ _ _ _ head end)
+
+pub returns-in_ok-write_index-in-Refused-clause-writes : goal.returns-in_ok-write_index-in-Refused-clause-writes
+returns-in_ok-write_index-in-Refused-clause-writes g c = λ plain ok. plainly plain (returns-in_ok-write_index-in-Refused-clause-styled g c plain.flush ok)
+
+pub returns-in_ok-write_number-in-TooLong-clause-writes : goal.returns-in_ok-write_number-in-TooLong-clause-writes
+returns-in_ok-write_number-in-TooLong-clause-writes g c = λ plain ok. plainly plain (returns-in_ok-write_number-in-TooLong-clause-styled g c plain.flush ok)
+
+pub returns-in_ok-write_index-in-Unended-clause-writes : goal.returns-in_ok-write_index-in-Unended-clause-writes
+returns-in_ok-write_index-in-Unended-clause-writes g c = λ plain ok. plainly plain (returns-in_ok-write_index-in-Unended-clause-styled g c plain.flush ok)
