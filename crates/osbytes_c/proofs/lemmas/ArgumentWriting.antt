@@ -3,7 +3,7 @@ use Rattle.std.proofs.Common.{◌≡◌, ◌≢◌, ℕ, ◌+◌, Bool, true, fa
 use Rattle.std.proofs.lemmas.List.{replicate_more, length-replicate}
 use Rattle.wtf8_core.specs.Truncated.{IsTruncated}
 use Rattle.platform_str.specs.BufferSink.{Pushes}
-use Rattle.os_quote.proofs.lemmas.Pushing.{push_both, push_nothing, push_same, pushed_all}
+use Rattle.platform_str.proofs.lemmas.Pushing.{push_both, push_nothing, push_same, pushed_all}
 use Rattle.os_command_line.specs.Windows.{backslash, quote, backslashes, IsTextOf, IsPlain}
 use Rattle.os_command_line.specs.WindowsWriting.{IsWritten}
 use Rattle.os_command_line.proofs.lemmas.WindowsWriting.{begun, written_on, written_quoted, written_bare, plain_written}

@@ -3,7 +3,7 @@ use Rattle.std.proofs.Common.{◌≡◌, ℕ, ◌+◌, ◌*◌, ◌^◌, ◌≤�
 use Rattle.wtf8_core.specs.Truncated.{IsTruncated}
 use Rattle.wtf8_core.proofs.lemmas.buffers.Truncated.{none_yet}
 use Rattle.platform_str.specs.BufferSink.{Pushes}
-use Rattle.os_quote.proofs.lemmas.Pushing.{pushed_all}
+use Rattle.platform_str.proofs.lemmas.Pushing.{pushed_all}
 use Rattle.wtf8_core.specs.Wtf8.{IsWtf8}
 use Rattle.wtf8_core.specs.UnitsOf.{units_of}
 use Rattle.os_command_line.specs.Shell as shell

@@ -1,6 +1,6 @@
 use Rattle.std.proofs.Common.{length, ◌∙◌, ap, length-append, arith}
 use Rattle.os_command_line.specs.ShellViews.{word_bytes}
-use Rattle.os_quote.proofs.lemmas.Pushing.{nothing_pushed, one_pushed, all_pushed, push_both, PushesRest}
+use Rattle.platform_str.proofs.lemmas.Pushing.{nothing_pushed, one_pushed, all_pushed, push_both, PushesRest}
 use Rattle.std.proofs.Common.{subst, sym}
 use Rattle.osbytes_c.proofs.lines.shell_words.push_word.Goals as goal
 

@@ -1,5 +1,5 @@
 use Rattle.os_command_line.specs.ShellViews.{word_bytes}
-use Rattle.os_quote.proofs.lemmas.Pushing.{PushesRest}
+use Rattle.platform_str.proofs.lemmas.Pushing.{PushesRest}
 use Rattle.osbytes_c.proofs.lines.shell_words.push_word.Given as goal
 
 -- the bytes so far

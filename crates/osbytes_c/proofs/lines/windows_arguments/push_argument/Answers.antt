@@ -1,6 +1,6 @@
 use Rattle.std.proofs.Common.{length, ◌∙◌, ap, length-append, arith, subst, sym}
 use Rattle.os_command_line.specs.WindowsViews.{argument_units}
-use Rattle.os_quote.proofs.lemmas.Pushing.{nothing_pushed, one_pushed, all_pushed, push_both, PushesRest}
+use Rattle.platform_str.proofs.lemmas.Pushing.{nothing_pushed, one_pushed, all_pushed, push_both, PushesRest}
 use Rattle.osbytes_c.proofs.lines.windows_arguments.push_argument.Goals as goal
 
 pub loop-unit-init : goal.loop-unit-init

@@ -1,5 +1,5 @@
 use Rattle.os_command_line.specs.WindowsViews.{argument_units}
-use Rattle.os_quote.proofs.lemmas.Pushing.{PushesRest}
+use Rattle.platform_str.proofs.lemmas.Pushing.{PushesRest}
 use Rattle.osbytes_c.proofs.lines.windows_arguments.push_argument.Given as goal
 
 -- the units so far

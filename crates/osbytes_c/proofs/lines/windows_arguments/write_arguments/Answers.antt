@@ -1,5 +1,5 @@
 use Rattle.std.proofs.Common.{◌∷◌, ◌++◌, [], ap}
-use Rattle.os_quote.proofs.lemmas.Pushing.{push_same}
+use Rattle.platform_str.proofs.lemmas.Pushing.{push_same}
 use Rattle.os_command_line.specs.WindowsViews.{argument_units}
 use Rattle.osbytes_c.proofs.lemmas.Lines.{name_written, one_more_argument, all_arguments}
 use Rattle.osbytes_c.proofs.lines.windows_arguments.write_arguments.Goals as goal

@@ -1,6 +1,6 @@
 use Rattle.std.proofs.Common.{[], ◌∷◌, length, ◌∙◌, ap, length-append, arith}
 use Rattle.platform_str.specs.Strings.{bytes}
-use Rattle.os_quote.proofs.lemmas.Pushing.{one_pushed, all_pushed, push_both, pushed_all}
+use Rattle.platform_str.proofs.lemmas.Pushing.{one_pushed, all_pushed, push_both, pushed_all}
 use Rattle.os_command_line.proofs.lemmas.WindowsStrings.{units_fit}
 use Rattle.osbytes_c.proofs.lines.windows_name.write_name.Goals as goal
 

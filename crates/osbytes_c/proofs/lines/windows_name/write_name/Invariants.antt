@@ -1,7 +1,7 @@
 use Rattle.std.proofs.Common.{◌∷◌}
 use Rattle.wtf8_core.specs.UnitsOf.{units_of}
 use Rattle.platform_str.specs.Strings.{bytes}
-use Rattle.os_quote.proofs.lemmas.Pushing.{PushesRest}
+use Rattle.platform_str.proofs.lemmas.Pushing.{PushesRest}
 use Rattle.osbytes_c.proofs.lines.windows_name.write_name.Given as goal
 
 -- the quotation mark and the units so far

@@ -1,5 +1,5 @@
 use Rattle.std.proofs.Common.{[], ◌∷◌, ◌++◌, ◌+◌, arith}
-use Rattle.os_quote.proofs.lemmas.Pushing.{push_both}
+use Rattle.platform_str.proofs.lemmas.Pushing.{push_both}
 use Rattle.os_command_line.specs.Windows.{backslashes}
 use Rattle.os_command_line.proofs.lemmas.WindowsWriting.{added_slash, added_quote, added_literal}
 use Rattle.osbytes_c.proofs.lemmas.ArgumentWriting.{slashes}
