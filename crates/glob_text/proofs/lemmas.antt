@@ -9,7 +9,6 @@ pub mod Folding
 pub mod Meanings
 pub mod Names
 pub mod Pieces
-pub mod Readings
 pub mod Sizes
 pub mod Nodes
 pub mod OneMeaning

@@ -9,7 +9,7 @@ use Rattle.glob_text.specs.declared.class_text.ClassLetter.{ClassLetter}
 use Rattle.glob_text.specs.declared.class_text.Before.{Before}
 use Rattle.glob_text.specs.declared.class_text.Before.TheVariants.{First, From, Nothing}
 use Rattle.wildcards.specs.ClassName.{name_text, all_names, name_ranges, range}
-use Rattle.glob_text.specs.Reading.{ReadsLists}
+use Rattle.wildcards.specs.Items.{ReadsLists}
 
 -- the letter, and not quoted
 abbrev pub is_plain : ClassLetter → ℕ → Bool

@@ -1,4 +1,3 @@
-pub mod Reading
 pub mod Symbols
 pub mod ClassText
 pub mod ClassSteps

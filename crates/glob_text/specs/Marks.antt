@@ -11,7 +11,7 @@ use Rattle.glob_text.specs.declared.mark.Kind.TheVariants.{Quote, Star, Question
 use Rattle.glob_text.specs.declared.mark.Mark as declared
 use Rattle.glob_text.specs.declared.mark.Mark.TheVariants as variant
 use Rattle.glob_text.specs.ClassText.{IsClass, IsClassFault}
-use Rattle.glob_text.specs.Reading.{Reads}
+use Rattle.wildcards.specs.Items.{Reads}
 use Rattle.glob_text.specs.Symbols.{begins_with}
 
 -- what a pattern is written with: a letter that matches itself; `?`; `*`, and whether another comes right after it; a class, whether it is negated, and its ranges; `{` and `}`, and their byte indices; a comma

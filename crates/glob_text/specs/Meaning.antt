@@ -9,8 +9,9 @@ use Rattle.wildcards.specs.Components.{components, is_hidden}
 use Rattle.wildcards.specs.Match.{TakesComponent, TakesLetter}
 use Rattle.wildcards.specs.Ranges.{permits}
 use Rattle.wildcards.specs.Wild.{Wild}
+use Rattle.wildcards.specs.Groups.{group}
 use Rattle.glob_text.specs.Marks.{Mark, literal, any, star, one_of, opens, comma, closes}
-use Rattle.glob_text.specs.Parts.{is_separator, is_deep, group}
+use Rattle.glob_text.specs.Parts.{is_separator, is_deep}
 
 -- the mark, which isn't `*`, matches the letter
 abbrev pub FitsMark : Mark → ℕ → Type 0

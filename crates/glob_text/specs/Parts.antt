@@ -13,7 +13,8 @@ use Rattle.wildcards.specs.Classes.{permitted}
 use Rattle.wildcards.specs.Components.{separates}
 use Rattle.wildcards.specs.Ranges.{permits}
 use Rattle.glob_text.specs.Marks.{Mark, literal, any, star, one_of, opens, comma, closes}
-use Rattle.glob_text.specs.Reading.{Reads, ReadsLists}
+use Rattle.wildcards.specs.Groups.{group}
+use Rattle.wildcards.specs.Items.{Reads, ReadsLists}
 
 -- the mark separates components
 abbrev pub is_separator : Separators → Mark → Bool
@@ -64,12 +65,6 @@ module _ (o : Separators) where
   abbrev pub EndsPart : List Mark → Option (List Mark) → Type 0
   EndsPart left None = left ≡ []
   EndsPart left (Some rest) = (m : Mark) × (left ≡ m ∷ rest) × (is_separator o m ≡ true)
-
--- what a part is: `**` any number of components before a separator, and else one or more
-abbrev pub group : {X : Type 0} → Bool → Bool → X → List (Piece X)
-group false joined part = One part ∷ []
-group true true part = Many ∷ []
-group true false part = Many ∷ One part ∷ []
 
 module _ {A : Type 0} where
   -- what a mark is in the compiled pattern

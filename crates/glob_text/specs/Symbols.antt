@@ -2,7 +2,7 @@
 use Rattle.std.specs.Prelude.{◌≡◌, ◌+◌, ℕ, Bool, false, nat_eq, List, [], ◌∷◌, length}
 use Rattle.wildcards.specs.Reading.{IsFirstLetter}
 use Rattle.glob_text.specs.declared.symbol.Symbol.{Symbol}
-use Rattle.glob_text.specs.Reading.{Reads}
+use Rattle.wildcards.specs.Items.{Reads}
 
 module _ (formed : List ℕ → Type 0) (letters : List ℕ → List ℕ) (text : List ℕ) where
   -- what is left of the text begins with the symbol: its letter, and its byte index in the text

@@ -2,13 +2,13 @@
 ghost use Rattle.std.specs.Prelude.{◌≡◌, ◌++◌, ◌<◌, ◌+◌, map, length, None, IfOk};
 ghost use Rattle.glob_text.specs.Marks.{mark_of};
 ghost use Rattle.glob_text.specs.Chosen.{mark_at, marks_at, choices_of};
-ghost use Rattle.glob_text.specs.Parts.{is_separator, is_star, is_doubled, ends_part, ends_deep, is_deep, group, IsPieceOf, IsPart, IsCompiled, AreCompiled};
+ghost use Rattle.glob_text.specs.Parts.{is_separator, is_star, is_doubled, ends_part, ends_deep, is_deep, IsPieceOf, IsPart, IsCompiled, AreCompiled};
 ghost use Rattle.glob_text.specs.PartSteps.{rest_of, rest_size, ArePieces, IsPieceAt, IsPieceClone};
 
 use crate::choices::Chosen;
 use crate::mark::Mark;
 use std::alloc::{AllocError, Allocator};
-use wildcards::{Choice, Class, Item, Part, Piece, Separators};
+use wildcards::{Choice, Class, Item, Part, Piece, Separators, push_group};
 
 impl<A: Allocator> Mark<A> {
     /// Whether it separates components.
@@ -203,29 +203,6 @@ fn read_part<'t, A: Allocator + Copy>(
         left = rest;
     }
     Ok((Part::new(alloc, own)?, None))
-}
-
-/// Appends a part to a pattern: `**` before a separator takes any number of components, and else
-/// one or more.
-fn push_group<A: Allocator>(
-    pattern: &mut Vec<Piece<Part<A>>, A>,
-    part: Part<A>,
-    deep: bool,
-    joined: bool,
-) -> Result<(), AllocError>
-    ensures { IfOk result
-        (λ _. pattern.new.items ≡ pattern.old.items ++ group deep joined part) }
-{
-    if !deep {
-        pattern.push(Piece::One(part))?;
-        return Ok(());
-    }
-    pattern.push(Piece::Many)?;
-    if joined {
-        return Ok(());
-    }
-    pattern.push(Piece::One(part))?;
-    Ok(())
 }
 
 /// Compiles the marks of these indices.

@@ -5,14 +5,12 @@ pub mod Bodies
 pub mod Classes
 pub mod Cuts
 pub mod Escaped
-pub mod Groups
 pub mod LineReadings
 pub mod Nameless
 pub mod OneMeaning
 pub mod OneReading
 pub mod OneVerdict
 pub mod Parts
-pub mod Readings
 pub mod Rests
 pub mod SameFiles
 pub mod Tags

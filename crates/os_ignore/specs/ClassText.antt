@@ -11,7 +11,7 @@ use Rattle.os_ignore.specs.declared.class_text.Before.{Before}
 use Rattle.os_ignore.specs.declared.class_text.Before.TheVariants.{First, Byte, Nothing}
 use Rattle.os_ignore.specs.Class.{permits}
 use Rattle.os_ignore.specs.Letters.{is_plain}
-use Rattle.os_ignore.specs.Reading.{Reads}
+use Rattle.wildcards.specs.Items.{Reads}
 
 -- what comes after the bytes, where the letters begin with them and none is quoted
 abbrev pub after_text : List ℕ → List Letter → Option (List Letter)

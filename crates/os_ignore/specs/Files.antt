@@ -6,8 +6,7 @@ use Rattle.os_ignore.specs.declared.line.Line.{Line}
 use Rattle.os_ignore.specs.declared.reason.NoPattern.{NoPattern}
 use Rattle.os_ignore.specs.Components.{pieces}
 use Rattle.os_ignore.specs.Lines.{IsLine, IsLineOf, SaysNothing, LettersSayNothing}
-use Rattle.os_ignore.specs.PatternText.{concat_of}
-use Rattle.os_ignore.specs.Reading.{Reads}
+use Rattle.wildcards.specs.Items.{ReadsLists}
 
 -- the file without the byte order mark that it may begin with
 abbrev pub without_mark : List ℕ → List ℕ
@@ -75,10 +74,8 @@ module _ {A : Type 0} (folds : Bool) where
 
   -- the lines of the file that are patterns: lines end at line feeds, and are numbered from 1
   pub record AreLines (file : List ℕ) (lines : List (Line A)) : Type 0 where
-    pub groups : List (List (Line A))
     pub count : ℕ
-    pub read : Reads IsLineRead (1, pieces 0xA (without_mark file)) groups (count, [])
-    pub joined : lines ≡ concat_of groups
+    pub read : ReadsLists IsLineRead (1, pieces 0xA (without_mark file)) lines (count, [])
 
 -- why what was read is no pattern
 abbrev pub reason_of : {A : Type 0} → Result (Line A) NoPattern → Option NoPattern

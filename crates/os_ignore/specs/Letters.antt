@@ -4,7 +4,7 @@ use Rattle.std.specs.Char.{to_ascii_lowercase}
 use Rattle.os_ignore.specs.declared.letter.Letter.{Letter}
 use Rattle.os_ignore.specs.declared.letter.Kind.{Kind}
 use Rattle.os_ignore.specs.declared.letter.Kind.TheVariants.{Slash, Star, Question, Bracket, Literal}
-use Rattle.os_ignore.specs.Reading.{Reads}
+use Rattle.wildcards.specs.Items.{Reads}
 
 -- a byte as a file compares it. A file that folds is read without regard to case (git's core.ignorecase): it compares a capital of ASCII as its small letter
 abbrev pub folded : Bool → ℕ → ℕ

@@ -10,7 +10,6 @@ pub mod Letters
 pub mod Lines
 pub mod Matching
 pub mod PatternText
-pub mod Reading
 pub mod Tags
 pub mod Verdicts
 pub mod Walks

@@ -17,7 +17,8 @@ use Rattle.os_ignore.specs.declared.pattern.After.{After}
 use Rattle.os_ignore.specs.declared.pattern.After.TheVariants as after
 use Rattle.os_ignore.specs.ClassText.{IsClass, IsBrokenClass}
 use Rattle.os_ignore.specs.Letters.{kind_of, own_byte}
-use Rattle.os_ignore.specs.Reading.{Reads}
+use Rattle.wildcards.specs.Groups.{group}
+use Rattle.wildcards.specs.Items.{Reads, ReadsLists}
 
 -- the letter and what comes after it begin a class, but not one that is written right
 abbrev pub IsBrokenPiece : Letter → List Letter → Type 0
@@ -48,11 +49,6 @@ abbrev pub text_of : Option (Bor (List Letter)) → Option (List Letter)
 text_of None = None
 text_of (Some rest) = Some rest.now
 
--- the lists one after the other
-abbrev pub concat_of : {X : Type 0} → List (List X) → List X
-concat_of [] = []
-concat_of (x ∷ xs) = x ++ concat_of xs
-
 module _ {A : Type 0} where
   -- the item fits the bytes whose small letter is this one
   abbrev pub FitsCases : ℕ → Item A → Type 0
@@ -72,12 +68,6 @@ module _ {A : Type 0} where
   -- a part of two stars or more, and nothing else
   abbrev pub is_deep : List (Piece (Item A)) → Bool
   is_deep pieces = nat_le 2 (length pieces) && all_stars pieces
-
-  -- what a part is in a pattern: `**` any number of components before a slash that isn't quoted, and else one or more
-  abbrev pub group : Bool → Bool → Part A → List (Piece (Part A))
-  group false joined part = One part ∷ []
-  group true true part = Many ∷ []
-  group true false part = Many ∷ One part ∷ []
 
 module _ {A : Type 0} (folds : Bool) where
   -- a letter, by its kind, and what comes after it are a piece, and what comes after that
@@ -99,7 +89,7 @@ module _ {A : Type 0} (folds : Bool) where
     pub read : Reads IsPiece text pieces left
     pub ends : EndsPart left after
 
-  -- a part is read, and what it is in the pattern
+  -- a part is read, and what it is in the pattern: a slash that isn't quoted joins it to the next
   pub record IsGroup (text : List Letter) (pieces : List (Piece (Part A))) (left : Option (List Letter)) : Type 0 where
     pub part : Part A
     pub after : After
@@ -113,10 +103,8 @@ module _ {A : Type 0} (folds : Bool) where
   NextGroup (Some text) pieces left = IsGroup text pieces left
 
   -- the pattern that the text is
-  pub record IsPattern (text : List Letter) (pattern : List (Piece (Part A))) : Type 0 where
-    pub groups : List (List (Piece (Part A)))
-    pub read : Reads NextGroup (Some text) groups None
-    pub joined : pattern ≡ concat_of groups
+  abbrev pub IsPattern : List Letter → List (Piece (Part A)) → Type 0
+  IsPattern text pattern = ReadsLists NextGroup (Some text) pattern None
 
 module _ (folds : Bool) (A : Type 0) where
   -- a class in the first part isn't written right

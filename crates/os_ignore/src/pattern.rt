@@ -3,12 +3,12 @@ ghost use Rattle.std.specs.Prelude.{◌≡◌, ◌++◌, ◌<◌, ◌≤◌, ◌
 ghost use Rattle.wildcards.specs.declared.piece.Piece.TheVariants.{One};
 ghost use Rattle.os_ignore.specs.Components.{left_size};
 ghost use Rattle.os_ignore.specs.Letters.{kind_of};
-ghost use Rattle.os_ignore.specs.PatternText.{PieceAt, FitsCases, IsLiteral, IsBrokenPiece, IsPart, IsBrokenPart, is_deep, all_stars, group, is_joined, IsPattern, IsBrokenPattern, left_after};
+ghost use Rattle.os_ignore.specs.PatternText.{PieceAt, FitsCases, IsLiteral, IsBrokenPiece, IsPart, IsBrokenPart, is_deep, all_stars, is_joined, IsPattern, IsBrokenPattern, left_after};
 
 use crate::class_text::read_class;
 use crate::letter::{Kind, Letter};
 use std::alloc::{AllocError, Allocator};
-use wildcards::{Item, Part, Piece};
+use wildcards::{Item, Part, Piece, push_group};
 
 /// What comes after a part.
 #[derive(Clone, Copy)]
@@ -132,29 +132,6 @@ fn is_deep<A: Allocator>(pieces: &[Piece<Item<A>>]) -> bool
     ensures { result ≡ is_deep pieces.now }
 {
     pieces.len() >= 2 && all_stars(pieces)
-}
-
-/// Appends a part to a pattern: `**` before a slash that isn't quoted takes any number of components,
-/// and else one or more.
-fn push_group<A: Allocator>(
-    pattern: &mut Vec<Piece<Part<A>>, A>,
-    part: Part<A>,
-    deep: bool,
-    joined: bool,
-) -> Result<(), AllocError>
-    ensures { IfOk result (λ _. pattern.new.items
-        ≡ pattern.old.items ++ group deep joined part) }
-{
-    if !deep {
-        pattern.push(Piece::One(part))?;
-        return Ok(());
-    }
-    pattern.push(Piece::Many)?;
-    if joined {
-        return Ok(());
-    }
-    pattern.push(Piece::One(part))?;
-    Ok(())
 }
 
 /// Reads a pattern; `None` where a class in it isn't one.

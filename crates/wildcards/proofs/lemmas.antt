@@ -16,3 +16,4 @@ pub mod AnyWith
 pub mod Adding
 pub mod Orders
 pub mod Beginnings
+pub mod Items

@@ -7,6 +7,8 @@ pub mod Literals
 pub mod Reading
 pub mod ByteLetters
 pub mod Match
+pub mod Items
+pub mod Groups
 pub mod Cuts
 pub mod Steps
 pub mod Ends

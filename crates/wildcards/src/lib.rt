@@ -15,6 +15,7 @@ mod component;
 mod digest;
 mod enough;
 mod filter;
+mod group;
 mod hidden;
 mod indices;
 mod key;
@@ -33,6 +34,7 @@ mod set;
 
 pub use class::Class;
 pub use class_name::ClassName;
+pub use group::push_group;
 pub use letters::{Bytes, Letters};
 pub use options::Options;
 pub use part::Part;

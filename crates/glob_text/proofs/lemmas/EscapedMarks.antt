@@ -22,7 +22,7 @@ use Rattle.glob_text.specs.Marks.{Mark, literal, one_of, is_quoting, kind_of, Ma
 use Rattle.glob_text.specs.Meaning.{FitsMark, mark_piece, begins_dotted}
 use Rattle.wildcards.specs.ClassName.{range}
 use Rattle.glob_text.specs.Parts.{is_separator, is_doubled}
-use Rattle.glob_text.specs.Reading.{Reads, concat_of}
+use Rattle.wildcards.specs.Items.{Reads, concat_of}
 use Rattle.glob_text.proofs.lemmas.EscapedLetters.{special, plain_letter, special_letter}
 
 -- the mark matches this letter alone

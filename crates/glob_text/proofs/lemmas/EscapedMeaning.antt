@@ -18,8 +18,9 @@ use Rattle.glob_text.specs.Escape.{escaped, HasOneSpelling, IsPatternOf}
 use Rattle.glob_text.specs.Folded.{AreCased, IsFolded, IsFoldedLetter}
 use Rattle.glob_text.specs.Marks.{Mark, literal, any, star, one_of, opens, comma, closes, is_quoting}
 use Rattle.glob_text.specs.Meaning.{FitsMark, FitsMarks, MatchesWrittenOut, are_some, begins_dotted, mark_piece, part_pieces}
-use Rattle.glob_text.specs.Parts.{is_separator, is_deep, ends_deep, group as grouped}
-use Rattle.glob_text.specs.Reading.{Reads}
+use Rattle.glob_text.specs.Parts.{is_separator, is_deep, ends_deep}
+use Rattle.wildcards.specs.Groups.{group as grouped}
+use Rattle.wildcards.specs.Items.{Reads}
 use Rattle.glob_text.specs.Symbols.{IsSymbol}
 use Rattle.glob_text.specs.Texts.{IsSymbolsFault, IsChoiceFault, AreWrittenOut}
 use Rattle.glob_text.proofs.lemmas.EscapedLetters.{escaped_letters}

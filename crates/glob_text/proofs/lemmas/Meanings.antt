@@ -17,8 +17,9 @@ use Rattle.wildcards.specs.Sets.{MatchesChoice}
 use Rattle.wildcards.specs.Wild.{Wild}
 use Rattle.glob_text.specs.Marks.{Mark, literal, any, star, one_of, opens, comma, closes}
 use Rattle.glob_text.specs.Meaning.{FitsMark, FitsMarks, MatchesMarks, MatchesWrittenOut, are_some, begins_dotted, mark_piece, part_pieces}
-use Rattle.glob_text.specs.Parts.{AreCompiled, EndsPart, IsCompiled, IsPiece, IsPieceOf, NextGroup, ends_deep, ends_part, group, is_deep, is_doubled, is_separator, is_star}
-use Rattle.glob_text.specs.Reading.{Reads, concat_of}
+use Rattle.glob_text.specs.Parts.{AreCompiled, EndsPart, IsCompiled, IsPiece, IsPieceOf, NextGroup, ends_deep, ends_part, is_deep, is_doubled, is_separator, is_star}
+use Rattle.wildcards.specs.Groups.{group}
+use Rattle.wildcards.specs.Items.{Reads, concat_of}
 
 -- pieces that are alike, one after the other
 module _ {X Y : Type 0} (R : X → Y → Type 0) where

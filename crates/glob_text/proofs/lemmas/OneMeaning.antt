@@ -20,8 +20,9 @@ use Rattle.glob_text.specs.ClassText.{IsClass, IsMember, closed, member, member_
 use Rattle.glob_text.specs.Folded.{AreCased, AreFolded, IsFolded, IsFoldedLetter}
 use Rattle.glob_text.specs.Marks.{Mark, literal, any, star, one_of, opens, comma, closes, is_quoting, kind_of, AreMarks, IsMark, MarkAt}
 use Rattle.glob_text.specs.Meaning.{FitsMark, FitsMarks, MatchesMarks, MatchesWrittenOut, are_some, begins_dotted, mark_piece, part_pieces}
-use Rattle.glob_text.specs.Parts.{ends_deep, ends_part, group as grouped, is_deep, is_doubled, is_separator, is_star}
-use Rattle.glob_text.specs.Reading.{Reads, concat_of}
+use Rattle.glob_text.specs.Parts.{ends_deep, ends_part, is_deep, is_doubled, is_separator, is_star}
+use Rattle.wildcards.specs.Groups.{group as grouped}
+use Rattle.wildcards.specs.Items.{Reads, concat_of}
 use Rattle.glob_text.specs.Symbols.{IsSymbol}
 use Rattle.glob_text.specs.Texts.{AreWrittenOut}
 use Rattle.glob_text.proofs.lemmas.Backwards.{one_list}

@@ -6,8 +6,7 @@ use Rattle.std.specs.List.{AllByRecursion, slice_get}
 use Rattle.os_ignore.specs.Components.{pieces}
 use Rattle.os_ignore.specs.Files.{AreLines, IsLineRead, IsNextLine, NoTextAt, SaysLine, list_of, without_mark}
 use Rattle.os_ignore.specs.Ignores.{FileHasNoText, HasNoText, IsAdded}
-use Rattle.os_ignore.specs.PatternText.{concat_of}
-use Rattle.os_ignore.specs.Reading.{Reads}
+use Rattle.wildcards.specs.Items.{Reads, concat_of}
 use Rattle.os_ignore.specs.Verdicts as rule
 use Rattle.os_ignore.specs.Verdicts.{Decides, IsOwn, IsVerdict}
 use Rattle.os_ignore.specs.declared.file.File.{File}
@@ -75,7 +74,7 @@ module _ {A : Type 0} where
         (each_line (number + 1) (front ++ line ∷ []) left gs end (joined ∙ sym (append_assoc front (line ∷ []) left)) (omega (arith, n, longer)) (subst (λ z. Reads (IsLineRead false) z gs end) h.left_is r.2))
 
     all_lines : (lines : List (Line A)) → AreLines false content lines → AllByRecursion (IsThere content) lines
-    all_lines lines a = subst (AllByRecursion (IsThere content)) (sym a.joined) (each_line 1 [] (lines_of content) a.groups (a.count, []) refl refl a.read)
+    all_lines lines a = subst (AllByRecursion (IsThere content)) (sym a.read.joined) (each_line 1 [] (lines_of content) a.read.lists (a.count, []) refl refl a.read.read)
 
   -- the file's number is below the count, and each of its lines is there
   abbrev IsOneOf : ℕ → File A → Type 0

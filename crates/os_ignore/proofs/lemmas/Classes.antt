@@ -16,12 +16,12 @@ use Rattle.os_ignore.specs.declared.class.Member.{Member}
 use Rattle.os_ignore.specs.declared.class.Member.TheVariants.{Single, Range as From, Named}
 use Rattle.os_ignore.specs.declared.class_text.Before.{Before}
 use Rattle.os_ignore.specs.declared.class_text.Before.TheVariants.{First}
-use Rattle.os_ignore.specs.Class.{is_named, is_upper, is_exactly, has_capital, is_member, is_in}
+use Rattle.os_ignore.specs.Class.{is_named, is_upper, is_exactly, has_capital, is_member, is_in, permits}
 use Rattle.wildcards.specs.ClassName.{smalls}
 use Rattle.os_ignore.specs.ClassSteps.{name_ranges, small_range, exact_ranges, small_ranges, member_ranges, both_cases, all_cases}
 use Rattle.os_ignore.specs.Letters.{folded}
-use Rattle.os_ignore.specs.ClassText.{IsMember, AreMembers, negation}
-use Rattle.os_ignore.proofs.lemmas.Readings.{more_items}
+use Rattle.os_ignore.specs.ClassText.{closed, member_at, negation, IsMember, AreMembers, IsClass}
+use Rattle.wildcards.proofs.lemmas.Items.{more_items}
 
 same_name : (name : ClassName) (b : ℕ) → ranges.is_in (name_ranges name) b ≡ is_named name b
 same_name Alnum b = grind (arith, nat_tests)
@@ -217,8 +217,13 @@ pub record SoFar (folds : Bool) (text : List Letter) (rs : List Range) (left : B
   pub same : (b : ℕ) → ranges.is_in rs b ≡ is_in folds members b
 
 module _ (folds : Bool) (text : List Letter) where
-  pub none_yet : SoFar folds text [] (First, (negation text).1)
-  none_yet = record { members = []; read = refl; same = λ b. refl }
+  pub none_yet : (rs : List Range) (negated : Bool) (body : List Letter) → rs ≡ [] → (negated, body) ≡ negation text
+      → SoFar folds text rs (First, body)
+  none_yet rs negated body e f = record {
+    members = [];
+    read = ap (λ p. (First, p.1)) (sym f);
+    same = λ b. ap (λ z. ranges.is_in z b) e;
+  }
 
   pub one_more : (rs : List Range) (left : Before × List Letter) (m : Member) (rest : Before × List Letter) (all : List Range) → SoFar folds text rs left → IsMember left m rest → all ≡ rs ++ member_ranges folds m → SoFar folds text all rest
   one_more rs left m rest all s i e = record {
@@ -230,3 +235,19 @@ module _ (folds : Bool) (text : List Letter) where
         ∙ ap (λ z. is_in folds s.members b || z) (same_member folds m b)
         ∙ sym (in_more folds s.members m b);
   }
+
+  -- what closes a class is read, and its ranges are compiled
+  pub whole_class : {A : Type 0} (class : Class A) (negated : Bool) (rs : List Range) (left : Before × List Letter)
+      (rest : List Letter) → SoFar folds text rs left → negated ≡ (negation text).0 → IsClassOf negated rs folds class
+      → member_at left.0 left.1 ≡ closed rest → IsClass folds text class rest
+  whole_class class negated rs left rest s n h e = record {
+    members = s.members;
+    left = left;
+    read = s.read;
+    ends = e;
+    compiled = λ b. h b ∙ same negated b ∙ ap (λ z. permits folds z s.members b) n;
+  }
+    where
+      same : (v : Bool) (b : ℕ) → ranges.permits v rs (folded folds b) ≡ permits folds v s.members b
+      same false b = s.same (folded folds b)
+      same true b = ap not (s.same (folded folds b))

@@ -18,7 +18,7 @@ use Rattle.os_ignore.specs.Letters.{AreLetters, is_plain, kind_of, escaped}
 use Rattle.os_ignore.specs.Lines.{IsTrimmed, IsBody, IsLineOf, IsLine, strip_first, has_slash, literal_prefix, after_literal}
 use Rattle.os_ignore.specs.Matching.{IsTarget, IsAfter, LineMatches, by_slashes}
 use Rattle.os_ignore.specs.PatternText.{PieceAt, IsPiece, IsPart, EndsPart, IsPattern, is_deep, all_stars}
-use Rattle.os_ignore.specs.Reading.{Reads}
+use Rattle.wildcards.specs.Items.{Reads}
 use Rattle.os_ignore.proofs.lemmas.OneReading.{same_letters}
 use Rattle.os_ignore.proofs.lemmas.OneMeaning.{same_body}
 use Rattle.os_ignore.proofs.lemmas.Parts.{one_piece}

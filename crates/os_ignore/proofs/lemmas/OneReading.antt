@@ -23,8 +23,9 @@ use Rattle.os_ignore.specs.Class.{permits}
 use Rattle.os_ignore.specs.ClassText.{IsMember, IsClass, IsBrokenClass, broken, closed, member, member_at, negation}
 use Rattle.os_ignore.specs.Letters.{BeginsWith, IsLetter, AreLetters, IsDangling, kind_of}
 use Rattle.os_ignore.specs.Matching.{by_slashes}
-use Rattle.os_ignore.specs.PatternText.{IsLiteral, PieceAt, IsPiece, EndsPart, NextGroup, IsPattern, IsBrokenHere, IsBrokenPart, IsBrokenPattern, is_deep, all_stars, is_joined, group, concat_of, left_after, text_of}
-use Rattle.os_ignore.specs.Reading.{Reads}
+use Rattle.os_ignore.specs.PatternText.{IsLiteral, PieceAt, IsPiece, EndsPart, NextGroup, IsPattern, IsBrokenHere, IsBrokenPart, IsBrokenPattern, is_deep, all_stars, is_joined, left_after, text_of}
+use Rattle.wildcards.specs.Groups.{group}
+use Rattle.wildcards.specs.Items.{Reads, concat_of}
 
 -- what is read item by item, up to where no item begins
 module _ {S O : Type 0} (Item : S → O → S → Type 0) where
@@ -252,8 +253,8 @@ module _ {A : Type 0} (folds : Bool) where
   -- the pattern of a text matches the same, however it is compiled
   pub same_pattern : (text : List Letter) (p q : List (Piece (Part A))) → IsPattern folds text p → IsPattern folds text q → AllZip (SamePiece SamePart) p q
   same_pattern text p q h k =
-      let same = same_items (NextGroup folds) (AllZip (SamePiece SamePart)) one_group (Some text) h.groups k.groups None None h.read k.read (none_stops A folds) (none_stops A folds) in
-      subst (λ z. AllZip (SamePiece SamePart) z q) (sym h.joined) (subst (λ z. AllZip (SamePiece SamePart) (concat_of h.groups) z) (sym k.joined) (zip_concat (SamePiece SamePart) h.groups k.groups same.1))
+      let same = same_items (NextGroup folds) (AllZip (SamePiece SamePart)) one_group (Some text) h.lists k.lists None None h.read k.read (none_stops A folds) (none_stops A folds) in
+      subst (λ z. AllZip (SamePiece SamePart) z q) (sym h.joined) (subst (λ z. AllZip (SamePiece SamePart) (concat_of h.lists) z) (sym k.joined) (zip_concat (SamePiece SamePart) h.lists k.lists same.1))
 
   pub matches_too : (text : List Letter) (p q : List (Piece (Part A))) → IsPattern folds text p → IsPattern folds text q → (rest : List ℕ) → Matches by_slashes p rest → Matches by_slashes q rest
   matches_too text p q h k rest m = wild_too (TakesComponent false) (FitsComponent false) p q _ (same_pattern text p q h k) m
@@ -266,5 +267,5 @@ module _ {A : Type 0} (folds : Bool) where
   -- a pattern has no broken class
   pub not_broken_pattern : (text : List Letter) (p : List (Piece (Part A))) → IsPattern folds text p → IsBrokenPattern folds A text → ⊥
   not_broken_pattern text p h k =
-      let same = same_items (NextGroup folds) (AllZip (SamePiece SamePart)) one_group (Some text) h.groups k.groups None (Some k.left) h.read k.read (none_stops A folds) (broken_part_stops k.left k.broken) in
+      let same = same_items (NextGroup folds) (AllZip (SamePiece SamePart)) one_group (Some text) h.lists k.groups None (Some k.left) h.read k.read (none_stops A folds) (broken_part_stops k.left k.broken) in
       let never : None ≡ Some k.left = same.0 in absurd cc

@@ -14,8 +14,7 @@ use Rattle.os_ignore.specs.Ignores.{IsFileAt, AreOfOneText, IsBlanked}
 use Rattle.os_ignore.specs.Lines as lines
 use Rattle.os_ignore.specs.Lines.{IsBody, SaysNothing}
 use Rattle.os_ignore.specs.Matching.{LineMatches}
-use Rattle.os_ignore.specs.PatternText.{concat_of}
-use Rattle.os_ignore.specs.Reading.{Reads}
+use Rattle.wildcards.specs.Items.{Reads, concat_of}
 use Rattle.os_ignore.specs.Verdicts as rule
 use Rattle.os_ignore.specs.Verdicts.{IsBelow, NoneMatches, IsLastMatch, FileIsSilent, Decides, IsOwn, AreShown, IsVerdict}
 use Rattle.os_ignore.proofs.lemmas.OneMeaning.{one_meaning, not_both}
@@ -114,8 +113,8 @@ module _ {A : Type 0} where
 
   same_lines : (folds : Bool) (content : List ℕ) (xs bs : List (Line A)) → AreLines folds content xs → AreLines folds content bs → AllZip SameLine xs bs
   same_lines folds content xs bs h k =
-      let same = same_items (IsLineRead folds) (AllZip SameLine) (one_read folds) (1, pieces 0xA (without_mark content)) h.groups k.groups (h.count, []) (k.count, []) h.read k.read (λ o e s. s) (λ o e s. s) in
-      subst (λ z. AllZip SameLine z bs) (sym h.joined) (subst (λ z. AllZip SameLine (concat_of h.groups) z) (sym k.joined) (zip_concat SameLine h.groups k.groups same.1))
+      let same = same_items (IsLineRead folds) (AllZip SameLine) (one_read folds) (1, pieces 0xA (without_mark content)) h.read.lists k.read.lists (h.count, []) (k.count, []) h.read.read k.read.read (λ o e s. s) (λ o e s. s) in
+      subst (λ z. AllZip SameLine z bs) (sym h.read.joined) (subst (λ z. AllZip SameLine (concat_of h.read.lists) z) (sym k.read.joined) (zip_concat SameLine h.read.lists k.read.lists same.1))
 
   one_content : (folds : Bool) (number : ℕ) (directory content : List ℕ) (f g : File A) → IsFileAt folds number directory content f → IsFileAt folds number directory content g → SameFile f g
   one_content folds number directory content f g h k = (h.number_is ∙ sym k.number_is, (h.directory_is ∙ sym k.directory_is, same_lines folds content f.lines.items g.lines.items h.lines k.lines))
@@ -211,10 +210,12 @@ module _ {A : Type 0} where
 
   blanked : (folds : Bool) (content other : List ℕ) → IsBlanked folds A content other → (ls : List (Line A)) → AreLines folds other ls → AreLines folds content ls
   blanked folds content other b ls h = record {
-    groups = h.groups;
     count = h.count;
-    read = subst (λ z. Reads (IsLineRead folds) (1, z) h.groups (h.count, [])) (sym b.lines) (blank folds b.line b.text b.reason b.read b.says b.back h.count b.front 1 h.groups (subst (λ z. Reads (IsLineRead folds) (1, z) h.groups (h.count, [])) b.others h.read));
-    joined = h.joined;
+    read = record {
+      lists = h.read.lists;
+      read = subst (λ z. Reads (IsLineRead folds) (1, z) h.read.lists (h.count, [])) (sym b.lines) (blank folds b.line b.text b.reason b.read b.says b.back h.count b.front 1 h.read.lists (subst (λ z. Reads (IsLineRead folds) (1, z) h.read.lists (h.count, [])) b.others h.read.read));
+      joined = h.read.joined;
+    };
   }
 
   -- a line that says nothing changes no verdict

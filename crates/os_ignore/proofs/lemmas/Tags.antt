@@ -26,8 +26,9 @@ use Rattle.os_ignore.specs.Files.{list_of}
 use Rattle.os_ignore.specs.Letters.{is_plain, is_simple, kind_of, matches_itself}
 use Rattle.os_ignore.specs.Lines.{literal_prefix, after_literal}
 use Rattle.os_ignore.specs.Matching.{IsTarget, MatchesText, by_slashes}
-use Rattle.os_ignore.specs.PatternText.{PieceAt, IsPiece, IsPart, EndsPart, NextGroup, IsPattern, is_deep, all_stars, is_joined, group, concat_of, left_after, text_of}
-use Rattle.os_ignore.specs.Reading.{Reads}
+use Rattle.os_ignore.specs.PatternText.{PieceAt, IsPiece, IsPart, EndsPart, NextGroup, IsPattern, is_deep, all_stars, is_joined, left_after, text_of}
+use Rattle.wildcards.specs.Groups.{group}
+use Rattle.wildcards.specs.Items.{Reads, concat_of}
 use Rattle.os_ignore.specs.Tags as tags
 use Rattle.os_ignore.specs.Tags.{IsTag, IsTagOf, AreTags, IsExtension, tag_of}
 
@@ -102,7 +103,7 @@ nil_of_length (x ∷ xs) e = absurd (omega arith)
 module _ {A : Type 0} where
   -- a part that is the whole pattern
   pub one_group : (text : List Letter) (pattern : List (Piece (Part A))) → IsPattern false text pattern → ((pieces : List (Piece (Item A))) (a : After) → IsPart false text pieces a → (a ≡ after.End) × (is_deep pieces ≡ false)) → (part : Part A) × (IsPart false text part.pieces.items after.End × (pattern ≡ One part ∷ []))
-  one_group text pattern p alone = go p.groups p.read p.joined
+  one_group text pattern p alone = go p.lists p.read p.joined
     where
       rest : (groups : List (List (Piece (Part A)))) → Reads (NextGroup false) None groups None → groups ≡ []
       rest [] r = refl

@@ -2,7 +2,7 @@ use Rattle.std.proofs.Common.{sym, arith}
 use Rattle.glob_text.specs.ClassSteps.{member_ranges}
 use Rattle.glob_text.specs.ClassText.{IsMember}
 use Rattle.glob_text.proofs.lemmas.Names.{member_left}
-use Rattle.glob_text.proofs.lemmas.Readings.{one_more}
+use Rattle.wildcards.proofs.lemmas.Items.{one_more}
 use Rattle.glob_text.proofs.class_text.read_class.Goals as goal
 
 pub loop-fault-preserved : goal.loop-fault-preserved

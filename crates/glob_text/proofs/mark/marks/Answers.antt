@@ -1,8 +1,8 @@
 use Rattle.std.proofs.Common.{sym, subst, map, ◌∷◌, [], ◌∙◌, ap}
 use Rattle.std.proofs.lemmas.List.{map-append}
 use Rattle.glob_text.specs.Marks.{IsMark, IsFaultHere, mark_of}
-use Rattle.glob_text.specs.Reading.{Reads}
-use Rattle.glob_text.proofs.lemmas.Readings.{more_items}
+use Rattle.wildcards.specs.Items.{Reads}
+use Rattle.wildcards.proofs.lemmas.Items.{more_items}
 use Rattle.glob_text.proofs.mark.marks.Goals as goal
 
 pub loop-first-preserved : goal.loop-first-preserved

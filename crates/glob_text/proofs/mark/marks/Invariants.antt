@@ -1,6 +1,6 @@
 use Rattle.std.proofs.Common.{length, map}
 use Rattle.glob_text.specs.Marks.{IsMark, mark_of}
-use Rattle.glob_text.specs.Reading.{Reads}
+use Rattle.wildcards.specs.Items.{Reads}
 use Rattle.glob_text.proofs.mark.marks.Given as goal
 
 abbrev pub invariant-loop-first : goal.invariant-loop-first

@@ -1,11 +1,12 @@
 use Rattle.std.proofs.Common.{◌++◌, ◌∙◌, ap, map, refl, subst, sym}
+use Rattle.wildcards.specs.Groups.{group}
 use Rattle.glob_text.specs.Chosen.{marks_at}
 use Rattle.glob_text.specs.Marks.{mark_of}
-use Rattle.glob_text.specs.Parts.{NextGroup, group, is_deep}
+use Rattle.glob_text.specs.Parts.{NextGroup, is_deep}
 use Rattle.std.specs.Option.{is_some}
 use Rattle.glob_text.specs.PartSteps.{rest_of}
 use Rattle.glob_text.proofs.lemmas.Compiled.{joined_is}
-use Rattle.glob_text.proofs.lemmas.Readings.{one_more}
+use Rattle.wildcards.proofs.lemmas.Items.{one_more}
 use Rattle.glob_text.proofs.part.compile.Goals as goal
 
 pub loop-left-preserved : goal.loop-left-preserved

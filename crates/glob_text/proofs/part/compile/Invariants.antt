@@ -3,7 +3,7 @@ use Rattle.glob_text.specs.Marks.{mark_of}
 use Rattle.glob_text.specs.Chosen.{marks_at}
 use Rattle.glob_text.specs.Parts.{NextGroup}
 use Rattle.glob_text.specs.PartSteps.{rest_of, rest_size}
-use Rattle.glob_text.specs.Reading.{ReadsLists}
+use Rattle.wildcards.specs.Items.{ReadsLists}
 use Rattle.glob_text.proofs.part.compile.Given as goal
 
 abbrev pub invariant-loop-left : goal.invariant-loop-left

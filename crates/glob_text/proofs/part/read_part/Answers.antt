@@ -3,8 +3,8 @@ use Rattle.std.proofs.lemmas.List.{nil_from_length}
 use Rattle.glob_text.specs.Chosen.{mark_at, marks_at}
 use Rattle.glob_text.specs.Marks.{mark_of}
 use Rattle.glob_text.specs.Parts.{IsPiece}
-use Rattle.glob_text.specs.Reading.{Reads}
-use Rattle.glob_text.proofs.lemmas.Readings.{more_items}
+use Rattle.wildcards.specs.Items.{Reads}
+use Rattle.wildcards.proofs.lemmas.Items.{more_items}
 use Rattle.glob_text.proofs.part.read_part.Goals as goal
 
 pub loop-index-preserved : goal.loop-index-preserved

@@ -2,7 +2,7 @@ use Rattle.std.proofs.Common.{◌≤◌, length, map}
 use Rattle.glob_text.specs.Marks.{mark_of}
 use Rattle.glob_text.specs.Chosen.{marks_at}
 use Rattle.glob_text.specs.Parts.{IsPiece}
-use Rattle.glob_text.specs.Reading.{Reads}
+use Rattle.wildcards.specs.Items.{Reads}
 use Rattle.glob_text.proofs.part.read_part.Given as goal
 
 abbrev pub invariant-loop-index : goal.invariant-loop-index

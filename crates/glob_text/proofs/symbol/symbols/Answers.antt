@@ -1,7 +1,7 @@
 use Rattle.std.proofs.Common.{sym, subst, arith}
-use Rattle.glob_text.specs.Reading.{Reads}
+use Rattle.wildcards.specs.Items.{Reads}
 use Rattle.glob_text.specs.Symbols.{IsSymbol}
-use Rattle.glob_text.proofs.lemmas.Readings.{more_items}
+use Rattle.wildcards.proofs.lemmas.Items.{more_items}
 use Rattle.glob_text.proofs.symbol.symbols.Goals as goal
 
 pub loop-left-preserved : goal.loop-left-preserved

@@ -1,6 +1,6 @@
 use Rattle.std.proofs.Common.{◌≤◌, length}
 use Rattle.glob_text.specs.Symbols.{IsSymbol}
-use Rattle.glob_text.specs.Reading.{Reads}
+use Rattle.wildcards.specs.Items.{Reads}
 use Rattle.glob_text.proofs.symbol.symbols.Given as goal
 
 abbrev pub invariant-loop-left : goal.invariant-loop-left

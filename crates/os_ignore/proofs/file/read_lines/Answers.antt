@@ -1,7 +1,7 @@
 use Rattle.std.proofs.Common.{◌+◌, sym, ap, subst, refl, ◌∙◌, arith}
 use Rattle.os_ignore.specs.Components.{left_pieces, left_size}
 use Rattle.os_ignore.specs.Files.{IsLineRead, NextLine, list_of}
-use Rattle.os_ignore.proofs.lemmas.Groups.{one_more}
+use Rattle.wildcards.proofs.lemmas.Items.{one_more}
 use Rattle.os_ignore.proofs.lemmas.Tags.{more_tags}
 use Rattle.os_ignore.proofs.file.read_lines.Goals as goal
 

@@ -1,7 +1,7 @@
 use Rattle.std.proofs.Common.{sym, subst}
 use Rattle.os_ignore.specs.Letters.{IsLetter}
-use Rattle.os_ignore.specs.Reading.{Reads}
-use Rattle.os_ignore.proofs.lemmas.Readings.{more_items}
+use Rattle.wildcards.specs.Items.{Reads}
+use Rattle.wildcards.proofs.lemmas.Items.{more_items}
 use Rattle.os_ignore.proofs.letter.letters.Goals as goal
 
 pub loop-first-preserved : goal.loop-first-preserved

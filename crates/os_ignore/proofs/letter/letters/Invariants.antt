@@ -1,6 +1,6 @@
 use Rattle.std.proofs.Common.{length}
 use Rattle.os_ignore.specs.Letters.{IsLetter}
-use Rattle.os_ignore.specs.Reading.{Reads}
+use Rattle.wildcards.specs.Items.{Reads}
 use Rattle.os_ignore.proofs.letter.letters.Given as goal
 
 abbrev pub invariant-loop-first : goal.invariant-loop-first

@@ -1,7 +1,7 @@
 use Rattle.std.proofs.Common.{sym, subst, arith}
 use Rattle.os_ignore.specs.PatternText.{IsPiece, IsBrokenHere}
-use Rattle.os_ignore.specs.Reading.{Reads}
-use Rattle.os_ignore.proofs.lemmas.Readings.{more_items}
+use Rattle.wildcards.specs.Items.{Reads}
+use Rattle.wildcards.proofs.lemmas.Items.{more_items}
 use Rattle.os_ignore.proofs.pattern.read_part.Goals as goal
 
 pub returns-in_default-2-clause-part : goal.returns-in_default-2-clause-part

@@ -1,6 +1,6 @@
 use Rattle.std.proofs.Common.{◌≤◌, length}
 use Rattle.os_ignore.specs.PatternText.{IsPiece}
-use Rattle.os_ignore.specs.Reading.{Reads}
+use Rattle.wildcards.specs.Items.{Reads}
 use Rattle.os_ignore.proofs.pattern.read_part.Given as goal
 
 abbrev pub invariant-loop-first : goal.invariant-loop-first

@@ -1,6 +1,7 @@
 use Rattle.std.proofs.Common.{sym, ap, subst, refl, ◌∙◌, ◌++◌}
-use Rattle.os_ignore.specs.PatternText.{IsPart, NextGroup, text_of, group, is_deep, is_joined}
-use Rattle.os_ignore.proofs.lemmas.Groups.{one_more}
+use Rattle.os_ignore.specs.PatternText.{IsPart, NextGroup, text_of, is_deep, is_joined}
+use Rattle.wildcards.specs.Groups.{group}
+use Rattle.wildcards.proofs.lemmas.Items.{one_more}
 use Rattle.os_ignore.proofs.pattern.read_pattern.Goals as goal
 
 pub loop-left-preserved : goal.loop-left-preserved

@@ -1,6 +1,6 @@
 -- What is read, with one more item.
 use Rattle.std.proofs.Common.{◌≡◌, List, [], ◌∷◌, ◌++◌, refl, sym, ap, ◌∙◌, subst, append_assoc, append-nil}
-use Rattle.glob_text.specs.Reading.{Reads, concat_of, ReadsLists}
+use Rattle.wildcards.specs.Items.{Reads, concat_of, ReadsLists}
 
 module _ {S O : Type 0} (Item : S → O → S → Type 0) where
   pub more_items : (s : S) (os : List O) (e : S) (o : O) (f : S) → Reads Item s os e → Item e o f → Reads Item s (os ++ o ∷ []) f
