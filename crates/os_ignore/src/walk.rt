@@ -68,7 +68,6 @@ fn last_of<A: Allocator>(above: &[Above]) -> (usize, Option<Verdict>)
 }
 
 /// The verdict of files on a path in a directory, given their verdict on that.
-#[tactic(auto, using(crate::proofs::lemmas::Below::hidden_in, crate::proofs::lemmas::Below::own_in))]
 fn in_directory<A: Allocator>(
     files: &[File<A>],
     above: Verdict,
@@ -88,7 +87,6 @@ fn in_directory<A: Allocator>(
 
 /// The verdict of files on a path, given their verdict on the directory that it is in. It has none
 /// if it has no slash.
-#[tactic(auto, using(crate::proofs::lemmas::Below::own_at_top))]
 fn decide_in<A: Allocator>(
     files: &[File<A>],
     above: Option<Verdict>,

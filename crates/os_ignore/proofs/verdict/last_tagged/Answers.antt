@@ -1,11 +1,38 @@
-use Rattle.std.proofs.Common.{◌<◌, length, sym, ◌∙◌, arith}
+use Rattle.std.proofs.Common.{◌<◌, ◌+◌, length, sym, ◌∙◌, arith}
 use Rattle.std.proofs.lemmas.Bool.{false≢true}
 use Rattle.std.proofs.lemmas.List.{length-take-le}
 use Rattle.std.proofs.lemmas.List.Elements.{at_read}
 use Rattle.memchr.specs.Find.{is_byte3}
 use Rattle.os_ignore.specs.Matching.{LineMatches}
-use Rattle.os_ignore.proofs.lemmas.Tagged.{none_later, none_there}
+use Rattle.os_ignore.proofs.lemmas.Tagged.{fewer, none_later, none_there, nowhere}
 use Rattle.os_ignore.proofs.verdict.last_tagged.Goals as goal
+
+pub loop-at-init : goal.loop-at-init
+loop-at-init g c =
+    let count = c.requires.count in
+    record { within = omega arith; none = λ k low in' passes. absurd (omega arith) }
+
+pub returns-in_default : goal.returns-in_default
+returns-in_default g c =
+    let path = c.args.path.now in
+    let lines = c.args.lines.now in
+    let tags = c.args.tags.now in
+    let test = is_byte3 c.args.wanted.0 c.args.wanted.1 c.args.wanted.2 in
+    let none = rw c.split_at.ensures.front at c.in_default.ensures in
+    let all = c.loop-at.invariant in
+    nowhere path c.args.is_dir lines tags test c.loop-at.end all.within all.none none c.args.low
+
+pub returns-then-at-low : goal.returns-then-at-low
+returns-then-at-low g c =
+    let path = c.args.path.now in
+    let lines = c.args.lines.now in
+    let tags = c.args.tags.now in
+    let test = is_byte3 c.args.wanted.0 c.args.wanted.1 c.args.wanted.2 in
+    let found = rw c.split_at.ensures.front at c.in-Some.ensures in
+    let all = c.loop-at.invariant in
+    let later = none_later path c.args.is_dir lines tags test c.loop-at.end all.within all.none c.in-Some.at found.0 in
+    let below = c.if-at-low.true in
+    fewer path c.args.is_dir lines tags test (c.in-Some.at + 1) c.args.low (omega arith) later
 
 pub returns-then-matches : goal.returns-then-matches
 returns-then-matches g c =

@@ -1,5 +1,12 @@
-use Rattle.std.proofs.Common.{◌∷◌, ◌++◌, [], ap, refl, ◌∙◌, append_assoc}
+use Rattle.std.proofs.Common.{◌∷◌, ◌++◌, [], ap, refl, sym, subst, ◌∙◌, append_assoc}
+use Rattle.std.proofs.lemmas.List.{append-nil}
+use Rattle.std.specs.List.{AllByRecursion}
+use Rattle.os_ignore.specs.Verdicts.{FileIsSilent}
+use Rattle.os_ignore.proofs.lemmas.Tags.{nil_of_length}
 use Rattle.os_ignore.proofs.verdict.own.Goals as goal
+
+pub loop-file-init : goal.loop-file-init
+loop-file-init g c = ([], sym (append-nil _), tt)
 
 pub returns-then-takes_in : goal.returns-then-takes_in
 returns-then-takes_in g c =
@@ -28,3 +35,19 @@ returns-else-takes_in g c =
       taken = c.if-takes_in.false;
       numbers = (refl, refl);
     }
+
+pub loop-file-preserved : goal.loop-file-preserved
+loop-file-preserved g c =
+    let after = c.loop-file.invariant in
+    let file = c.in-Some.file.now in
+    let joined = append_assoc c.in-Some.before.now (file ∷ []) after.0 in (
+      file ∷ after.0,
+      after.1 ∙ ap (λ z. z ++ after.0) c.in-Some.ensures.cases.0 ∙ joined,
+      (c.in_default-deciding_line.ensures, after.2),
+    )
+
+pub returns : goal.returns
+returns g c =
+    let after = c.loop-file.invariant in
+    let all = after.1 ∙ ap (λ z. z ++ after.0) (nil_of_length c.loop-file.left.now c.in_default.ensures.cases) in
+    subst (AllByRecursion (FileIsSilent c.args.path.now c.args.is_dir)) (sym all) after.2

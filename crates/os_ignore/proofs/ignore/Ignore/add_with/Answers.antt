@@ -1,6 +1,12 @@
-use Rattle.std.proofs.Common.{length, sym, ap, ◌∙◌}
+use Rattle.std.proofs.Common.{length, sym, ap, ◌∙◌, arith, length-append}
 use Rattle.os_ignore.proofs.lemmas.Rests.{inserted}
 use Rattle.os_ignore.proofs.ignore.Ignore.add_with.Goals as goal
+
+pub insert-requires : goal.insert-requires
+insert-requires g c =
+    let place = c.files_before-index.ensures in
+    let parts = length-append c.files_before-index.result.now place.after in
+    omega (arith, parts, ap length place.joined, ap length c.deref.ensures.value, c.args.self.now.files.ok.0)
 
 pub returns-clause-added : goal.returns-clause-added
 returns-clause-added g c =
