@@ -1,6 +1,7 @@
 -- A command has an output for its input or rejects it, never both, and rejects it with one fault.
-use Rattle.std.proofs.Common.{◌≡◌, ◌⊎◌, ℕ, List, Option, Result, Err, refl, ap, subst, ◌∙◌, inl, inr}
+use Rattle.std.proofs.Common.{◌≡◌, ◌⊎◌, ℕ, List, Option, None, Some, Result, Err, refl, ap, subst, ◌∙◌, inl, inr}
 use Rattle.std.proofs.KnownBytes.{Consumes-whole}
+use Rattle.std.specs.Prelude.{IfSome}
 use Rattle.std.specs.Str.{IsUtf8}
 use Rattle.std.specs.Io.KnownBytes.{Consumes, IsAtEnd}
 use Rattle.os_str_bytes.specs.EncodingError.{EncodingError}
@@ -185,3 +186,8 @@ pub not_refused : {T : Type 0} (command : Command) (input left : Option (List �
     → Consumes input left bytes → IsAtEnd left → IsOutput command bytes output → AnswersRefusal command input answer
 not_refused command input left bytes output answer read end given =
     Consumes-whole input left bytes _ read end (λ fault refusal. absurd (output_or_refusal command bytes output fault given refusal))
+
+-- what holds of any bytes holds of those that are known
+pub of_known : (input : Option (List ℕ)) (P : List ℕ → Type 0) → ((bytes : List ℕ) → P bytes) → IfSome input P
+of_known None P h = tt
+of_known (Some bytes) P h = h bytes
