@@ -99,7 +99,6 @@ pub(crate) fn push_name<A: Allocator>(
 }
 
 /// Appends the name that a line is the escape of, and NUL.
-#[tactic(auto, using(program_frame::proofs::lemmas::lists::Items::has_end))]
 fn write_name<E: Platform, A: Allocator + Copy>(
     alloc: A,
     max: usize,

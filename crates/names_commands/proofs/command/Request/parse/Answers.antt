@@ -1,3 +1,5 @@
+use Rattle.std.proofs.Common.{sym, ◌∙◌}
+use Rattle.std.proofs.lemmas.Bool.{false≢true}
 use Rattle.program_frame.specs.Arguments.{HasOption}
 use Rattle.names_commands.specs.declared.option.NamesOption.TheVariants.{Help, Version}
 use Rattle.names_commands.proofs.lemmas.NeverBoth.{no_request}
@@ -5,12 +7,16 @@ use Rattle.names_commands.proofs.command.Request.parse.Goals as goal
 
 pub returns-in-Err-clause-misuse : goal.returns-in-Err-clause-misuse
 returns-in-Err-clause-misuse c =
-    let no_help : ¬ (HasOption Help c.args.given.now) = λ h. let yes = c.has.ensures.1 h in let no = c.if-has.false in cc in
-    let no_version : ¬ (HasOption Version c.args.given.now) = λ h. let yes = c.has-2.ensures.1 h in let no = c.if-has-2.false in cc in
-    record { no_request = no_request c.args.given.now no_help no_version c.in-Err.misuse c.in-Err.ensures.misuse; wrong = c.in-Err.ensures.misuse }
+    let given = c.args.given.now in
+    let no_help : ¬ (HasOption Help given) = λ h. false≢true (sym c.if-has.false ∙ c.has.ensures.1 h) in
+    let no_version : ¬ (HasOption Version given) = λ h. false≢true (sym c.if-has-2.false ∙ c.has-2.ensures.1 h) in
+    let wrong = c.in-Err.ensures.misuse in
+    record { no_request = no_request given no_help no_version c.in-Err.misuse wrong; wrong = wrong }
 
 pub returns-in-Err-parse-clause-misuse : goal.returns-in-Err-parse-clause-misuse
 returns-in-Err-parse-clause-misuse c =
-    let no_help : ¬ (HasOption Help c.args.given.now) = λ h. let yes = c.has.ensures.1 h in let no = c.if-has.false in cc in
-    let no_version : ¬ (HasOption Version c.args.given.now) = λ h. let yes = c.has-2.ensures.1 h in let no = c.if-has-2.false in cc in
-    record { no_request = no_request c.args.given.now no_help no_version c.in-Err-parse.misuse c.in-Err-parse.ensures.misuse; wrong = c.in-Err-parse.ensures.misuse }
+    let given = c.args.given.now in
+    let no_help : ¬ (HasOption Help given) = λ h. false≢true (sym c.if-has.false ∙ c.has.ensures.1 h) in
+    let no_version : ¬ (HasOption Version given) = λ h. false≢true (sym c.if-has-2.false ∙ c.has-2.ensures.1 h) in
+    let wrong = c.in-Err-parse.ensures.misuse in
+    record { no_request = no_request given no_help no_version c.in-Err-parse.misuse wrong; wrong = wrong }
