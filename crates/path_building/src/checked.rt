@@ -12,6 +12,7 @@ use crate::base::{first_nul, is_verbatim_alone, lacks_part};
 use crate::error_text::write_at_byte;
 use crate::joining::is_prefixed;
 use crate::normal::{all_names, resolved, written_as};
+use crate::writing::both;
 use path_rules::parts::{begins_with_separator, head_of, next_in};
 use path_rules::{Component, Rules, Style, is_reserved};
 use std::alloc::{AllocError, Allocator};
@@ -62,17 +63,18 @@ impl fmt::Display for JoinError {
     ghost styled_output = { λ error _. Some (join_error_text error) };
 
     fn fmt<W: fmt::Write>(&self, f: &mut fmt::Formatter<W>) -> fmt::Result {
-        match *self {
-            JoinError::BaseNul(index) => write_at_byte("NUL", index, " of the base", f),
-            JoinError::Base => f.write_str("the base has an incomplete prefix"),
-            JoinError::Nul(index) => write_at_byte("NUL", index, " of the path", f),
-            JoinError::Prefix => f.write_str("the path has a prefix"),
-            JoinError::Root => f.write_str("the path has a root"),
-            JoinError::Leaves => f.write_str("the path leaves the base"),
-            JoinError::Stream => f.write_str("the path has a colon in a name"),
-            JoinError::Reserved => f.write_str("the path has a reserved name"),
-            JoinError::Memory => f.write_str("out of memory"),
-        }
+        let text = match *self {
+            JoinError::BaseNul(index) => return write_at_byte("NUL", index, " of the base", f),
+            JoinError::Nul(index) => return write_at_byte("NUL", index, " of the path", f),
+            JoinError::Base => "the base has an incomplete prefix",
+            JoinError::Prefix => "the path has a prefix",
+            JoinError::Root => "the path has a root",
+            JoinError::Leaves => "the path leaves the base",
+            JoinError::Stream => "the path has a colon in a name",
+            JoinError::Reserved => "the path has a reserved name",
+            JoinError::Memory => "out of memory",
+        };
+        f.write_str(text)
     }
 }
 
@@ -152,9 +154,7 @@ pub fn join_checked<A: Allocator + Clone>(
     }
     let names = checked_names(alloc.clone()?, style, path)?;
     if is_verbatim_alone(style, base) {
-        let mut root = Vec::with_capacity(alloc.clone()?, base.len() + 1)?;
-        root.extend_from_slice(base)?;
-        root.extend_from_slice(br"\")?;
+        let root = both(alloc.clone()?, base, br"\".as_slice())?;
         return Ok(names_after(alloc, style, &root, &names)?);
     }
     Ok(names_after(alloc, style, base, &names)?)

@@ -3,6 +3,7 @@ ghost use Rattle.std.specs.Prelude.{IfOk};
 ghost use Rattle.path_building.specs.FileStem.{IsStemSet};
 
 use crate::file_names::{last_name, with_file_name};
+use crate::writing::both;
 use path_rules::{Style, stem};
 use std::alloc::{AllocError, Allocator};
 
@@ -47,8 +48,6 @@ pub fn with_file_stem<A: Allocator + Clone>(
         return Vec::from_slice(alloc, path);
     };
     let (_, after) = name.split_at(stem(name).len());
-    let mut named = Vec::with_capacity(alloc.clone()?, file_stem.len() + after.len())?;
-    named.extend_from_slice(file_stem)?;
-    named.extend_from_slice(after)?;
+    let named = both(alloc.clone()?, file_stem, after)?;
     with_file_name(alloc, style, path, &named)
 }

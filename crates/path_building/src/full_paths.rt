@@ -4,7 +4,6 @@ ghost use Rattle.path_rules.specs.declared.rules.Style.TheVariants as whose;
 ghost use Rattle.path_rules.specs.Prefix.{Disk};
 ghost use Rattle.path_rules.specs.PrefixViews.{kind_of};
 ghost use Rattle.path_rules.specs.Views.{item_of};
-ghost use Rattle.path_rules.specs.Components.{AreComponents};
 ghost use Rattle.path_building.specs.Collected.{ArePushed};
 ghost use Rattle.path_building.specs.FullPath.{IsDeviceKind, IsDevicePath, HasFreeNames, IsFullDirectory, BeginsWithTwo, without_root, IsRespelled, IsPushedBelow, IsCleanedBelow, AreOneDrive, IsOnDrive, IsOwnPlace, IsPlaceBelow, IsPlaced, IsFullPath, IsOnItsDrive, IsPlaceFault, IsAbsoluteFault};
 
@@ -13,11 +12,11 @@ use crate::checked::are_free;
 use crate::cleaning::clean;
 use crate::collected::push_all;
 use crate::joining::join;
-use crate::normal::add_all;
+use crate::normal::all_items;
 use crate::relative::after_dot;
 use crate::trailing::end_as;
 use path_rules::parts::{begins_with_separator, head_of};
-use path_rules::{Component, Components, Prefix, Rules, Style, is_absolute, windows_prefix};
+use path_rules::{Component, Prefix, Rules, Style, is_absolute, windows_prefix};
 use std::alloc::{AllocError, Allocator};
 use std::error::Error;
 use std::fmt;
@@ -232,21 +231,11 @@ fn own_place<A: Allocator + Clone>(
 fn respelled<A: Allocator + Clone>(alloc: A, path: &[u8]) -> Result<Vec<u8, A>, AllocError>
     ensures { IfOk result (λ mid. IsRespelled path.now mid.items) }
 {
-    let items = unix_items(alloc.clone()?, path)?;
+    let items = all_items(alloc.clone()?, Style::Unix, path)?;
     if begins_with_two(path) {
         return pushed(alloc, b"//".as_slice(), after_root(&items));
     }
     pushed(alloc, b"".as_slice(), &items)
-}
-
-/// The components of a Unix path.
-fn unix_items<A: Allocator>(alloc: A, path: &[u8]) -> Result<Vec<Component<&[u8]>, A>, AllocError>
-    ensures { IfOk result
-        (λ items. AreComponents whose.Unix path.entry.now (map item_of items.items)) }
-{
-    let mut items = Vec::new(alloc);
-    add_all(&mut items, Components::new(Style::Unix, path))?;
-    Ok(items)
 }
 
 /// Components, each joined in turn to a Unix path.
@@ -360,7 +349,7 @@ fn pushed_below<A: Allocator + Clone>(
 ) -> Result<Vec<u8, A>, AllocError>
     ensures { IfOk result (λ mid. IsPushedBelow path.now directory.now mid.items) }
 {
-    let items = unix_items(alloc.clone()?, path)?;
+    let items = all_items(alloc.clone()?, Style::Unix, path)?;
     pushed(alloc, directory, after_dot(&items))
 }
 

@@ -1,9 +1,10 @@
 //! Normal forms of paths.
-ghost use Rattle.std.specs.Prelude.{◌≡◌, ◌++◌, [], ◌↔◌, IsTrue, reverse, map, OnOk, IfOk, IfErr};
+ghost use Rattle.std.specs.Prelude.{◌≡◌, ◌++◌, [], ◌↔◌, IsTrue, reverse, map, IfOk, IfErr};
 ghost use Rattle.std.specs.Option.{option_map};
 ghost use Rattle.path_rules.specs.declared.head.Start.TheVariants.{Root, Nothing};
 ghost use Rattle.path_rules.specs.declared.rules.Rules.TheVariants.{Verbatim};
 ghost use Rattle.path_rules.specs.Component.{components_in};
+ghost use Rattle.path_rules.specs.Components.{AreComponents};
 ghost use Rattle.path_rules.specs.HeadParts.{IsHead};
 ghost use Rattle.path_rules.specs.Heads.{prefix_items, start_items, items_of};
 ghost use Rattle.path_rules.specs.Views.{item_of};
@@ -173,18 +174,20 @@ pub(crate) fn all_names<'a, A: Allocator>(
     Ok(names)
 }
 
-/// Appends components as they are.
-pub(crate) fn add_all<'a, A: Allocator>(
-    items: &mut Vec<Component<&'a [u8]>, A>,
-    left: Components<'a>,
-) -> Result<(), AllocError>
-    ensures { OnOk result
-        (map item_of items.new.items ≡ map item_of items.old.items ++ left.entry.items) }
+/// All components of a path.
+pub(crate) fn all_items<A: Allocator>(
+    alloc: A,
+    style: Style,
+    path: &[u8],
+) -> Result<Vec<Component<&[u8]>, A>, AllocError>
+    ensures { IfOk result
+        (λ items. AreComponents style path.entry.now (map item_of items.items)) }
 {
-    for item in left {
+    let mut items = Vec::new(alloc);
+    for item in Components::new(style, path) {
         items.push(item)?;
     }
-    Ok(())
+    Ok(items)
 }
 
 /// The names that are left of the components of a body, where `..` takes the name before it away;

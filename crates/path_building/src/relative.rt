@@ -12,10 +12,10 @@ ghost use Rattle.path_building.specs.Relative.{IsPlace, AreOnePlace, AreApart, u
 use crate::checked::add_names;
 use crate::cleaning::cleaned;
 use crate::joining::join;
-use crate::normal::{add_all, begins_as_prefix, is_root, rewritten, written_as};
+use crate::normal::{all_items, begins_as_prefix, is_root, rewritten, written_as};
 use crate::writing::written;
 use path_rules::parts::{Head, Start, are_alike, head_of, is_verbatim};
-use path_rules::{Component, Components, Style, is_absolute};
+use path_rules::{Component, Style, is_absolute};
 use std::alloc::{AllocError, Allocator};
 
 /// Returns the path relative to a base, in new memory (the crate pathdiff's `diff_paths`). The base
@@ -83,10 +83,8 @@ fn candidate<A: Allocator + Clone>(
         }
         return Ok(None);
     }
-    let mut items = Vec::new(alloc.clone()?);
-    add_all(&mut items, Components::new(style, path))?;
-    let mut base_items = Vec::new(alloc.clone()?);
-    add_all(&mut base_items, Components::new(style, base))?;
+    let items = all_items(alloc.clone()?, style, path)?;
+    let base_items = all_items(alloc.clone()?, style, base)?;
     let (left, wanted) = apart(&items, &base_items);
     let wanted = after_dot(wanted);
     if begins_up(wanted) {

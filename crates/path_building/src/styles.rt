@@ -6,10 +6,10 @@ ghost use Rattle.path_rules.specs.Components.{AreComponents};
 ghost use Rattle.path_building.specs.Restyled.{IsHad, AreHad, IsFirstUnlike, IsRestyled, IsStyleFault};
 
 use crate::error_text::write_number;
-use crate::normal::{add_all, all_names, is_read_as_prefix};
+use crate::normal::{all_items, all_names, is_read_as_prefix};
 use crate::writing::{before_start, written};
 use path_rules::parts::head_of;
-use path_rules::{Component, Components, Style, is_extension_text};
+use path_rules::{Component, Style, is_extension_text};
 use std::alloc::{AllocError, Allocator};
 use std::error::Error;
 use std::fmt;
@@ -103,8 +103,7 @@ pub fn with_style<A: Allocator + Clone>(
     if from == to {
         return Ok(Vec::from_slice(alloc, path)?);
     }
-    let mut items = Vec::new(alloc.clone()?);
-    add_all(&mut items, Components::new(from, path))?;
+    let items = all_items(alloc.clone()?, from, path)?;
     if let Some(index) = first_unlike(to, &items) {
         return Err(StyleError::Component(index));
     }

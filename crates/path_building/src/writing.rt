@@ -33,6 +33,20 @@ pub(crate) fn written<A: Allocator>(
     Ok(path)
 }
 
+/// Two texts, one after the other.
+pub(crate) fn both<A: Allocator>(
+    alloc: A,
+    first: &[u8],
+    second: &[u8],
+) -> Result<Vec<u8, A>, AllocError>
+    ensures { IfOk result (λ both. both.items ≡ first.now ++ second.now) }
+{
+    let mut both = Vec::with_capacity(alloc, first.len() + second.len())?;
+    both.extend_from_slice(first)?;
+    both.extend_from_slice(second)?;
+    Ok(both)
+}
+
 /// Appends what follows a prefix: a start and names.
 pub(crate) fn push_after<A: Allocator>(
     path: &mut Vec<u8, A>,
@@ -72,11 +86,12 @@ fn push_separated<A: Allocator>(
     ensures { OnOk result (path.new.items ≡ path.old.items ++ separated_by separator bytes.now) }
 {
     for byte in bytes {
-        if Rules::Either.is_separator(*byte) {
-            push_one(path, separator)?;
+        let one = if Rules::Either.is_separator(*byte) {
+            separator
         } else {
-            push_one(path, *byte)?;
-        }
+            *byte
+        };
+        push_one(path, one)?;
     }
     Ok(())
 }

@@ -1,10 +1,9 @@
 -- What is known of the common base of paths.
-use Rattle.std.proofs.Common.{◌≡◌, ◌⊎◌, ◌↔◌, inl, inr, ◌+◌, ◌-◌, ◌≤◌, ℕ, suc, Bool, true, false, IsTrue, List, [], ◌∷◌, ◌++◌, get_or, take, drop, length, map, refl, sym, ap, ◌∙◌, subst, append_assoc, append-nil, length-append, arith}
+use Rattle.std.proofs.Common.{◌≡◌, ◌⊎◌, ◌↔◌, inl, inr, ◌+◌, ◌-◌, ◌≤◌, ℕ, List, [], ◌∷◌, ◌++◌, get_or, take, drop, length, map, refl, sym, ap, ◌∙◌, subst, append_assoc, append-nil, length-append, arith}
 use Rattle.std.proofs.lemmas.List.{take_rest}
 use Rattle.std.specs.List.{AllByRecursion}
 use Rattle.path_rules.specs.declared.rules.Rules.{Rules}
 use Rattle.path_rules.specs.declared.rules.Rules.TheVariants as rules
-use Rattle.path_rules.specs.declared.rules.Style as whose
 use Rattle.path_rules.specs.declared.rules.Style.{Style}
 use Rattle.path_rules.specs.declared.rules.Style.TheVariants as style
 use Rattle.path_rules.specs.declared.head.Start.{Start}
@@ -14,7 +13,7 @@ use Rattle.path_rules.specs.Component.{Item, Prefix, RootDir, CurDir, ParentDir,
 use Rattle.path_rules.specs.Components.{AreComponents, prefixed, bare, root_of, after_root, start_of, after_start}
 use Rattle.path_rules.specs.Prefix.{rules_of}
 use Rattle.path_rules.specs.Prefix.{IsPrefixOf}
-use Rattle.path_rules.specs.Compare.{AreAlikePrefixes, AreAlike, AreAllAlike, StartsAlike, StartsWith, IsNoPrefix}
+use Rattle.path_rules.specs.Compare.{AreAlike, AreAllAlike, StartsAlike, StartsWith, IsNoPrefix}
 use Rattle.path_rules.specs.Heads.{prefix_items, start_items, items_of}
 use Rattle.path_rules.specs.Body.{IsEndTrimmed}
 use Rattle.path_rules.specs.Parent.{IsTop, IsBelow, IsParent, HasNoParent}

@@ -1,4 +1,4 @@
-use Rattle.std.proofs.Common.{refl, map, length, ◌+◌, arith}
+use Rattle.std.proofs.Common.{map, length, ◌+◌, arith}
 use Rattle.path_building.specs.CommonBase.{bytes_of}
 use Rattle.path_building.proofs.lemmas.CommonBases.{beside, not_walked, step}
 use Rattle.path_building.proofs.lemmas.Restyles.{shorter}

@@ -1,5 +1,5 @@
 use Rattle.std.proofs.Common.{ℕ, List, length}
-use Rattle.path_building.specs.CommonBase.{IsFrontBeside, PartsAt}
+use Rattle.path_building.specs.CommonBase.{PartsAt}
 use Rattle.path_building.proofs.lemmas.CommonBases.{Parting}
 use Rattle.path_building.proofs.common_bases.front_of.Given as goal
 

@@ -1,4 +1,4 @@
-use Rattle.std.proofs.Common.{◌≡◌, ◌++◌, inr, map, sym, ap, ◌∙◌, subst}
+use Rattle.std.proofs.Common.{inr, map, sym, ap, subst}
 use Rattle.path_rules.specs.Components.{AreComponents}
 use Rattle.path_rules.specs.Views.{item_of}
 use Rattle.path_building.proofs.lemmas.Joins.{refuted}
@@ -7,8 +7,8 @@ use Rattle.path_building.proofs.relative.candidate.Goals as goal
 pub returns : goal.returns
 returns g c =
     let w = c.args.style in
-    let first : map item_of c.deref.result.now ≡ c.new.result.items = ap (map item_of) c.deref.ensures.value ∙ c.in_ok-add_all.ensures ∙ ap (λ z. map item_of z ++ c.new.result.items) c.new-items.ensures.items in
-    let second : map item_of c.deref-2.result.now ≡ c.new-2.result.items = ap (map item_of) c.deref-2.ensures.value ∙ c.in_ok-add_all-2.ensures ∙ ap (λ z. map item_of z ++ c.new-2.result.items) c.new-base_items.ensures.items in
+    let first = ap (map item_of) c.deref.ensures.value in
+    let second = ap (map item_of) c.deref-2.ensures.value in
     inr (record {
       us = map item_of c.apart.result.0.now;
       vs = map item_of c.after_dot-wanted.result.now;
@@ -16,8 +16,8 @@ returns g c =
         items = map item_of c.deref.result.now;
         base_items = map item_of c.deref-2.result.now;
         both = c.is_one_absolute.ensures.no c.if-is_one_absolute.false;
-        are = subst (AreComponents w c.args.path.now) (sym first) c.new.ensures.items;
-        base_are = subst (AreComponents w c.args.base.now) (sym second) c.new-2.ensures.items;
+        are = subst (AreComponents w c.args.path.now) (sym first) c.in_ok-items.ensures;
+        base_are = subst (AreComponents w c.args.base.now) (sym second) c.in_ok-base_items.ensures;
         left = map item_of c.apart.result.1.now;
         apart = c.apart.ensures;
         wanted = c.after_dot-wanted.ensures;

@@ -1,9 +1,9 @@
-use Rattle.std.proofs.Common.{◌≡◌, ◌++◌, map, sym, ap, ◌∙◌, subst}
+use Rattle.std.proofs.Common.{map, sym, ap, subst}
 use Rattle.path_rules.specs.Components.{AreComponents}
 use Rattle.path_rules.specs.Views.{item_of}
 use Rattle.path_building.proofs.styles.with_style.Goals as goal
 
 pub restyled-requires-clause-had : goal.restyled-requires-clause-had
 restyled-requires-clause-had g c =
-    let items : map item_of c.deref.result.now ≡ c.new.result.items = ap (map item_of) c.deref.ensures.value ∙ c.in_ok-add_all.ensures ∙ ap (λ z. map item_of z ++ c.new.result.items) c.new-items.ensures.items in
-    (map item_of c.deref.result.now, subst (AreComponents c.args.from c.args.path.now) (sym items) c.new.ensures.items, c.in_default.ensures)
+    let items = ap (map item_of) c.deref.ensures.value in
+    (map item_of c.deref.result.now, subst (AreComponents c.args.from c.args.path.now) (sym items) c.in_ok-items.ensures, c.in_default.ensures)
