@@ -106,7 +106,6 @@ pub fn common_base<'a>(style: Style, paths: &[&'a [u8]]) -> Result<&'a [u8], Com
 }
 
 /// The longest path that a first path and all others begin with.
-#[tactic(auto, using(crate::proofs::lemmas::CommonBases::all_walked, crate::proofs::lemmas::CommonBases::apart,))]
 fn base_of<'a>(style: Style, first: &'a [u8], others: &[&[u8]]) -> Result<&'a [u8], CommonBaseError>
     ensures ok { IfOk result
         (λ base. IsBaseOf style first.entry.now (map bytes_of others.now) base.now) }
@@ -168,7 +167,6 @@ fn are_one_root(start: Start, other: Start) -> bool
 }
 
 /// The longest front of a base that another path begins with.
-#[tactic(auto, using(crate::proofs::lemmas::CommonBases::not_begun, crate::proofs::lemmas::CommonBases::one_further, crate::proofs::lemmas::CommonBases::all_together, crate::proofs::lemmas::CommonBases::other_over, crate::proofs::lemmas::CommonBases::other_unlike,))]
 fn shared<'a>(style: Style, base: &'a [u8], other: &[u8]) -> &'a [u8]
     requires { IsFrontBeside style base.now other.now }
     ensures { IsShared style base.entry.now other.now result.now }
@@ -189,7 +187,6 @@ fn shared<'a>(style: Style, base: &'a [u8], other: &[u8]) -> &'a [u8]
 }
 
 /// The front of a base without its remaining components and the one before them.
-#[tactic(auto, using(crate::proofs::lemmas::CommonBases::next_above, crate::proofs::lemmas::CommonBases::last_above, crate::proofs::lemmas::CommonBases::top_left,))]
 fn front_of<'a>(style: Style, base: &'a [u8], mut left: Components<'_>) -> &'a [u8]
     ensures { (other : List ℕ) → PartsAt style base.entry.now other (length left.entry.items)
         → IsFrontBeside style base.entry.now other

@@ -7,8 +7,10 @@ use Rattle.path_building.proofs.joining.push.Goals as goal
 pub returns : goal.returns
 returns g c =
     let base = c.args.base.now in
+    let joined = c.join_after.new.vec.items in
     let whole = take_all c.len-len.result base.items (omega (arith, c.len-len.ensures, base.ok.0)) in
     record {
-      ok = subst (λ b. OnOk c.join_after.result (IsJoin c.args.style b c.args.path.now c.join_after.new.vec.items)) whole c.join_after.ensures.ok;
+      ok = subst (λ b. OnOk c.join_after.result (IsJoin c.args.style b c.args.path.now joined)) whole
+          c.join_after.ensures.ok;
       err = c.join_after.ensures.err;
     }

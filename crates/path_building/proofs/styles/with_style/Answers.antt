@@ -6,4 +6,5 @@ use Rattle.path_building.proofs.styles.with_style.Goals as goal
 pub restyled-requires-clause-had : goal.restyled-requires-clause-had
 restyled-requires-clause-had g c =
     let items = ap (map item_of) c.deref.ensures.value in
-    (map item_of c.deref.result.now, subst (AreComponents c.args.from c.args.path.now) (sym items) c.in_ok-items.ensures, c.in_default.ensures)
+    let are = subst (AreComponents c.args.from c.args.path.now) (sym items) c.in_ok-items.ensures in
+    (map item_of c.deref.result.now, are, c.in_default.ensures)
