@@ -17,3 +17,4 @@ pub mod EndedParts
 pub mod Collects
 pub mod FullParts
 pub mod BaseParts
+pub mod Bases

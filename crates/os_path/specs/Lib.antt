@@ -3,6 +3,7 @@ pub mod Views
 pub mod Names
 pub mod Prefixes
 pub mod Ancestors
+pub mod Bases
 pub mod Converted
 pub mod Keys
 pub mod Divided

@@ -1,7 +1,8 @@
 //! Paths below a base: each is a string of the base's platform.
 ghost use Rattle.std.specs.Prelude.{IfOk, IfErr};
 ghost use Rattle.platform_str.specs.Strings.{bytes, path_vec_of};
-ghost use Rattle.path_building.specs.Checked.{IsCheckedJoin, IsBelowBase, IsJoinFault};
+ghost use Rattle.path_building.specs.Checked.{IsCheckedJoin, IsBelowBase};
+ghost use Rattle.path_building.specs.Faults.{IsJoinFault};
 ghost use Rattle.path_building.specs.CheckedEnd.{IsCheckedJoinEnded};
 
 use crate::style::PathStyle;

@@ -17,11 +17,13 @@ ghost use Rattle.path_rules.specs.StyleRules.{rules_of_style};
 ghost use Rattle.path_rules.specs.Trailing.{EndsWithSeparator, TrimsTrailing};
 ghost use Rattle.path_building.specs.Normalized.{IsNormalized, IsNormalizeFault};
 ghost use Rattle.path_building.specs.Cleaned.{IsCleaned};
-ghost use Rattle.path_building.specs.Checked.{IsCheckedJoin, IsBelowBase, IsJoinFault};
+ghost use Rattle.path_building.specs.Checked.{IsCheckedJoin, IsBelowBase};
+ghost use Rattle.path_building.specs.Faults.{IsBaseFault, IsJoinFault};
 ghost use Rattle.path_building.specs.CheckedEnd.{IsCheckedJoinEnded};
 ghost use Rattle.path_building.specs.FullPath.{IsFullPath, IsAbsoluteFault};
 ghost use Rattle.path_building.specs.Relative.{IsRelativeFrom};
 ghost use Rattle.path_building.specs.Restyled.{IsRestyled};
+ghost use Rattle.os_path.specs.Bases.{path_of_base};
 ghost use Rattle.os_path.specs.Converted.{IsConvertFault};
 ghost use Rattle.std.specs.Option.{option_map};
 ghost use Rattle.os_path.specs.Prefixes.{os_kind_of, HasPrefix, HasNoPrefix};
@@ -31,6 +33,7 @@ ghost use Rattle.path_building.specs.Collected.{string_of};
 ghost use Rattle.os_path.specs.Names.{HasFileStem, HasFilePrefix, HasExtension, LacksExtension};
 
 use crate::ancestors::Ancestors;
+use crate::base::Base;
 use crate::components::Components;
 use crate::iter::Iter;
 use crate::reserved::is_reserved_path;
@@ -40,7 +43,7 @@ use crate::{
     built, checked, compared, full_paths, normal, parts, prefixes, relative, simplify, stripped,
     styles,
 };
-use path_building::{AbsoluteError, JoinError, NormalizeError};
+use path_building::{AbsoluteError, BaseError, JoinError, NormalizeError};
 use path_rules::Prefix;
 use platform_str::{OsStr, Path, PathBuf};
 use std::alloc::{AllocError, Allocator};
@@ -621,48 +624,69 @@ pub trait PathExt<'a>: Sized + Copy {
         built::join(alloc, base, path.as_os_str())
     }
 
-    /// Joins a path to this one that can't leave it, in new memory (typed-path's `join_checked`).
-    /// It is meant for names that come out of an archive or a request. The result has the
-    /// components of this path, then the names of the other, in which `.` and `..` are resolved. It
-    /// is written with the main separator.
-    ///
-    /// The other path is rejected if it has a NUL, a prefix or a root, or if a `..` would leave
-    /// this one. On Windows it is also rejected if one of its names has a colon or is reserved.
-    /// This path is rejected if it has a NUL, and on Windows if it is incomplete, as `\\server`. If
-    /// it is a prefix alone and begins with `\\?\`, as `\\?\C:`, it gets its root.
-    ///
-    /// The result has no NUL. No path leaves this one unless a name is a symbolic link (clause
-    /// `below`, `path_building::laws::joined_below`).
+    /// Returns the path as a base, below which [`Base::join`] puts names that come out of an archive
+    /// or a request (own call). It is tested once, before the first name.
     ///
     /// # Errors
     ///
-    /// The first of these that holds:
+    /// The first of these that holds. On Unix each path without a NUL is a base.
     ///
-    /// - `BaseNul` with the index of this path's first NUL.
-    /// - `Base` if the prefix of this path lacks a part, as that of `\\?\UNC\server`, or if it has
-    ///   no prefix and begins with two separators, as `\\server`, or with `\??\`.
-    /// - `Nul` with the index of the other path's first NUL.
-    /// - `Prefix` if the other path has a prefix.
-    /// - `Root` if the other path has a root.
-    /// - `Leaves` if a `..` has no name of the other path before it to remove.
-    /// - `Stream` if a name of a Windows path has a colon.
-    /// - `Reserved` if a name is reserved.
-    /// - `Memory` if an allocation fails.
+    /// - `Nul` with the byte index of the first NUL.
+    /// - `Incomplete` if a name after the Windows path would be read as a part of its beginning, as
+    ///   after `\\server` ([`path_building::Base::new`]).
+    /// - `Reserved` if a name of the Windows path is reserved ([`PathExt::is_reserved`]), as `C:\nul`,
+    ///   and `C:\a `, which Windows reads as `C:\a`. After `\\?\` none is.
     ///
     /// ```
-    /// use os_path::{JoinError, PathExt};
-    /// use platform_str::{OsStr, Path, Unix, Windows};
+    /// use os_path::{BaseError, PathExt, path};
+    /// use platform_str::{OsStr, Windows};
     ///
-    /// let base = Path::<Unix>::new(OsStr::new("/srv/files"));
-    /// let path = base.join_checked(alloc, Path::new(OsStr::new("./a/../b//c")))?;
-    /// assert!(rt; path.as_os_str() == OsStr::new("/srv/files/b/c"));
-    /// let error = base.join_checked(alloc, Path::new(OsStr::new("../etc"))).err();
-    /// assert!(rt; error == Some(JoinError::Leaves));
-    /// let error = base.join_checked(alloc, Path::new(OsStr::new("..\0x"))).err();
-    /// assert!(rt; error == Some(JoinError::Nul(2)));
-    /// let base = Path::<Windows>::new(OsStr::new("C:\\files"));
-    /// let error = base.join_checked(alloc, Path::new(OsStr::new("a/nul.txt"))).err();
-    /// assert!(rt; error == Some(JoinError::Reserved));
+    /// let base = path::<Windows>("C:\\files").as_base()?;
+    /// for name in ["a/b", "c"] {
+    ///     assert!(rt; base.join(alloc, path(name))?.as_path().starts_with(path("C:\\files")));
+    /// }
+    /// let error = path::<Windows>("\\\\server").as_base().err();
+    /// assert!(rt; error == Some(BaseError::Incomplete));
+    /// let error = path::<Windows>("C:\\files ").as_base().err();
+    /// assert!(rt; error == Some(BaseError::Reserved));
+    /// ```
+    final fn as_base(self) -> Result<Base<'a, Self::Platform>, BaseError>
+        ensures ok { IfOk result (λ base. path_of_base base ≡ bytes_of self) }
+        ensures err { IfErr result
+            (λ error. IsBaseFault Self.Platform.follows (bytes_of self) error) }
+    {
+        Base::new(Path::new(OsStr::from_encoded_bytes_unchecked(self.path_bytes())))
+    }
+
+    /// Joins a path to this one that can't leave it, in new memory (typed-path's `join_checked`), as
+    /// [`PathExt::as_base`] and [`Base::join`] do. It is meant for names that come out of an archive
+    /// or a request. For many names below one path, make the base once.
+    ///
+    /// The result has the components of this path, then the names of the other, in which `.` and
+    /// `..` are resolved. It is written with the main separator, and has no NUL. If this path is a
+    /// prefix alone and begins with `\\?\`, as `\\?\C:`, it gets its root. No path leaves this one
+    /// unless a name is a symbolic link (clause `below`, `path_building::laws::joined_below`).
+    ///
+    /// # Errors
+    ///
+    /// - `Base` if this path is no base ([`PathExt::as_base`]).
+    /// - `Name` if the other path isn't joined to it ([`Base::join`]): it has a NUL, a prefix or a
+    ///   root, or a `..` would leave the base. On Windows a name that has a colon or is reserved is
+    ///   rejected, too. Or an allocation fails.
+    ///
+    /// ```
+    /// use os_path::{JoinError, NameError, PathExt, path};
+    /// use platform_str::{OsStr, Unix, Windows};
+    ///
+    /// let base = path::<Unix>("/srv/files");
+    /// let joined = base.join_checked(alloc, path("./a/../b//c"))?;
+    /// assert!(rt; joined.as_os_str() == OsStr::new("/srv/files/b/c"));
+    /// let error = base.join_checked(alloc, path("a/../../etc")).err();
+    /// assert!(rt; error == Some(JoinError::Name(NameError::Leaves(2))));
+    /// let error = base.join_checked(alloc, path("..\0x")).err();
+    /// assert!(rt; error == Some(JoinError::Name(NameError::Nul(2))));
+    /// let error = path::<Windows>("C:\\files").join_checked(alloc, path("a/nul.txt")).err();
+    /// assert!(rt; error == Some(JoinError::Name(NameError::Reserved(1))));
     /// ```
     final fn join_checked<A: Allocator + Clone>(
         self,
@@ -690,14 +714,14 @@ pub trait PathExt<'a>: Sized + Copy {
     /// The error that [`PathExt::join_checked`] returns.
     ///
     /// ```
-    /// use os_path::{JoinError, PathExt, path};
+    /// use os_path::{JoinError, NameError, PathExt, path};
     /// use platform_str::{OsStr, Unix};
     ///
     /// let base = path::<Unix>("/srv");
     /// let ended = base.join_checked_keeping_sep(alloc, path("a/./b//"))?;
     /// assert!(rt; ended.as_os_str() == OsStr::new("/srv/a/b/"));
     /// let error = base.join_checked_keeping_sep(alloc, path("../")).err();
-    /// assert!(rt; error == Some(JoinError::Leaves));
+    /// assert!(rt; error == Some(JoinError::Name(NameError::Leaves(0))));
     /// ```
     final fn join_checked_keeping_sep<A: Allocator + Clone>(
         self,

@@ -14,10 +14,12 @@
 //!
 //! An extension that is set has no separator (`path_rules::is_extension_text` tests it); no other
 //! call has a precondition. A path may have a NUL, at which a system would end it;
-//! [`PathExt::join_checked`] and [`PathExt::join_checked_keeping_sep`] alone reject it.
+//! only [`PathExt::as_base`], [`Base::join`], [`PathExt::join_checked`] and
+//! [`PathExt::join_checked_keeping_sep`] reject it.
 #![tactic(auto)]
 
 mod ancestors;
+mod base;
 mod buf;
 mod built;
 mod by_components;
@@ -44,6 +46,7 @@ mod style;
 mod styles;
 
 pub use ancestors::Ancestors;
+pub use base::Base;
 pub use buf::{add_extension, pop, push, set_extension, set_file_name};
 pub use by_components::ByComponents;
 pub use collected::from_components;
@@ -53,7 +56,9 @@ pub use components::Components;
 pub use ext::PathExt;
 pub use iter::Iter;
 pub use literal::path;
-pub use path_building::{AbsoluteError, CommonBaseError, JoinError, NormalizeError};
+pub use path_building::{
+    AbsoluteError, BaseError, CommonBaseError, JoinError, NameError, NormalizeError,
+};
 pub use path_rules::{Component, Prefix, Style};
 pub use reserved::is_reserved;
 pub use style::PathStyle;

@@ -10,6 +10,7 @@ pub mod Written
 pub mod AsWritten
 pub mod CleanPrefixes
 pub mod Objects
+pub mod Beginnings
 pub mod Forms
 pub mod Again
 pub mod OneClean
@@ -17,6 +18,7 @@ pub mod FileNames
 pub mod FileStems
 pub mod Bases
 pub mod Checks
+pub mod Walks
 pub mod Resolved
 pub mod ResolvedItems
 pub mod Below
@@ -32,3 +34,6 @@ pub mod InlineTexts
 pub mod NulFree
 pub mod FullPaths
 pub mod CommonBases
+pub mod OneResults
+pub mod OneFaults
+pub mod FullResults

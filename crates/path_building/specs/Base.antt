@@ -1,13 +1,16 @@
 -- What may be the base of names that come from outside: a place of its own, without NUL.
-use Rattle.std.specs.Prelude.{◌≡◌, ◌≢◌, ◌⊎◌, ℕ, true, if◌then◌else◌, List, [], ◌∷◌, ◌++◌, length}
+use Rattle.std.specs.Prelude.{◌≡◌, ◌≢◌, ◌⊎◌, ℕ, true, if◌then◌else◌, List, [], ◌∷◌, ◌++◌, length, map, codes}
+use Rattle.std.specs.Char.{to_ascii_lowercase}
 use Rattle.std.specs.List.{AllByRecursion}
 use Rattle.path_rules.specs.declared.rules.Rules.TheVariants as rules
 use Rattle.path_rules.specs.declared.rules.Style as whose
 use Rattle.path_rules.specs.declared.rules.Style.TheVariants as style
-use Rattle.path_rules.specs.Separators.{separates}
 use Rattle.path_rules.specs.Component.{Item, Prefix, RootDir, CurDir, ParentDir, Normal}
-use Rattle.path_rules.specs.Prefix.{Kind, Verbatim, VerbatimUnc, VerbatimDisk, Device, Unc, Disk, IsPrefixOf, rules_of, begins_verbatim, IsPrefixed}
-use Rattle.path_rules.specs.Root.{BeginsWithSeparator}
+use Rattle.path_rules.specs.Prefix.{Kind, Verbatim, VerbatimUnc, VerbatimDisk, Device, Unc, Disk, IsPrefixOf, EitherWay, HasKind, rules_of, begins_verbatim}
+use Rattle.path_rules.specs.Parsed.{IsVerbatimKind}
+use Rattle.path_rules.specs.Components.{AreComponents}
+use Rattle.path_rules.specs.Reserved.{is_dot_or_space, IsReserved}
+use Rattle.path_building.specs.Beginning.{BeginsTwice}
 use Rattle.path_building.specs.Written.{BeginsAsObject}
 
 -- no byte is NUL, at which a string of C ends
@@ -22,34 +25,70 @@ pub record IsFirstNul (s : List ℕ) (index : ℕ) : Type 0 where
   pub none_before : HasNoNul before
   pub index_is : index ≡ length before
 
--- `UNC`
+-- `UNC`, after which come a server and a share
 abbrev pub unc : List ℕ
-unc = 0x55 ∷ 0x4E ∷ 0x43 ∷ []
+unc = codes "UNC"
 
--- a prefix of this kind has all its parts: `\\?\UNC\server` lacks a share, and `\\?\UNC` also a server
-abbrev pub HasAllParts : Kind → Type 0
-HasAllParts (Verbatim name) = (name ≢ []) × (name ≢ unc)
-HasAllParts (VerbatimUnc server share) = (server ≢ []) × (share ≢ [])
-HasAllParts (VerbatimDisk letter) = Unit {0}
-HasAllParts (Device name) = name ≢ []
-HasAllParts (Unc server share) = Unit {0}
-HasAllParts (Disk letter) = Unit {0}
+-- `GLOBALROOT`, after which comes any path of the object manager
+abbrev pub global_root : List ℕ
+global_root = codes "GLOBALROOT"
 
-abbrev pub HasOpenPrefix : List ℕ → Type 0
-HasOpenPrefix path = (kind : Kind) × ((rest : List ℕ) × (IsPrefixOf path kind rest × ¬ (HasAllParts kind)))
+-- both are equal but for the case of their letters, as Windows compares the names of objects
+abbrev pub AreOneInAnyCase : List ℕ → List ℕ → Type 0
+AreOneInAnyCase s t = map to_ascii_lowercase s ≡ map to_ascii_lowercase t
 
--- the path begins with two separators, as before a server
-abbrev pub BeginsTwice : List ℕ → Type 0
-BeginsTwice [] = ⊥
-BeginsTwice (a ∷ s) = (separates rules.Either a ≡ true) × BeginsWithSeparator rules.Either s
+-- what is written after `\\?\` or `\\.\` names no object of its own
+abbrev pub NamesNoObject : List ℕ → Type 0
+NamesNoObject name = (name ≡ []) ⊎ (AreOneInAnyCase name unc ⊎ AreOneInAnyCase name global_root)
 
--- the path is incomplete as a base: its prefix lacks a part, or it has no prefix and begins as a path with such a prefix does, or as a path of the object manager
+-- the last byte is a dot or a space, which Windows takes off the end of a path ("File path formats on Windows systems")
+pub record EndsInDotOrSpace (s : List ℕ) : Type 0 where
+  pub before : List ℕ
+  pub last : ℕ
+  pub joined : s ≡ before ++ last ∷ []
+  pub is : is_dot_or_space last ≡ true
+
+-- a prefix of this kind lacks a part, or Windows reads another before a name: `\\?\UNC\server` lacks a share, `\\?\unc` a server too, and `//?/` is read as `\\?\`
+abbrev pub IsOpenKind : Kind → Type 0
+IsOpenKind (Verbatim name) = NamesNoObject name
+IsOpenKind (VerbatimUnc server share) = (server ≡ []) ⊎ (share ≡ [])
+IsOpenKind (VerbatimDisk letter) = ⊥
+IsOpenKind (Device name) = NamesNoObject name ⊎ EndsInDotOrSpace name
+IsOpenKind (Unc server share) = (server ≡ 0x3F ∷ []) ⊎ EndsInDotOrSpace share
+IsOpenKind (Disk letter) = ⊥
+
+-- a path without a prefix that begins as one with such a prefix does, or as a path of the object manager
+abbrev pub BeginsOpen : whose.Style → List ℕ → Type 0
+BeginsOpen style.Unix path = ⊥
+BeginsOpen style.Windows path = BeginsTwice path ⊎ BeginsAsObject path
+
+-- the path is incomplete as a base: its prefix is, or it begins so without one
 abbrev pub LacksPart : whose.Style → List ℕ → Type 0
-LacksPart style.Unix path = ⊥
-LacksPart style.Windows path = HasOpenPrefix path ⊎ (¬ (IsPrefixed style.Windows path) × (BeginsTwice path ⊎ BeginsAsObject path))
+LacksPart w path = EitherWay w path (BeginsOpen w) (λ kind rest. IsOpenKind kind)
 
+-- no name that Windows reserves
+abbrev pub IsFree : Item → Type 0
+IsFree (Prefix s) = Unit {0}
+IsFree RootDir = Unit {0}
+IsFree CurDir = Unit {0}
+IsFree ParentDir = Unit {0}
+IsFree (Normal s) = ¬ (IsReserved s)
+
+-- no name of a Windows path is reserved
+abbrev pub AreFree : whose.Style → List Item → Type 0
+AreFree style.Unix items = Unit {0}
+AreFree style.Windows items = AllByRecursion IsFree items
+
+abbrev pub HasFreeNames : whose.Style → List ℕ → Type 0
+HasFreeNames w path = (items : List Item) × (AreComponents w path items × AreFree w items)
+
+-- Windows reads a name of the path otherwise: without the dot or the space at its end, as a stream after a colon, or as a device. After `\\?\` it reads each name as it is
+abbrev pub HasReservedName : whose.Style → List ℕ → Type 0
+HasReservedName w path = ¬ (HasKind w path IsVerbatimKind) × ¬ (HasFreeNames w path)
+
+-- a complete path without NUL, whose names Windows reads as they are
 abbrev pub IsBase : whose.Style → List ℕ → Type 0
-IsBase w base = HasNoNul base × ¬ (LacksPart w base)
+IsBase w base = HasNoNul base × (¬ (LacksPart w base) × ¬ (HasReservedName w base))
 
 -- the path is a prefix alone after which only `\` separates, as `\\?\C:`
 abbrev pub IsVerbatimAlone : whose.Style → List ℕ → Type 0

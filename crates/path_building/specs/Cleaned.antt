@@ -5,6 +5,7 @@ use Rattle.path_rules.specs.declared.rules.Style.{Style}
 use Rattle.path_rules.specs.Separators.{separates}
 use Rattle.path_rules.specs.Component.{Item, Prefix, RootDir, CurDir, ParentDir, Normal}
 use Rattle.path_rules.specs.Components.{AreComponents}
+use Rattle.path_building.specs.Beginning.{BeginsOddly}
 use Rattle.path_building.specs.Normalized.{AreVerbatim, IsShielded}
 use Rattle.path_building.specs.Written.{IsPathOf}
 
@@ -47,7 +48,7 @@ abbrev pub separated_by : ℕ → List ℕ → List ℕ
 separated_by c [] = []
 separated_by c (b ∷ s) = (if separates rules.Either b then c else b) ∷ separated_by c s
 
--- a prefix in one spelling: with `\` as its separator; but a server `?` is written `//?/`, since after `\\?\` a path is read by other rules
+-- a prefix, or a path, in one spelling: with `\` as its separator; but `//?/` stays, since after `\\?\` a path is read by other rules
 abbrev pub one_spelling : List ℕ → List ℕ
 one_spelling s = separated_by (if begins_as_verbatim s then 0x2F else 0x5C) s
 
@@ -63,8 +64,8 @@ spelled (Normal s) = Normal s
 abbrev pub IsCleanForm : List Item → List Item → Type 0
 IsCleanForm items clean = (AreVerbatim items × (clean ≡ items)) ⊎ (¬ (AreVerbatim items) × ((left : List Item) × (CleansTo (reverse items) (reverse left) × (clean ≡ or_dot (map spelled left)))))
 
--- the result has the clean form of the path's components, written with the main separator
-pub record IsCleaned (w : Style) (path answer : List ℕ) : Type 0 where
+-- the result has the clean form of the path's components, written with the main separator, and doesn't begin oddly
+pub record IsCleanWritten (w : Style) (path answer : List ℕ) : Type 0 where
   pub items : List Item
   pub clean : List Item
   pub shown : List Item
@@ -72,6 +73,11 @@ pub record IsCleaned (w : Style) (path answer : List ℕ) : Type 0 where
   pub form : IsCleanForm items clean
   pub shielded : IsShielded w clean shown
   pub answers : IsPathOf w shown answer
+  pub even : ¬ (BeginsOddly w answer)
+
+-- a path that begins oddly stays as it is, but for the spelling of its separators
+abbrev pub IsCleaned : Style → List ℕ → List ℕ → Type 0
+IsCleaned w path answer = (BeginsOddly w path × (answer ≡ one_spelling path)) ⊎ (¬ (BeginsOddly w path) × IsCleanWritten w path answer)
 
 -- two paths are the same bytes, but for the spelling of the separators
 abbrev pub DifferInSeparators : List ℕ → List ℕ → Type 0

@@ -1,5 +1,9 @@
 -- What errors print.
 use Rattle.std.specs.Prelude.{ℕ, List, ◌++◌, codes, decimal}
+use Rattle.path_building.specs.declared.base.BaseError.{BaseError}
+use Rattle.path_building.specs.declared.base.BaseError.TheVariants as base
+use Rattle.path_building.specs.declared.walk.NameError.{NameError}
+use Rattle.path_building.specs.declared.walk.NameError.TheVariants as name
 use Rattle.path_building.specs.declared.checked.JoinError.{JoinError}
 use Rattle.path_building.specs.declared.checked.JoinError.TheVariants as join
 use Rattle.path_building.specs.declared.common_bases.CommonBaseError.{CommonBaseError}
@@ -15,17 +19,25 @@ use Rattle.path_building.specs.declared.styles.StyleError.TheVariants as restyle
 abbrev pub at_byte : List ℕ → ℕ → List ℕ → List ℕ
 at_byte what index of = what ++ (codes " at byte " ++ (decimal index ++ of))
 
+-- why a path is no base
+abbrev pub base_error_text : BaseError → List ℕ
+base_error_text (base.Nul index) = at_byte (codes "NUL") index (codes " of the base")
+base_error_text base.Incomplete = codes "the base has an incomplete prefix"
+base_error_text base.Reserved = codes "the base has a reserved name"
+
 -- why a path isn't joined to a base
+abbrev pub name_error_text : NameError → List ℕ
+name_error_text (name.Nul index) = at_byte (codes "NUL") index (codes " of the path")
+name_error_text name.Prefix = codes "the path has a prefix"
+name_error_text name.Root = codes "the path has a root"
+name_error_text (name.Leaves index) = codes "the path leaves the base at component " ++ decimal index
+name_error_text (name.Stream index) = codes "the path has a colon in component " ++ decimal index
+name_error_text (name.Reserved index) = codes "the path has a reserved name at component " ++ decimal index
+name_error_text name.Memory = codes "out of memory"
+
 abbrev pub join_error_text : JoinError → List ℕ
-join_error_text (join.BaseNul index) = at_byte (codes "NUL") index (codes " of the base")
-join_error_text join.Base = codes "the base has an incomplete prefix"
-join_error_text (join.Nul index) = at_byte (codes "NUL") index (codes " of the path")
-join_error_text join.Prefix = codes "the path has a prefix"
-join_error_text join.Root = codes "the path has a root"
-join_error_text join.Leaves = codes "the path leaves the base"
-join_error_text join.Stream = codes "the path has a colon in a name"
-join_error_text join.Reserved = codes "the path has a reserved name"
-join_error_text join.Memory = codes "out of memory"
+join_error_text (join.Base error) = base_error_text error
+join_error_text (join.Name error) = name_error_text error
 
 -- why a path has no normal form
 abbrev pub normalize_error_text : NormalizeError → List ℕ

@@ -9,8 +9,7 @@ use Rattle.path_rules.specs.Component.{Item, Prefix, RootDir, CurDir, ParentDir,
 use Rattle.path_rules.specs.Components.{AreComponents}
 use Rattle.path_rules.specs.Prefix.{Kind, Verbatim, VerbatimUnc, VerbatimDisk, Device, Unc, Disk, IsPrefixOf, IsPrefixed}
 use Rattle.path_rules.specs.Root.{BeginsWithSeparator, IsAbsolute}
-use Rattle.path_building.specs.Base.{LacksPart}
-use Rattle.path_building.specs.Checked.{AreFree}
+use Rattle.path_building.specs.Base.{LacksPart, HasFreeNames}
 use Rattle.path_building.specs.Cleaned.{IsCleaned}
 use Rattle.path_building.specs.Collected.{ArePushed}
 use Rattle.path_building.specs.Join.{IsJoin, without_dot}
@@ -29,10 +28,6 @@ IsDeviceKind (Disk letter) = ⊥
 abbrev pub IsDevicePath : whose.Style → List ℕ → Type 0
 IsDevicePath style.Unix path = ⊥
 IsDevicePath style.Windows path = (kind : Kind) × ((rest : List ℕ) × (IsPrefixOf path kind rest × IsDeviceKind kind))
-
--- no name of a Windows path is one that Windows keeps for itself or changes
-abbrev pub HasFreeNames : whose.Style → List ℕ → Type 0
-HasFreeNames w path = (items : List Item) × (AreComponents w path items × AreFree w items)
 
 -- the path isn't empty, its prefix lacks no part, and no name is reserved
 pub record IsPlaceable (w : whose.Style) (path : List ℕ) : Type 0 where

@@ -1,10 +1,10 @@
 -- A path after another (std's `Path::join` and `PathBuf::push`).
 use Rattle.std.specs.Prelude.{◌≡◌, ◌≢◌, ◌⊎◌, ℕ, List, [], ◌∷◌, ◌++◌}
-use Rattle.path_rules.specs.declared.rules.Rules.TheVariants as rules
 use Rattle.path_rules.specs.declared.rules.Style as whose
 use Rattle.path_rules.specs.declared.rules.Style.TheVariants as style
 use Rattle.path_rules.specs.StyleRules.{rules_of_style, main_separator}
-use Rattle.path_rules.specs.Prefix.{Kind, Disk, IsPrefixOf, rules_of, IsPrefixed, IsRawPrefix}
+use Rattle.path_rules.specs.Prefix.{Kind, Disk, IsPrefixOf, WithPrefix, HasKind, IsPrefixed, IsRawPrefix}
+use Rattle.path_rules.specs.Parsed.{IsVerbatimKind}
 use Rattle.path_rules.specs.Root.{BeginsWithSeparator}
 use Rattle.path_rules.specs.Trailing.{EndsWithSeparator}
 use Rattle.path_rules.specs.Component.{Item, Prefix, RootDir, CurDir, ParentDir, Normal}
@@ -12,13 +12,11 @@ use Rattle.path_building.specs.Resolved.{IsResolved}
 
 -- the path begins with a prefix after which only `\` separates
 abbrev pub IsVerbatimPath : whose.Style → List ℕ → Type 0
-IsVerbatimPath style.Unix path = ⊥
-IsVerbatimPath style.Windows path = (kind : Kind) × ((rest : List ℕ) × (IsPrefixOf path kind rest × (rules_of kind ≡ rules.Verbatim)))
+IsVerbatimPath w path = HasKind w path IsVerbatimKind
 
 -- the path is a drive alone, as `C:`
 abbrev pub IsDriveAlone : whose.Style → List ℕ → Type 0
-IsDriveAlone style.Unix path = ⊥
-IsDriveAlone style.Windows path = (letter : ℕ) × IsPrefixOf path (Disk letter) []
+IsDriveAlone w path = WithPrefix w path (λ kind rest. (rest ≡ []) × ((letter : ℕ) × (kind ≡ Disk letter)))
 
 -- a base that is empty or a drive alone, or that ends with a separator, needs none after it
 abbrev pub NeedsNoSeparator : whose.Style → List ℕ → Type 0

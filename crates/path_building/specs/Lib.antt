@@ -7,8 +7,12 @@ pub mod Normalized
 pub mod Cleaned
 pub mod FileName
 pub mod FileStem
+pub mod Beginning
 pub mod Base
 pub mod Checked
+pub mod Walked
+pub mod Faults
+pub mod BaseViews
 pub mod ErrorText
 pub mod Relative
 pub mod Restyled

@@ -6,7 +6,8 @@ use Rattle.path_building.specs.declared.normal.NormalizeError.{NormalizeError}
 use Rattle.path_building.specs.declared.normal.NormalizeError.TheVariants as error
 use Rattle.path_rules.specs.Component.{Item, Prefix, RootDir, CurDir, ParentDir, Normal}
 use Rattle.path_rules.specs.Components.{AreComponents}
-use Rattle.path_rules.specs.Prefix.{Kind, IsPrefixOf, begins_verbatim}
+use Rattle.path_rules.specs.Prefix.{begins_verbatim}
+use Rattle.path_building.specs.Beginning.{has_colon, BeginsOddly}
 use Rattle.path_building.specs.Normal.{AreNormalOf}
 use Rattle.path_building.specs.Written.{IsPathOf}
 
@@ -19,30 +20,30 @@ AreVerbatim (CurDir ∷ xs) = ⊥
 AreVerbatim (ParentDir ∷ xs) = ⊥
 AreVerbatim (Normal s ∷ xs) = ⊥
 
--- a name that alone begins with a prefix
-abbrev pub IsReadAsPrefix : Style → List ℕ → Type 0
-IsReadAsPrefix style.Unix s = ⊥
-IsReadAsPrefix style.Windows s = (kind : Kind) × ((rest : List ℕ) × IsPrefixOf s kind rest)
+-- a name with a colon, which Windows would read as a drive, or with a stream, at the start of a path (Go's `filepath.Clean`)
+abbrev pub IsColonName : Style → List ℕ → Type 0
+IsColonName style.Unix s = ⊥
+IsColonName style.Windows s = has_colon s ≡ true
 
 -- the first component is such a name
-abbrev pub BeginsAsPrefix : Style → List Item → Type 0
-BeginsAsPrefix w [] = ⊥
-BeginsAsPrefix w (Prefix s ∷ xs) = ⊥
-BeginsAsPrefix w (RootDir ∷ xs) = ⊥
-BeginsAsPrefix w (CurDir ∷ xs) = ⊥
-BeginsAsPrefix w (ParentDir ∷ xs) = ⊥
-BeginsAsPrefix w (Normal s ∷ xs) = IsReadAsPrefix w s
+abbrev pub BeginsWithColon : Style → List Item → Type 0
+BeginsWithColon w [] = ⊥
+BeginsWithColon w (Prefix s ∷ xs) = ⊥
+BeginsWithColon w (RootDir ∷ xs) = ⊥
+BeginsWithColon w (CurDir ∷ xs) = ⊥
+BeginsWithColon w (ParentDir ∷ xs) = ⊥
+BeginsWithColon w (Normal s ∷ xs) = IsColonName w s
 
--- `.` comes before a first name that would be read as a prefix
+-- `.` comes before a first name with a colon
 abbrev pub IsShielded : Style → List Item → List Item → Type 0
-IsShielded w items shown = (BeginsAsPrefix w items × (shown ≡ CurDir ∷ items)) ⊎ (¬ (BeginsAsPrefix w items) × (shown ≡ items))
+IsShielded w items shown = (BeginsWithColon w items × (shown ≡ CurDir ∷ items)) ⊎ (¬ (BeginsWithColon w items) × (shown ≡ items))
 
 -- the normal form of a path's components; a path that begins with `\\?\` is kept
 abbrev pub IsNormalForm : List Item → List Item → Type 0
 IsNormalForm items normal = (AreVerbatim items × (normal ≡ items)) ⊎ (¬ (AreVerbatim items) × AreNormalOf items normal)
 
--- the result has the normal form of the path's components, written with the main separator
-pub record IsNormalized (w : Style) (path answer : List ℕ) : Type 0 where
+-- the result has the normal form of the path's components, written with the main separator, and doesn't begin oddly
+pub record IsNormalWritten (w : Style) (path answer : List ℕ) : Type 0 where
   pub items : List Item
   pub normal : List Item
   pub shown : List Item
@@ -50,10 +51,18 @@ pub record IsNormalized (w : Style) (path answer : List ℕ) : Type 0 where
   pub form : IsNormalForm items normal
   pub shielded : IsShielded w normal shown
   pub answers : IsPathOf w shown answer
+  pub even : ¬ (BeginsOddly w answer)
+
+-- a path that begins oddly stays as it is
+abbrev pub IsNormalized : Style → List ℕ → List ℕ → Type 0
+IsNormalized w path answer = (BeginsOddly w path × (answer ≡ path)) ⊎ (¬ (BeginsOddly w path) × IsNormalWritten w path answer)
 
 -- a `..` has no name before it to take
+abbrev pub HasNoForm : Style → List ℕ → Type 0
+HasNoForm w path = (items normal : List Item) → AreComponents w path items → ¬ (IsNormalForm items normal)
+
 abbrev pub HasNoNormalForm : Style → List ℕ → Type 0
-HasNoNormalForm w path = (items normal : List Item) → AreComponents w path items → ¬ (IsNormalForm items normal)
+HasNoNormalForm w path = ¬ (BeginsOddly w path) × HasNoForm w path
 
 -- why a path has no normal form
 abbrev pub IsNormalizeFault : Style → List ℕ → NormalizeError → Type 0

@@ -5,6 +5,7 @@ use Rattle.path_rules.specs.Component.{Item, Prefix, RootDir, CurDir, ParentDir,
 use Rattle.path_rules.specs.Components.{AreComponents}
 use Rattle.path_rules.specs.Root.{IsAbsolute}
 use Rattle.path_rules.specs.Compare.{AreAlike, AreAllAlike}
+use Rattle.path_building.specs.Beginning.{BeginsOddly}
 use Rattle.path_building.specs.Cleaned.{CleansTo}
 use Rattle.path_building.specs.Normalized.{AreVerbatim, IsShielded}
 use Rattle.path_building.specs.Written.{IsWritten, IsPathOf}
@@ -59,11 +60,12 @@ pub record IsWhole (w : Style) (path r : List ℕ) : Type 0 where
   pub form : (AreVerbatim items × CleansTo (reverse items) (reverse shown)) ⊎ (¬ (AreVerbatim items) × (shown ≡ items))
   pub answers : IsPathOf w shown r
 
--- what is left of a path and of a base, where both or neither are absolute
+-- what is left of a path and of a base that don't begin oddly, where both or neither are absolute
 pub record AreLeft (w : Style) (path base : List ℕ) (us vs : List Item) : Type 0 where
   pub items : List Item
   pub base_items : List Item
   pub both : IsAbsolute w path ↔ IsAbsolute w base
+  pub even : ¬ (BeginsOddly w path ⊎ BeginsOddly w base)
   pub are : AreComponents w path items
   pub base_are : AreComponents w base base_items
   pub left : List Item
@@ -89,9 +91,13 @@ pub record IsRelativeWay (w : Style) (path base r : List ℕ) : Type 0 where
 abbrev pub IsCandidate : Style → List ℕ → List ℕ → List ℕ → Type 0
 IsCandidate w path base r = IsAbsoluteAlone w path base r ⊎ IsRelativeWay w path base r
 
--- there is no relative path from an absolute base to a path that isn't, nor from a base whose first component left is a `..`
+-- one of two paths that are both absolute, or both not, begins oddly
+abbrev pub IsOddPair : Style → List ℕ → List ℕ → Type 0
+IsOddPair w path base = (IsAbsolute w path ↔ IsAbsolute w base) × (BeginsOddly w path ⊎ BeginsOddly w base)
+
+-- there is no relative path from an absolute base to a path that isn't, nor if one begins oddly, nor from a base whose first component left is a `..`
 abbrev pub HasNoWay : Style → List ℕ → List ℕ → Type 0
-HasNoWay w path base = (¬ (IsAbsolute w path) × IsAbsolute w base) ⊎ ((us : List Item) × ((vs : List Item) × (AreLeft w path base us vs × BeginsUp vs)))
+HasNoWay w path base = (¬ (IsAbsolute w path) × IsAbsolute w base) ⊎ (IsOddPair w path base ⊎ ((us : List Item) × ((vs : List Item) × (AreLeft w path base us vs × BeginsUp vs))))
 
 abbrev pub IsCandidateOrNone : Style → List ℕ → List ℕ → Option (List ℕ) → Type 0
 IsCandidateOrNone w path base (Some r) = IsCandidate w path base r

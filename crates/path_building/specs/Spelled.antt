@@ -8,8 +8,9 @@ use Rattle.path_rules.specs.declared.head.Start.TheVariants.{Root, Dot, Nothing}
 use Rattle.path_rules.specs.declared.head.Head.{Head}
 use Rattle.path_rules.specs.declared.rules.Style as whose
 use Rattle.path_rules.specs.declared.rules.Style.TheVariants as style
-use Rattle.path_building.specs.Normalized.{BeginsAsPrefix}
-use Rattle.path_rules.specs.Component.{Item, RootDir, ParentDir, Normal, named}
+use Rattle.path_building.specs.Normalized.{BeginsWithColon}
+use Rattle.path_rules.specs.Component.{Item, Prefix, RootDir, CurDir, ParentDir, Normal, named}
+use Rattle.path_rules.specs.Prefix.{Kind, IsPrefixOf}
 use Rattle.path_rules.specs.Components.{AreComponents}
 use Rattle.path_building.specs.Written.{spelling, joined_names, HasEmptyShare, object_dir, IsPathOf}
 
@@ -49,9 +50,27 @@ ObjectNext style.Unix prefix start names = ⊥
 ObjectNext style.Windows [] Root (Normal s ∷ xs) = s ≡ object_dir
 ObjectNext style.Windows prefix start names = ⊥
 
+-- a name that alone begins with a prefix
+abbrev pub IsReadAsPrefix : whose.Style → List ℕ → Type 0
+IsReadAsPrefix style.Unix s = ⊥
+IsReadAsPrefix style.Windows s = (kind : Kind) × ((rest : List ℕ) × IsPrefixOf s kind rest)
+
+-- the first component is such a name
+abbrev pub BeginsAsPrefix : whose.Style → List Item → Type 0
+BeginsAsPrefix w [] = ⊥
+BeginsAsPrefix w (Prefix s ∷ xs) = ⊥
+BeginsAsPrefix w (RootDir ∷ xs) = ⊥
+BeginsAsPrefix w (CurDir ∷ xs) = ⊥
+BeginsAsPrefix w (ParentDir ∷ xs) = ⊥
+BeginsAsPrefix w (Normal s ∷ xs) = IsReadAsPrefix w s
+
 -- how a path may start again: one without a prefix in any way that gives it none, one with a prefix as it did
 abbrev pub MayStart : whose.Style → Head → Start → List Item → Type 0
 MayStart w head start names = (head.prefix.now ≡ [] → start ≡ Nothing → ¬ (BeginsAsPrefix w names)) × (head.prefix.now ≢ [] → start ≡ head.start)
+
+-- the same, but a first name with a colon doesn't follow nothing
+abbrev pub IsShieldedStart : whose.Style → Head → Start → List Item → Type 0
+IsShieldedStart w head start names = (head.prefix.now ≡ [] → start ≡ Nothing → ¬ (BeginsWithColon w names)) × (head.prefix.now ≢ [] → start ≡ head.start)
 
 -- names from the last to the first: what further components make of them; none where a `..` has no name to take
 abbrev pub resolve : List Item → List Item → Option (List Item)

@@ -1,6 +1,7 @@
 //! A path below a base that keeps the separator at its end.
 ghost use Rattle.std.specs.Prelude.{IfOk, IfErr};
-ghost use Rattle.path_building.specs.Checked.{IsBelowBase, IsJoinFault};
+ghost use Rattle.path_building.specs.Checked.{IsBelowBase};
+ghost use Rattle.path_building.specs.Faults.{IsJoinFault};
 ghost use Rattle.path_building.specs.CheckedEnd.{IsCheckedJoinEnded};
 
 use crate::checked::{JoinError, join_checked};
@@ -20,7 +21,7 @@ use std::alloc::Allocator;
 /// The error that [`join_checked`] returns.
 ///
 /// ```
-/// use path_building::{JoinError, join_checked_keeping_sep};
+/// use path_building::{JoinError, NameError, join_checked_keeping_sep};
 /// use path_rules::Style;
 ///
 /// let path = join_checked_keeping_sep(alloc, Style::Unix, b"/srv", b"a/./b//")?;
@@ -32,7 +33,7 @@ use std::alloc::Allocator;
 /// let path = join_checked_keeping_sep(alloc, Style::Windows, b"C:", b"./")?;
 /// assert_eq!(rt; path.as_slice(), b"C:".as_slice());
 /// let rejected = join_checked_keeping_sep(alloc, Style::Unix, b"/srv", b"../");
-/// assert!(rt; rejected.is_err_and(|e| e == JoinError::Leaves));
+/// assert!(rt; rejected.is_err_and(|e| e == JoinError::Name(NameError::Leaves(0))));
 /// ```
 pub fn join_checked_keeping_sep<A: Allocator + Clone>(
     alloc: A,

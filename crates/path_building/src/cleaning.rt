@@ -7,14 +7,16 @@ ghost use Rattle.path_rules.specs.HeadParts.{IsHead};
 ghost use Rattle.path_rules.specs.Heads.{prefix_items, start_items};
 ghost use Rattle.path_rules.specs.Views.{item_of};
 ghost use Rattle.path_rules.specs.Prefix.{begins_verbatim};
+ghost use Rattle.path_building.specs.Beginning.{BeginsOddly};
 ghost use Rattle.path_building.specs.Written.{IsPathOf};
-ghost use Rattle.path_building.specs.Spelled.{cleaned, go_up, cleaned_start, AreSpelled, MayStart};
-ghost use Rattle.path_building.specs.Normalized.{BeginsAsPrefix, IsShielded};
-ghost use Rattle.path_building.specs.Cleaned.{or_dot, spelled, IsCleaned};
+ghost use Rattle.path_building.specs.Spelled.{cleaned, go_up, cleaned_start, AreSpelled, MayStart, IsShieldedStart};
+ghost use Rattle.path_building.specs.Normalized.{BeginsWithColon, IsShielded};
+ghost use Rattle.path_building.specs.Cleaned.{or_dot, one_spelling, spelled, IsCleanWritten, IsCleaned};
 
+use crate::beginning::begins_oddly;
 use crate::normal::{is_root, rewritten, shielded, written_as};
 use crate::writing::{push_after, push_spelled};
-use path_rules::parts::{Head, Start, head_of, is_verbatim, next_in};
+use path_rules::parts::{Head, Parsed, Start, is_verbatim, next_in};
 use path_rules::{Component, Rules, Style};
 use std::alloc::{AllocError, Allocator};
 
@@ -24,12 +26,14 @@ use std::alloc::{AllocError, Allocator};
 ///
 /// Unlike [`crate::normalize`], it keeps a `..` that has neither a name nor a root before it,
 /// removes a `.` at the start, and makes the empty path `.`. A path whose prefix begins with `\\?\`,
-/// a first name that would be read as a prefix, and the name `??` after a root are treated as by
-/// `normalize`. A clean path is its own clean form ([`crate::laws::cleaned_again`]).
+/// a first name with a colon, and the name `??` after a root are treated as by `normalize`. So is a
+/// path whose beginning Windows doesn't read by components, but for the spelling of separators:
+/// `\\server\\share\x` is the clean path of itself and of `//server//share/x`. A clean path is its
+/// own clean form ([`crate::laws::cleaned_again`]).
 ///
 /// Any other prefix gets one spelling, in which `\` separates: `\\server\share\x` is the clean path of
-/// itself and of `//server/share/x` ([`crate::laws::one_clean_path`]). Only the prefix `//?/share` keeps
-/// `/`, since Windows reads a path that begins with `\\?\` by other rules.
+/// itself and of `//server/share/x` ([`crate::laws::one_clean_path`]). Only a path that begins with
+/// `//?/` keeps `/`, since Windows reads a path that begins with `\\?\` by other rules.
 ///
 /// # Errors
 ///
@@ -48,6 +52,8 @@ use std::alloc::{AllocError, Allocator};
 /// assert_eq!(rt; path.as_slice(), br"\.\??\c:\x".as_slice());
 /// let path = clean(alloc, Style::Windows, b"//server/share/a/../x")?;
 /// assert_eq!(rt; path.as_slice(), br"\\server\share\x".as_slice());
+/// let path = clean(alloc, Style::Windows, br"\\server")?;
+/// assert_eq!(rt; path.as_slice(), br"\\server".as_slice());
 /// ```
 pub fn clean<A: Allocator + Clone>(
     alloc: A,
@@ -56,14 +62,38 @@ pub fn clean<A: Allocator + Clone>(
 ) -> Result<Vec<u8, A>, AllocError>
     ensures { IfOk result (λ clean. IsCleaned style path.now clean.items) }
 {
-    let head = head_of(style, path);
+    let parsed = Parsed::new(style, path);
+    if begins_oddly(&parsed) {
+        return in_one_spelling(alloc, path);
+    }
+    clean_written(alloc, &parsed)
+}
+
+/// The bytes of a path that is kept, in one spelling.
+fn in_one_spelling<A: Allocator>(alloc: A, path: &[u8]) -> Result<Vec<u8, A>, AllocError>
+    ensures { IfOk result (λ spelled. spelled.items ≡ one_spelling path.now) }
+{
+    let mut spelled = Vec::with_capacity(alloc, path.len())?;
+    push_spelled(&mut spelled, path)?;
+    Ok(spelled)
+}
+
+/// The clean form of a path that doesn't begin oddly.
+fn clean_written<A: Allocator + Clone>(
+    alloc: A,
+    path: &Parsed<'_>,
+) -> Result<Vec<u8, A>, AllocError>
+    requires { ¬ (BeginsOddly path.now.style path.now.whole.now) }
+    ensures { IfOk result (λ clean. IsCleanWritten path.now.style path.now.whole.now clean.items) }
+{
+    let head = path.head();
     if is_verbatim(head.prefix) {
-        return rewritten(alloc, style, path, head);
+        return rewritten(alloc, path.style, path.whole, head);
     }
     let names = cleaned(alloc.clone()?, head.rules, is_root(head.start), head.body)?;
     let kept = names.as_slice();
-    let start = clean_start(style, head, kept);
-    spelled_as(alloc, style, path, head, start, kept)
+    let start = clean_start(path.style, head, kept);
+    spelled_as(alloc, path.style, path.whole, head, start, kept)
 }
 
 /// The path with this start and these names after its prefix in one spelling.
@@ -160,7 +190,7 @@ fn clean_start(style: Style, head: Head<'_>, names: &[Component<&[u8]>]) -> Star
         ++ (cleaned_start head.entry.start ++ map item_of names.now)))
         (map spelled (prefix_items head.entry.prefix.now)
         ++ (start_items result ++ map item_of names.now)) }
-    ensures may { MayStart style head.entry result (map item_of names.now) }
+    ensures may { IsShieldedStart style head.entry result (map item_of names.now) }
 {
     if !head.prefix.is_empty() {
         return head.start;
@@ -175,7 +205,7 @@ fn clean_start(style: Style, head: Head<'_>, names: &[Component<&[u8]>]) -> Star
 fn bare_start(style: Style, names: &[Component<&[u8]>]) -> Start
     ensures shield { IsShielded style (or_dot (map item_of names.now))
         (start_items result ++ map item_of names.now) }
-    ensures free { result ≡ Nothing → ¬ (BeginsAsPrefix style (map item_of names.now)) }
+    ensures free { result ≡ Nothing → ¬ (BeginsWithColon style (map item_of names.now)) }
 {
     if names.is_empty() {
         return Start::Dot;

@@ -1,5 +1,5 @@
 //! What errors print.
-ghost use Rattle.std.specs.Prelude.{decimal};
+ghost use Rattle.std.specs.Prelude.{◌++◌, decimal};
 ghost use Rattle.std.specs.Fmt.{WritesStyledOnOk};
 ghost use Rattle.path_building.specs.ErrorText.{at_byte};
 
@@ -20,6 +20,18 @@ pub(crate) fn write_at_byte<W: fmt::Write>(
     f.write_str(" at byte ")?;
     write_number(index, f)?;
     f.write_str(of)
+}
+
+/// Writes a text, and a number after it.
+pub(crate) fn write_with_number<W: fmt::Write>(
+    text: &str,
+    number: usize,
+    f: &mut fmt::Formatter<W>,
+) -> fmt::Result
+    ensures { WritesStyledOnOk W.write_str_gives f.old result (text.now ++ decimal number) f.new }
+{
+    f.write_str(text)?;
+    write_number(number, f)
 }
 
 /// Writes the decimal digits of a number, and ignores the width of the formatter. `platform_str` has

@@ -5,17 +5,16 @@ ghost use Rattle.path_rules.specs.Prefix.{Disk};
 ghost use Rattle.path_rules.specs.PrefixViews.{kind_of};
 ghost use Rattle.path_rules.specs.Views.{item_of};
 ghost use Rattle.path_building.specs.Collected.{ArePushed};
-ghost use Rattle.path_building.specs.FullPath.{IsDeviceKind, IsDevicePath, HasFreeNames, IsFullDirectory, BeginsWithTwo, without_root, IsRespelled, IsPushedBelow, IsCleanedBelow, AreOneDrive, IsOnDrive, IsOwnPlace, IsPlaceBelow, IsPlaced, IsFullPath, IsOnItsDrive, IsPlaceFault, IsAbsoluteFault};
+ghost use Rattle.path_building.specs.FullPath.{IsDeviceKind, IsDevicePath, IsFullDirectory, BeginsWithTwo, without_root, IsRespelled, IsPushedBelow, IsCleanedBelow, AreOneDrive, IsOnDrive, IsOwnPlace, IsPlaceBelow, IsPlaced, IsFullPath, IsOnItsDrive, IsPlaceFault, IsAbsoluteFault};
 
-use crate::base::lacks_part;
-use crate::checked::are_free;
+use crate::base::{has_free_names, lacks_part};
 use crate::cleaning::clean;
 use crate::collected::push_all;
 use crate::joining::join;
 use crate::normal::all_items;
 use crate::relative::after_dot;
 use crate::trailing::end_as;
-use path_rules::parts::{begins_with_separator, head_of};
+use path_rules::parts::begins_with_separator;
 use path_rules::{Component, Prefix, Rules, Style, is_absolute, windows_prefix};
 use std::alloc::{AllocError, Allocator};
 use std::error::Error;
@@ -35,8 +34,7 @@ use std::fmt;
 pub enum AbsoluteError {
     /// The path is empty.
     Empty,
-    /// The Windows path is incomplete. It begins with two separators and has no prefix, as
-    /// `\\server`, or it begins with `\??\`.
+    /// The Windows path is incomplete, as a base is ([`crate::BaseError::Incomplete`]): as `\\server`.
     Prefix,
     /// A name of the Windows path is reserved ([`path_rules::is_reserved`]).
     Reserved,
@@ -102,8 +100,8 @@ impl From<AllocError> for AbsoluteError {
 /// The first of these that holds:
 ///
 /// - `Empty` if the path is empty.
-/// - `Prefix` if the Windows path begins with two separators and has no prefix, as `\\server`, or
-///   if it begins with `\??\`.
+/// - `Prefix` if the Windows path begins with two separators and has no prefix, as `\\server`, if
+///   it begins with `\??\` or `//?/`, or if its share ends in a dot or a space.
 /// - `Reserved` if a name of the Windows path is reserved, as `nul`, or would be changed, as `a.`
 ///   ([`path_rules::is_reserved`]).
 /// - `Directory` if the path is relative, and the directory isn't absolute or lacks a part of its
@@ -181,14 +179,6 @@ fn is_device_prefix(prefix: Prefix<&[u8]>) -> bool
         Prefix::Disk(_) => false,
         _ => true,
     }
-}
-
-/// Whether no name of a Windows path is reserved.
-fn has_free_names(style: Style, path: &[u8]) -> bool
-    ensures { IsTrue result ↔ HasFreeNames style path.now }
-{
-    let head = head_of(style, path);
-    are_free(style, head.rules, head.body)
 }
 
 /// The path, but for the separator at its end.

@@ -1,14 +1,12 @@
 //! A path after another.
-ghost use Rattle.std.specs.Prelude.{◌≡◌, ◌≢◌, ◌↔◌, ◌++◌, ◌≤◌, ℕ, [], ◌∷◌, length, take, IsTrue, IfOk, OnOk, OnErr, MatchOption, vec_len};
-ghost use Rattle.path_rules.specs.declared.rules.Style.TheVariants as whose;
-ghost use Rattle.path_rules.specs.Prefix.{Disk, IsPrefixed, IsRawPrefix};
-ghost use Rattle.path_rules.specs.PrefixViews.{kind_of};
+ghost use Rattle.std.specs.Prelude.{◌≡◌, ◌≢◌, ◌↔◌, ◌++◌, ◌≤◌, [], ◌∷◌, length, take, IsTrue, IfOk, OnOk, OnErr, MatchOption, vec_len};
+ghost use Rattle.path_rules.specs.Prefix.{IsPrefixed, IsRawPrefix};
 ghost use Rattle.path_rules.specs.StyleRules.{main_separator};
 ghost use Rattle.path_building.specs.Join.{IsVerbatimPath, IsDriveAlone, NeedsNoSeparator, IsJoin};
 
 use crate::resolving::resolve;
-use path_rules::parts::{begins_with_separator, is_verbatim};
-use path_rules::{Prefix, Style, has_trailing_sep, windows_prefix};
+use path_rules::parts::{Parsed, begins_with_separator};
+use path_rules::{Style, has_trailing_sep};
 use std::alloc::{AllocError, Allocator};
 
 /// How many of the base's bytes are kept, and what is written between them and the path.
@@ -190,48 +188,21 @@ fn needs_no_separator(style: Style, base: &[u8]) -> bool
 pub(crate) fn is_prefixed(style: Style, path: &[u8]) -> bool
     ensures { IsTrue result ↔ IsPrefixed style path.now }
 {
-    match style {
-        Style::Unix => false,
-        Style::Windows => windows_prefix(path).is_some(),
-    }
+    Parsed::new(style, path).is_prefixed()
 }
 
 /// Whether a path begins with a prefix after which only `\` separates.
 fn is_verbatim_path(style: Style, path: &[u8]) -> bool
     ensures { IsTrue result ↔ IsVerbatimPath style path.now }
 {
-    match style {
-        Style::Unix => false,
-        Style::Windows => is_verbatim(path),
-    }
+    Parsed::new(style, path).is_verbatim()
 }
 
 /// Whether a path is a drive alone.
 fn is_drive_alone(style: Style, path: &[u8]) -> bool
     ensures { IsTrue result ↔ IsDriveAlone style path.now }
 {
-    match style {
-        Style::Unix => false,
-        Style::Windows => is_windows_drive(path),
-    }
-}
-
-fn is_windows_drive(path: &[u8]) -> bool
-    ensures { IsTrue result ↔ IsDriveAlone whose.Windows path.now }
-{
-    match windows_prefix(path) {
-        Some((prefix, rest)) => is_drive(prefix) && rest.is_empty(),
-        None => false,
-    }
-}
-
-fn is_drive(prefix: Prefix<&[u8]>) -> bool
-    ensures { IsTrue result ↔ ((letter : ℕ) × (kind_of prefix.entry ≡ Disk letter)) }
-{
-    match prefix {
-        Prefix::Disk(_) => true,
-        _ => false,
-    }
+    Parsed::new(style, path).is_drive_alone()
 }
 
 /// How many bytes a path's prefix has, 0 without one.
@@ -239,18 +210,5 @@ fn prefix_len(style: Style, path: &[u8]) -> usize
     ensures inside { result ≤ length path.now }
     ensures raw { IsRawPrefix style path.now (take result path.now) }
 {
-    match style {
-        Style::Unix => 0,
-        Style::Windows => windows_prefix_len(path),
-    }
-}
-
-fn windows_prefix_len(path: &[u8]) -> usize
-    ensures inside { result ≤ length path.now }
-    ensures raw { IsRawPrefix whose.Windows path.now (take result path.now) }
-{
-    match windows_prefix(path) {
-        Some((_, rest)) => path.len() - rest.len(),
-        None => 0,
-    }
+    Parsed::new(style, path).raw_prefix().len()
 }

@@ -1,9 +1,10 @@
 //! Properties of the paths that calls return. Each law is the contract of a function that does
 //! nothing.
-ghost use Rattle.std.specs.Prelude.{◌≡◌, ◌≢◌, ◌++◌, ◌∷◌, [], List, ℕ, Some};
+ghost use Rattle.std.specs.Prelude.{◌≡◌, ◌≢◌, ◌↔◌, ◌++◌, ◌∷◌, [], List, ℕ, Some};
 ghost use Rattle.path_rules.specs.declared.rules.Style as whose;
 ghost use Rattle.path_rules.specs.Component.{Item, Normal};
 ghost use Rattle.path_rules.specs.Components.{AreComponents, AreUnixComponents, IsRelative};
+ghost use Rattle.path_building.specs.Beginning.{BeginsOddly};
 ghost use Rattle.path_building.specs.Normal.{AreNormalOf};
 ghost use Rattle.path_building.specs.Join.{IsVerbatimPath, IsDriveAlone, IsRelativeTo, HaveTheSamePrefix, IsJoin, without_dot};
 ghost use Rattle.path_building.specs.Resolved.{AreResolved, HasResolved};
@@ -11,7 +12,15 @@ ghost use Rattle.path_building.specs.Normalized.{IsNormalForm, IsNormalized};
 ghost use Rattle.path_building.specs.Base.{HasNoNul, LacksPart, IsVerbatimAlone};
 ghost use Rattle.path_building.specs.Checked.{IsCheckedJoin, IsBelowBase, BeginsBelow};
 ghost use Rattle.path_building.specs.Cleaned.{CleansTo, IsCleaned, DifferInSeparators};
+ghost use Rattle.path_building.specs.CheckedEnd.{IsCheckedJoinEnded};
 ghost use Rattle.path_building.specs.Collected.{ArePushed};
+ghost use Rattle.path_building.specs.Faults.{IsBaseFault, IsNameFault};
+ghost use Rattle.path_building.specs.FullPath.{IsFullPath, IsAbsoluteFault};
+ghost use Rattle.path_building.specs.declared.base.BaseError.{BaseError};
+ghost use Rattle.path_building.specs.declared.full_paths.AbsoluteError.{AbsoluteError};
+ghost use Rattle.path_building.specs.declared.full_paths.AbsoluteError.TheVariants as full_error;
+ghost use Rattle.path_building.specs.declared.walk.NameError.{NameError};
+ghost use Rattle.path_building.specs.declared.walk.NameError.TheVariants as name_error;
 ghost use Rattle.path_rules.specs.Parent.{IsParent, HasFileName};
 ghost use Rattle.path_rules.specs.declared.rules.Style.TheVariants.{Unix, Windows};
 ghost use Rattle.path_rules.specs.Compare.{HaveAlikeComponents};
@@ -51,6 +60,16 @@ pub fn normal_forms()
 pub fn normalized_again()
     ensures { (style : whose.Style) → (path : List ℕ) → (answer : List ℕ)
         → IsNormalized style path answer → IsNormalized style answer answer }
+{}
+
+/// The normal form and the clean form of a path keep the kind of its beginning: on Windows both
+/// begin with `\\.\` or `//?/`, or with two separators and no prefix, or with a name that has a
+/// colon, exactly if the path does. So neither makes a path of the current drive of `\\server`.
+pub fn beginnings()
+    ensures normal { (style : whose.Style) → (path : List ℕ) → (answer : List ℕ)
+        → IsNormalized style path answer → BeginsOddly style path ↔ BeginsOddly style answer }
+    ensures clean { (style : whose.Style) → (path : List ℕ) → (answer : List ℕ)
+        → IsCleaned style path answer → BeginsOddly style path ↔ BeginsOddly style answer }
 {}
 
 /// What components are cleaned to is cleaned to itself, and components are cleaned to one list.
@@ -170,20 +189,68 @@ pub fn parent_joined()
         → (items : List Item) → AreComponents style path items → AreComponents style joined items }
 {}
 
+/// A call returns one path for its arguments.
+pub fn one_result()
+    ensures normal { (style : whose.Style) → (path : List ℕ) → (one : List ℕ) → (other : List ℕ)
+        → IsNormalized style path one → IsNormalized style path other → one ≡ other }
+    ensures clean { (style : whose.Style) → (path : List ℕ) → (one : List ℕ) → (other : List ℕ)
+        → IsCleaned style path one → IsCleaned style path other → one ≡ other }
+    ensures checked { (style : whose.Style) → (base : List ℕ) → (path : List ℕ)
+        → (one : List ℕ) → (other : List ℕ) → IsCheckedJoin style base path one
+        → IsCheckedJoin style base path other → one ≡ other }
+    ensures ended { (style : whose.Style) → (base : List ℕ) → (path : List ℕ)
+        → (one : List ℕ) → (other : List ℕ) → IsCheckedJoinEnded style base path one
+        → IsCheckedJoinEnded style base path other → one ≡ other }
+    ensures pushed { (style : whose.Style) → (path : List ℕ) → (items : List Item)
+        → (one : List ℕ) → (other : List ℕ) → ArePushed style path items one
+        → ArePushed style path items other → one ≡ other }
+    ensures full { (style : whose.Style) → (path : List ℕ) → (directory : List ℕ)
+        → (one : List ℕ) → (other : List ℕ) → IsFullPath style path directory one
+        → IsFullPath style path directory other → one ≡ other }
+{}
+
+/// What [`crate::absolute`] returns on Unix is absolute.
+pub fn absolute_on_unix()
+    ensures { (path : List ℕ) → (directory : List ℕ) → (full : List ℕ)
+        → IsFullPath Unix path directory full → IsAbsolute Unix full }
+{}
+
+/// A call has one error for its arguments, unless memory is short.
+pub fn one_fault()
+    ensures base { (style : whose.Style) → (path : List ℕ) → (one : BaseError)
+        → (other : BaseError) → IsBaseFault style path one → IsBaseFault style path other
+        → one ≡ other }
+    ensures name { (style : whose.Style) → (path : List ℕ) → (one : NameError)
+        → (other : NameError) → IsNameFault style path one → IsNameFault style path other
+        → one ≢ name_error.Memory → other ≢ name_error.Memory → one ≡ other }
+    ensures full { (style : whose.Style) → (path : List ℕ) → (directory : List ℕ)
+        → (one : AbsoluteError) → (other : AbsoluteError)
+        → IsAbsoluteFault style path directory one → IsAbsoluteFault style path directory other
+        → one ≢ full_error.Memory → other ≢ full_error.Memory → one ≡ other }
+{}
+
 /// A Windows path that is written from components doesn't begin with `\??\`, which Windows reads as it
-/// reads `\\?\`: so do none of those that [`crate::normalize`], [`crate::clean`],
-/// [`crate::join_checked`] and, for another style, [`crate::with_style`] return.
+/// reads `\\?\`: so do none of those that [`crate::join_checked`] and, for another style,
+/// [`crate::with_style`] return.
 pub fn no_object()
     ensures { (items : List Item) → (path : List ℕ) → IsPathOf Windows items path
         → ¬ (BeginsAsObject path) }
+{}
+
+/// Neither the normal form nor the clean form of a Windows path begins with `\??\`.
+pub fn no_object_form()
+    ensures normal { (path : List ℕ) → (answer : List ℕ) → IsNormalized Windows path answer
+        → ¬ (BeginsAsObject answer) }
+    ensures clean { (path : List ℕ) → (answer : List ℕ) → IsCleaned Windows path answer
+        → ¬ (BeginsAsObject answer) }
 {}
 
 /// A path that is written anew has no separator but the main one, except in its prefix. A Windows
 /// path has no other `/`, unless its prefix begins with `\\?\`, after which `/` is a part of a
 /// name.
 ///
-/// This holds of the results of [`crate::normalize`], [`crate::clean`] and [`crate::join_checked`],
-/// and of [`crate::with_style`] for another style. It also holds of the result of
+/// This holds of the results of [`crate::join_checked`], of [`crate::with_style`] for another style,
+/// and of [`crate::normalize`] and [`crate::clean`] for a path that doesn't begin oddly. It also holds of the result of
 /// [`crate::relative_from`] for a path that isn't verbatim, unless the path is absolute and the
 /// base isn't. In that case the result is the path itself.
 pub fn main_separators()

@@ -1,8 +1,8 @@
 //! Paths built from other paths, by the rules of Unix and of Windows, without a file system.
 //!
-//! [`join`] and [`push`] append a path to another. [`join_checked`] appends it only if it stays
-//! below the base, and else reports why not; [`join_checked_keeping_sep`] keeps the separator of a
-//! directory. [`with_file_name`], [`with_file_stem`] and [`with_extension`] change the last name,
+//! [`join`] and [`push`] append a path to another. A [`Base`] appends it only if it stays below, and
+//! else reports why not; [`join_checked`] does so in one call, and [`join_checked_keeping_sep`] keeps
+//! the separator of a directory. [`with_file_name`], [`with_file_stem`] and [`with_extension`] change the last name,
 //! and [`set_file_name`] and [`set_extension`] do so in place. [`with_trailing_sep`] adds a
 //! separator at the end of a path, and [`relative_from`] returns the path relative to a base.
 //! [`with_style`] returns a path in the other style, and [`normalize`] and [`clean`] its normal
@@ -10,7 +10,7 @@
 //! absolute path. How a path is read is in `path_rules`.
 //!
 //! Paths are bytes here too, in no encoding, and may have a NUL, at which a system would end them:
-//! [`join_checked`] and [`join_checked_keeping_sep`] alone reject it. They resolve `..`, and so do
+//! only [`Base`], [`join_checked`] and [`join_checked_keeping_sep`] reject it. They resolve `..`, and so do
 //! [`normalize`], [`clean`], [`relative_from`], also after `\\?\`, and a join to a path that begins
 //! with `\\?\`. Each call allocates, with an allocator that it is given or that the
 //! vector has, and returns a `Result`; at `Err` a vector is unchanged. Only an extension has a
@@ -18,6 +18,7 @@
 #![tactic(auto)]
 
 mod base;
+mod beginning;
 mod checked;
 mod checked_ends;
 mod cleaning;
@@ -34,8 +35,10 @@ mod relative;
 mod resolving;
 mod styles;
 mod trailing;
+mod walk;
 mod writing;
 
+pub use base::{Base, BaseError};
 pub use checked::{JoinError, join_checked};
 pub use checked_ends::join_checked_keeping_sep;
 pub use cleaning::clean;
@@ -52,3 +55,4 @@ pub use normal::{NormalizeError, normalize};
 pub use relative::relative_from;
 pub use styles::{StyleError, with_style};
 pub use trailing::with_trailing_sep;
+pub use walk::NameError;

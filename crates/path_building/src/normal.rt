@@ -8,13 +8,15 @@ ghost use Rattle.path_rules.specs.Components.{AreComponents};
 ghost use Rattle.path_rules.specs.HeadParts.{IsHead};
 ghost use Rattle.path_rules.specs.Heads.{prefix_items, start_items, items_of};
 ghost use Rattle.path_rules.specs.Views.{item_of};
+ghost use Rattle.path_building.specs.Beginning.{BeginsOddly};
 ghost use Rattle.path_building.specs.Written.{IsPathOf};
-ghost use Rattle.path_building.specs.Spelled.{resolve, AreSpelled, DoublesRoot, MayStart};
-ghost use Rattle.path_building.specs.Normalized.{IsReadAsPrefix, BeginsAsPrefix, IsShielded, IsNormalized, IsNormalizeFault};
+ghost use Rattle.path_building.specs.Spelled.{resolve, AreSpelled, DoublesRoot, MayStart, IsShieldedStart};
+ghost use Rattle.path_building.specs.Normalized.{BeginsWithColon, IsShielded, IsNormalWritten, IsNormalized, IsNormalizeFault};
 
+use crate::beginning::{begins_oddly, begins_with_colon};
 use crate::writing::{before_start, has_empty_share, written};
-use path_rules::parts::{Head, Start, head_of, is_verbatim, next_in};
-use path_rules::{Component, Components, Rules, Style, windows_prefix};
+use path_rules::parts::{Head, Parsed, Start, is_verbatim, next_in};
+use path_rules::{Component, Components, Rules, Style};
 use std::alloc::{AllocError, Allocator};
 use std::error::Error;
 use std::fmt;
@@ -71,10 +73,15 @@ impl From<AllocError> for NormalizeError {
 /// where no name is a symbolic link.
 ///
 /// A `.` at the start of a path without a root is kept. A path whose prefix begins with `\\?\` is
-/// not resolved: Windows takes its `.` and `..` as they are. A first name that alone would be read
-/// as a prefix gets `.\` before it, so the normal form of `a\..\C:` is `.\C:`. A root before the
-/// name `??` gets `\.` before it, since Windows reads `\??\` as it reads `\\?\`
-/// ([`crate::laws::no_object`]). A normal form is its own ([`crate::laws::normalized_again`]).
+/// not resolved: Windows takes its `.` and `..` as they are. A first name with a colon, which Windows
+/// would read as a drive, gets `.\` before it, so the normal form of `a\..\C:` is `.\C:`. A root
+/// before the name `??` gets `\.` before it, since Windows reads `\??\` as it reads `\\?\`
+/// ([`crate::laws::no_object_form`]). A normal form is its own ([`crate::laws::normalized_again`]).
+///
+/// A Windows path whose beginning isn't read by components is returned unchanged: one that begins
+/// with `\\.\` or `//?/`, or without a prefix with two separators, as `\\server`, or with a name that
+/// has a colon, as `1:\x`. So a path keeps the kind of its beginning
+/// ([`crate::laws::beginnings`]).
 ///
 /// # Errors
 ///
@@ -101,16 +108,34 @@ pub fn normalize<A: Allocator + Clone>(
     ensures ok { IfOk result (λ normal. IsNormalized style path.now normal.items) }
     ensures err { IfErr result (λ error. IsNormalizeFault style path.now error) }
 {
-    let head = head_of(style, path);
+    let parsed = Parsed::new(style, path);
+    if begins_oddly(&parsed) {
+        return Ok(Vec::from_slice(alloc, path)?);
+    }
+    normal_written(alloc, &parsed)
+}
+
+/// The normal form of a path that doesn't begin oddly.
+fn normal_written<A: Allocator + Clone>(
+    alloc: A,
+    path: &Parsed<'_>,
+) -> Result<Vec<u8, A>, NormalizeError>
+    requires { ¬ (BeginsOddly path.now.style path.now.whole.now) }
+    ensures ok { IfOk result
+        (λ normal. IsNormalWritten path.now.style path.now.whole.now normal.items) }
+    ensures err { IfErr result
+        (λ error. IsNormalizeFault path.now.style path.now.whole.now error) }
+{
+    let head = path.head();
     if is_verbatim(head.prefix) {
-        return Ok(rewritten(alloc, style, path, head)?);
+        return Ok(rewritten(alloc, path.style, path.whole, head)?);
     }
     let Some(names) = resolved(alloc.clone()?, head.rules, head.body)? else {
         return Err(NormalizeError::NoName);
     };
     let kept = names.as_slice();
-    let start = shielded_start(style, head, kept);
-    Ok(written_as(alloc, style, path, head, start, kept)?)
+    let start = shielded_start(path.style, head, kept);
+    Ok(written_as(alloc, path.style, path.whole, head, start, kept)?)
 }
 
 /// The path with all its components, written with the main separator.
@@ -217,26 +242,6 @@ pub(crate) fn resolved<'a, A: Allocator>(
     Ok(Some(names))
 }
 
-/// Whether the first name alone begins with a prefix.
-pub(crate) fn begins_as_prefix(style: Style, names: &[Component<&[u8]>]) -> bool
-    ensures { IsTrue result ↔ BeginsAsPrefix style (map item_of names.now) }
-{
-    match names {
-        [Component::Normal(name), ..] => is_read_as_prefix(style, name),
-        _ => false,
-    }
-}
-
-/// Whether a name alone begins with a prefix.
-pub(crate) fn is_read_as_prefix(style: Style, name: &[u8]) -> bool
-    ensures { IsTrue result ↔ IsReadAsPrefix style name.now }
-{
-    match style {
-        Style::Unix => false,
-        Style::Windows => windows_prefix(name).is_some(),
-    }
-}
-
 /// Whether a second separator has to come after the root, so that the prefix doesn't grow.
 fn has_doubled_root(style: Style, path: &[u8]) -> bool
     ensures { DoublesRoot style path.now result }
@@ -248,15 +253,15 @@ fn has_doubled_root(style: Style, path: &[u8]) -> bool
 }
 
 /// Returns the start of a path without a prefix, so that it isn't read with one. The start is `.`
-/// if the first name alone begins with a prefix.
+/// if the first name has a colon.
 pub(crate) fn shielded(style: Style, start: Start, names: &[Component<&[u8]>]) -> Start
     ensures shield { IsShielded style (start_items start ++ map item_of names.now)
         (start_items result ++ map item_of names.now) }
-    ensures free { result ≡ Nothing → ¬ (BeginsAsPrefix style (map item_of names.now)) }
+    ensures free { result ≡ Nothing → ¬ (BeginsWithColon style (map item_of names.now)) }
 {
     match start {
         Start::Nothing => {
-            if begins_as_prefix(style, names) {
+            if begins_with_colon(style, names) {
                 Start::Dot
             } else {
                 Start::Nothing
@@ -272,7 +277,7 @@ fn shielded_start(style: Style, head: Head<'_>, names: &[Component<&[u8]>]) -> S
         (prefix_items head.entry.prefix.now
         ++ (start_items head.entry.start ++ map item_of names.now))
         (prefix_items head.entry.prefix.now ++ (start_items result ++ map item_of names.now)) }
-    ensures may { MayStart style head.entry result (map item_of names.now) }
+    ensures may { IsShieldedStart style head.entry result (map item_of names.now) }
 {
     if head.prefix.is_empty() {
         return shielded(style, head.start, names);

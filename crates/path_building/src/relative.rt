@@ -9,10 +9,11 @@ ghost use Rattle.path_building.specs.Spelled.{cleaned_start};
 ghost use Rattle.path_rules.specs.Compare.{AreAllAlike};
 ghost use Rattle.path_building.specs.Relative.{IsPlace, AreOnePlace, AreApart, up_from, BeginsAtTop, BeginsUp, AreWritten, IsWhole, IsWay, IsCandidateOrNone, IsRelativeFrom};
 
+use crate::beginning::{begins_with_colon, is_one_odd};
 use crate::checked::add_names;
 use crate::cleaning::cleaned;
 use crate::joining::join;
-use crate::normal::{all_items, begins_as_prefix, is_root, rewritten, written_as};
+use crate::normal::{all_items, is_root, rewritten, written_as};
 use crate::writing::written;
 use path_rules::parts::{Head, Start, are_alike, head_of, is_verbatim};
 use path_rules::{Component, Style, is_absolute};
@@ -27,10 +28,11 @@ use std::alloc::{AllocError, Allocator};
 ///
 /// A path with another prefix or another root than the base's is returned whole, written with the
 /// main separator. If it begins with `\\?\`, its `.` and `..` are resolved, as they are where it is
-/// joined. A first name that alone would be read as a prefix gets `.\` before it.
+/// joined. A first name with a colon gets `.\` before it.
 ///
 /// Returns `None` if the base is absolute and the path isn't, or if the base goes up by a `..`
-/// where the path doesn't. It also returns `None` if the base joined with the result would lead to
+/// where the path doesn't. It returns `None`, too, if both are absolute or neither is, and Windows
+/// doesn't read the beginning of one by components, as that of `\\server` ([`crate::normalize`]). It also returns `None` if the base joined with the result would lead to
 /// another file, as `..\..\a` for `a` relative to `C:b`. Two paths lead to the same file if their
 /// clean forms are alike, without symbolic links and also after `\\?\`.
 ///
@@ -81,6 +83,9 @@ fn candidate<A: Allocator + Clone>(
         if is_absolute(style, path) {
             return Ok(Some(Vec::from_slice(alloc, path)?));
         }
+        return Ok(None);
+    }
+    if is_one_odd(style, path, base) {
         return Ok(None);
     }
     let items = all_items(alloc.clone()?, style, path)?;
@@ -152,7 +157,7 @@ fn names_written<A: Allocator>(
 {
     let none = b"".as_slice();
     let separator = style.main_separator();
-    if begins_as_prefix(style, names) {
+    if begins_with_colon(style, names) {
         return written(alloc, 0, separator, none, Start::Dot, false, names);
     }
     written(alloc, 0, separator, none, Start::Nothing, false, names)

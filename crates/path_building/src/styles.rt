@@ -3,10 +3,12 @@ ghost use Rattle.std.specs.Prelude.{◌≢◌, ◌↔◌, true, List, map, IsTru
 ghost use Rattle.path_rules.specs.Views.{item_of};
 ghost use Rattle.path_rules.specs.Component.{Item, Normal};
 ghost use Rattle.path_rules.specs.Components.{AreComponents};
+ghost use Rattle.path_building.specs.Beginning.{BeginsAsShare};
 ghost use Rattle.path_building.specs.Restyled.{IsHad, AreHad, IsFirstUnlike, IsRestyled, IsStyleFault};
 
-use crate::error_text::write_number;
-use crate::normal::{all_items, all_names, is_read_as_prefix};
+use crate::beginning::{begins_as_share, is_colon_name};
+use crate::error_text::write_with_number;
+use crate::normal::{all_items, all_names};
 use crate::writing::{before_start, written};
 use path_rules::parts::head_of;
 use path_rules::{Component, Style, is_extension_text};
@@ -43,8 +45,7 @@ impl fmt::Display for StyleError {
     fn fmt<W: fmt::Write>(&self, f: &mut fmt::Formatter<W>) -> fmt::Result {
         match *self {
             StyleError::Component(index) => {
-                f.write_str("the style can't have component ")?;
-                write_number(index, f)
+                write_with_number("the style can't have component ", index, f)
             }
             StyleError::Memory => f.write_str("out of memory"),
         }
@@ -69,14 +70,18 @@ impl From<AllocError> for StyleError {
 /// the same style is returned unchanged.
 ///
 /// A root before the name `??` gets `\.` before it on Windows, which reads `\??\` as it reads `\\?\`
-/// ([`crate::laws::no_object`]). A name may still be one that Windows keeps for itself
-/// ([`path_rules::is_reserved`]).
+/// ([`crate::laws::no_object`]).
+///
+/// Test each name of a Windows path that is made of a Unix one with [`path_rules::is_reserved`]: `a:b`,
+/// `nul` and `a ` are names on Unix, and Windows reads each as another file or a device.
 ///
 /// # Errors
 ///
-/// `Component` with the index of the first component that the style can't have: a prefix, a name
-/// that has one of its separators, as `a\b`, or a first name that it would read as a prefix, as
-/// `C:`; `Memory` if an allocation fails.
+/// - `Component` with the index of the first component that the style can't have: a prefix, a name
+///   that has one of its separators, as `a\b`, or on Windows a first name with a colon, as `C:`. It
+///   is 0 for a Windows path that begins with two separators, as `\\server`, which no other path
+///   names.
+/// - `Memory` if an allocation fails.
 ///
 /// ```
 /// use path_building::{StyleError, with_style};
@@ -103,6 +108,9 @@ pub fn with_style<A: Allocator + Clone>(
     if from == to {
         return Ok(Vec::from_slice(alloc, path)?);
     }
+    if begins_as_share(from, path) {
+        return Err(StyleError::Component(0));
+    }
     let items = all_items(alloc.clone()?, from, path)?;
     if let Some(index) = first_unlike(to, &items) {
         return Err(StyleError::Component(index));
@@ -118,6 +126,7 @@ fn restyled<A: Allocator + Clone>(
     path: &[u8],
 ) -> Result<Vec<u8, A>, AllocError>
     requires unlike { from ≢ to }
+    requires single { ¬ (BeginsAsShare from path.now) }
     requires had { (items : List Item) × AreComponents from path.now items × AreHad to true items }
     ensures { IfOk result (λ made. IsRestyled from to path.now made.items) }
 {
@@ -174,7 +183,7 @@ fn is_name(to: Style, first: bool, name: &[u8]) -> bool
         return false;
     }
     if first {
-        return !is_read_as_prefix(to, name);
+        return !is_colon_name(to, name);
     }
     true
 }

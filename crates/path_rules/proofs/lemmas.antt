@@ -8,11 +8,11 @@ pub mod Keeps
 pub mod OneList
 pub mod Starts
 pub mod Totals
+pub mod Parsings
 pub mod UpTo
 pub mod Parents
 pub mod LastNames
 pub mod Dots
-pub mod Roots
 pub mod Alike
 pub mod ReservedNames
 pub mod Trims

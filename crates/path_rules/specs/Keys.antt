@@ -1,5 +1,5 @@
 -- The keys by which paths are compared, component by component (std's `==`, `Ord` and `Hash` of paths).
-use Rattle.std.specs.Prelude.{◌≡◌, ℕ, List, [], ◌∷◌, ◌++◌, map, Option, Some, None, MatchOption}
+use Rattle.std.specs.Prelude.{◌≡◌, ℕ, List, [], ◌∷◌, ◌++◌, map, Option, Some, None}
 use Rattle.std.specs.Option.{option_map}
 use Rattle.std.specs.Ordering.{nat_cmp}
 use Rattle.std.specs.Cmp.Lexicographic.{slice_cmp}
@@ -12,9 +12,6 @@ use Rattle.path_rules.specs.Components.{AreComponents}
 use Rattle.path_rules.specs.Heads.{items_of}
 use Rattle.path_rules.specs.Prefix.{Kind, Verbatim, VerbatimUnc, VerbatimDisk, Device, Unc, Disk, IsPrefixOf}
 use Rattle.path_rules.specs.PrefixViews.{kind_of}
-use Rattle.path_rules.specs.declared.prefix.Prefix as held
-use Rattle.path_rules.specs.declared.rules.Style.TheVariants as style
-use denote.Ref.{Bor}
 
 -- the rank of a kind of prefix, in the order of std's `Prefix`
 abbrev pub rank_of : Kind → ℕ
@@ -105,9 +102,3 @@ pub record HasKeys (style : Style) (path : List ℕ) (keys : List (List ℕ)) : 
   pub items : List Item
   pub are : AreComponents style path items
   pub keyed : AreKeys items keys
-
--- the prefix of a path, if it has one
-abbrev pub IsPrefixOption : Style → List ℕ → Option (held.Prefix (Bor (List ℕ))) → Type 0
-IsPrefixOption style.Unix path found = found ≡ None
-IsPrefixOption style.Windows path found =
-    MatchOption found ((kind : Kind) (rest : List ℕ) → ¬ (IsPrefixOf path kind rest)) (λ prefix. (rest : List ℕ) × IsPrefixOf path (kind_of prefix) rest)

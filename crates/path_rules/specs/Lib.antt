@@ -13,6 +13,7 @@ pub mod Name
 pub mod Reserved
 pub mod Compare
 pub mod Root
+pub mod Parsed
 pub mod Trailing
 pub mod Body
 pub mod FirstPart

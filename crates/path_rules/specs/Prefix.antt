@@ -116,6 +116,21 @@ IsPrefixBy NoLead kind rest = ⊥
 abbrev pub IsPrefixOf : List ℕ → Kind → List ℕ → Type 0
 IsPrefixOf s kind rest = IsPrefixBy (lead_of s) kind rest
 
+-- the path begins with a prefix whose kind, and what follows it, are so
+abbrev pub WithPrefix : whose.Style → List ℕ → (Kind → List ℕ → Type 0) → Type 0
+WithPrefix style.Unix path P = ⊥
+WithPrefix style.Windows path P = (kind : Kind) × ((rest : List ℕ) × (IsPrefixOf path kind rest × P kind rest))
+
+-- the path begins with a prefix of such a kind
+abbrev pub HasKind : whose.Style → List ℕ → (Kind → Type 0) → Type 0
+HasKind w path P = WithPrefix w path (λ kind rest. P kind)
+
+-- the path begins with a prefix that is so, or it has none and is so itself
+abbrev pub EitherWay : whose.Style → List ℕ → (List ℕ → Type 0) → (Kind → List ℕ → Type 0) → Type 0
+EitherWay style.Unix path Q P = Q path
+EitherWay style.Windows path Q P =
+    ((kind : Kind) × ((rest : List ℕ) × (IsPrefixOf path kind rest × P kind rest))) ⊎ (((kind : Kind) (rest : List ℕ) → ¬ (IsPrefixOf path kind rest)) × Q path)
+
 -- what separates after a prefix
 abbrev pub rules_of : Kind → Rules
 rules_of (Verbatim name) = rules.Verbatim
@@ -140,6 +155,4 @@ IsPrefixed style.Windows path = (kind : Kind) × ((rest : List ℕ) × IsPrefixO
 
 -- the bytes of a path's prefix, none where it has none
 abbrev pub IsRawPrefix : whose.Style → List ℕ → List ℕ → Type 0
-IsRawPrefix style.Unix path raw = raw ≡ []
-IsRawPrefix style.Windows path raw =
-    ((kind : Kind) × ((rest : List ℕ) × (IsPrefixOf path kind rest × (path ≡ raw ++ rest)))) ⊎ (((kind : Kind) (rest : List ℕ) → ¬ (IsPrefixOf path kind rest)) × (raw ≡ []))
+IsRawPrefix w path raw = EitherWay w path (λ bare. raw ≡ []) (λ kind rest. path ≡ raw ++ rest)

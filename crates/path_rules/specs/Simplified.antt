@@ -1,13 +1,14 @@
 -- A path without `\\?\`, where that names the same path (the crate dunce's `simplified`, of paths that stay absolute).
-use Rattle.std.specs.Prelude.{◌≡◌, ◌↔◌, ◌⊎◌, ℕ, ◌+◌, ◌≤◌, nat_lt, if◌then◌else◌, List, [], ◌∷◌}
+use Rattle.std.specs.Prelude.{◌≡◌, ◌≢◌, ◌↔◌, ◌⊎◌, ℕ, ◌+◌, ◌≤◌, nat_lt, if◌then◌else◌, List, [], ◌∷◌}
 use Rattle.std.specs.List.{AllByRecursion}
+use Rattle.path_rules.specs.declared.rules.Rules.TheVariants as rules
 use Rattle.path_rules.specs.declared.rules.Style.{Style}
 use Rattle.path_rules.specs.declared.rules.Style.TheVariants as style
 use Rattle.path_rules.specs.Component.{Item, Prefix, RootDir, CurDir, ParentDir, Normal}
 use Rattle.path_rules.specs.Components.{AreComponents, AreWindowsComponents}
 use Rattle.path_rules.specs.Prefix.{VerbatimDisk, Disk, IsPrefixOf}
 use Rattle.path_rules.specs.Reserved.{IsReserved}
-use Rattle.path_rules.specs.Root.{HasRoot, IsAbsolute}
+use Rattle.path_rules.specs.Root.{BeginsWithSeparator, HasRoot, IsAbsolute}
 
 -- how many UTF-16 code units a byte of UTF-8 or WTF-8 begins
 abbrev pub wide_units_of : ℕ → ℕ
@@ -45,9 +46,15 @@ IsPlainItem CurDir = ⊥
 IsPlainItem ParentDir = ⊥
 IsPlainItem (Normal s) = ¬ (IsReserved s) × (wide_len s ≤ 255)
 
--- the path is `\\?\` and t, t begins with the same drive and keeps the path's place, the path has plain names alone, and at most 260 code units
+-- the bytes have no `/`, which doesn't separate after `\\?\` and does elsewhere, and no two `\` in a row, which are one separator elsewhere
+abbrev pub HasSingleSeparators : List ℕ → Type 0
+HasSingleSeparators [] = Unit {0}
+HasSingleSeparators (b ∷ s) = (b ≢ 0x2F) × (¬ ((b ≡ 0x5C) × BeginsWithSeparator rules.Verbatim s) × HasSingleSeparators s)
+
+-- the path is `\\?\` and t, which has single separators, t begins with the same drive and keeps the path's place, the path has plain names alone, and at most 260 code units
 pub record IsSimplifiable (path t : List ℕ) : Type 0 where
   pub joined : path ≡ 0x5C ∷ 0x5C ∷ 0x3F ∷ 0x5C ∷ t
+  pub single : HasSingleSeparators t
   pub letter : ℕ
   pub rest : List ℕ
   pub prefix : IsPrefixOf path (VerbatimDisk letter) rest

@@ -6,15 +6,16 @@ ghost use Rattle.std.specs.Prelude.{fold};
 ghost use Rattle.path_rules.specs.Views.{item_of};
 ghost use Rattle.path_rules.specs.Heads.{items_of};
 ghost use Rattle.path_rules.specs.PrefixViews.{kind_of};
-ghost use Rattle.path_rules.specs.Keys.{HasKeys, keys_of, keys_cmp, key_cmp, item_key, item_keys, rank_of, letter_of, name_of, share_of, keys_writes, kind_keys, IsPrefixOption};
+ghost use Rattle.path_rules.specs.Keys.{HasKeys, keys_of, keys_cmp, key_cmp, item_key, item_keys, rank_of, letter_of, name_of, share_of, keys_writes, kind_keys};
 ghost use Rattle.path_rules.specs.Component.{components_in};
 ghost use Rattle.path_rules.specs.Shared.{StartAlike};
 ghost use Rattle.path_rules.specs.KeyLaws.{by_keys_total, hashes_alike};
 
 use crate::body::next_in;
 use crate::component::Component;
-use crate::head::{Head, Start, head_of};
-use crate::prefix::{Prefix, windows_prefix};
+use crate::head::{Head, Start};
+use crate::parsed::Parsed;
+use crate::prefix::Prefix;
 use crate::rules::{Rules, Style};
 use crate::shared::after_shared;
 use crate::stripped::first_of;
@@ -47,14 +48,15 @@ impl<'a> ByComponents<'a> {
     pub fn new(style: Style, path: &'a [u8]) -> Self
         ensures { HasKeys style path.entry.now (keys_of result) }
     {
+        let parsed = Parsed::new(style, path);
         let Head {
             rules,
             prefix: _,
             start,
             body,
-        } = head_of(style, path);
+        } = parsed.head();
         ByComponents {
-            prefix: prefix_of(style, path),
+            prefix: parsed.prefix,
             below: Head {
                 rules,
                 prefix: b"".as_slice(),
@@ -85,20 +87,6 @@ impl<'a> ByComponents<'a> {
                 None => compare_items(self.below, other.below),
             },
         }
-    }
-}
-
-/// The prefix of a path of a style.
-#[inline(always)]
-fn prefix_of(style: Style, path: &[u8]) -> Option<Prefix<&[u8]>>
-    ensures { IsPrefixOption style path.now result }
-{
-    match style {
-        Style::Unix => None,
-        Style::Windows => match windows_prefix(path) {
-            Some((prefix, _)) => Some(prefix),
-            None => None,
-        },
     }
 }
 

@@ -1,10 +1,11 @@
 //! A path's prefix, what it starts with, and what follows.
 ghost use Rattle.std.specs.Prelude.{◌≡◌, ◌↔◌, IsTrue};
 ghost use Rattle.path_rules.specs.Heads.{items_of};
-ghost use Rattle.path_rules.specs.Components.{AreComponents, AreUnixComponents, AreWindowsComponents, IsStartOf, IsRootOf};
-ghost use Rattle.path_rules.specs.HeadParts.{IsHead, IsUnixHead, IsWindowsHead};
+ghost use Rattle.path_rules.specs.Components.{AreComponents, IsStartOf, IsRootOf};
+ghost use Rattle.path_rules.specs.HeadParts.{IsHead};
 
-use crate::prefix::{Prefix, windows_prefix};
+use crate::parsed::Parsed;
+use crate::prefix::Prefix;
 use crate::rules::{Rules, Style};
 
 /// With what a path starts after its prefix.
@@ -43,7 +44,7 @@ pub struct Head<'a> {
 
 /// With what a path without a prefix starts, and what follows it.
 #[inline(always)]
-fn start_of(rules: Rules, path: &[u8]) -> (Start, &[u8])
+pub(crate) fn start_of(rules: Rules, path: &[u8]) -> (Start, &[u8])
     ensures { IsStartOf rules path.now result.0 result.1.now }
 {
     match path {
@@ -68,29 +69,11 @@ pub fn head_of(style: Style, path: &[u8]) -> Head<'_>
     ensures items { AreComponents style path.entry.now (items_of result) }
     ensures parts { IsHead style path.entry.now result }
 {
-    match style {
-        Style::Unix => unix_head(path),
-        Style::Windows => windows_head(path),
-    }
-}
-
-/// The parts of a Unix path.
-#[inline(always)]
-fn unix_head(path: &[u8]) -> Head<'_>
-    ensures items { AreUnixComponents path.entry.now (items_of result) }
-    ensures parts { IsUnixHead path.entry.now result }
-{
-    let (start, body) = start_of(Rules::Slash, path);
-    Head {
-        rules: Rules::Slash,
-        prefix: b"".as_slice(),
-        start,
-        body,
-    }
+    Parsed::new(style, path).head()
 }
 
 /// The root that follows a prefix, and what follows it.
-fn root_of<'a>(prefix: Prefix<&[u8]>, rest: &'a [u8]) -> (Start, &'a [u8])
+pub(crate) fn root_of<'a>(prefix: Prefix<&[u8]>, rest: &'a [u8]) -> (Start, &'a [u8])
     ensures { IsRootOf prefix.entry rest.entry.now result.0 result.1.now }
 {
     match rest {
@@ -100,28 +83,5 @@ fn root_of<'a>(prefix: Prefix<&[u8]>, rest: &'a [u8]) -> (Start, &'a [u8])
             Prefix::Unc(_, _) => (Start::Root, rest),
             _ => (Start::Nothing, rest),
         },
-    }
-}
-
-/// The parts of a Windows path.
-fn windows_head(path: &[u8]) -> Head<'_>
-    ensures items { AreWindowsComponents path.entry.now (items_of result) }
-    ensures parts { IsWindowsHead path.entry.now result }
-{
-    let Some((prefix, rest)) = windows_prefix(path) else {
-        let (start, body) = start_of(Rules::Either, path);
-        return Head {
-            rules: Rules::Either,
-            prefix: b"".as_slice(),
-            start,
-            body,
-        };
-    };
-    let (start, body) = root_of(prefix, rest);
-    Head {
-        rules: prefix.rules(),
-        prefix: &path[..path.len() - rest.len()],
-        start,
-        body,
     }
 }

@@ -29,6 +29,7 @@ mod lanes;
 pub mod laws;
 mod name_parts;
 mod parents;
+mod parsed;
 pub mod parts;
 mod prefix;
 mod reserved;

@@ -9,5 +9,6 @@ pub use crate::body::{last_in, next_in};
 pub use crate::compare::are_alike;
 pub use crate::component::component_of;
 pub use crate::head::{Head, Start, head_of};
+pub use crate::parsed::Parsed;
 pub use crate::prefix::is_verbatim;
 pub use crate::root::begins_with_separator;

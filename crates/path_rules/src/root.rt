@@ -1,10 +1,8 @@
 //! Whether a path has a root, and whether it is absolute.
 ghost use Rattle.std.specs.Prelude.{◌↔◌, IsTrue};
-ghost use Rattle.path_rules.specs.PrefixViews.{kind_of};
-ghost use Rattle.path_rules.specs.declared.rules.Style.TheVariants as whose;
-ghost use Rattle.path_rules.specs.Root.{BeginsWithSeparator, HasRootAfter, HasPrefixAndRoot, HasBareRoot, HasRoot, IsAbsolute};
+ghost use Rattle.path_rules.specs.Root.{BeginsWithSeparator, HasRoot, IsAbsolute};
 
-use crate::prefix::{Prefix, windows_prefix};
+use crate::parsed::Parsed;
 use crate::rules::{Rules, Style};
 
 /// Returns `true` if the path has a root (std's `Path::has_root`).
@@ -23,10 +21,7 @@ use crate::rules::{Rules, Style};
 pub fn has_root(style: Style, path: &[u8]) -> bool
     ensures { IsTrue result ↔ HasRoot style path.now }
 {
-    match style {
-        Style::Unix => begins_with_separator(Rules::Slash, path),
-        Style::Windows => has_windows_root(path),
-    }
+    Parsed::new(style, path).has_root()
 }
 
 /// Returns `true` if the path is absolute (std's `Path::is_absolute`). A Unix path is if it has a
@@ -41,10 +36,7 @@ pub fn has_root(style: Style, path: &[u8]) -> bool
 pub fn is_absolute(style: Style, path: &[u8]) -> bool
     ensures { IsTrue result ↔ IsAbsolute style path.now }
 {
-    match style {
-        Style::Unix => begins_with_separator(Rules::Slash, path),
-        Style::Windows => has_prefix_and_root(path),
-    }
+    Parsed::new(style, path).is_absolute()
 }
 
 /// Returns `true` if the path begins with a separator.
@@ -63,32 +55,5 @@ pub fn begins_with_separator(rules: Rules, path: &[u8]) -> bool
     match path {
         [first, ..] => rules.is_separator(*first),
         [] => false,
-    }
-}
-
-fn has_root_after(prefix: Prefix<&[u8]>, rest: &[u8]) -> bool
-    ensures { IsTrue result ↔ HasRootAfter (kind_of prefix.entry) rest.now }
-{
-    match prefix {
-        Prefix::Disk(_) => begins_with_separator(Rules::Either, rest),
-        _ => true,
-    }
-}
-
-fn has_prefix_and_root(path: &[u8]) -> bool
-    ensures { IsTrue result ↔ HasPrefixAndRoot path.now }
-{
-    match windows_prefix(path) {
-        Some((prefix, rest)) => has_root_after(prefix, rest),
-        None => false,
-    }
-}
-
-fn has_windows_root(path: &[u8]) -> bool
-    ensures { IsTrue result ↔ HasRoot whose.Windows path.now }
-{
-    match windows_prefix(path) {
-        Some((prefix, rest)) => has_root_after(prefix, rest),
-        None => begins_with_separator(Rules::Either, path),
     }
 }

@@ -47,8 +47,16 @@ impl Rules {
         Some((&path[..at], &path[at + 1..]))
     }
 
-    /// What comes before the first separator, and what follows from there on.
-    pub(crate) fn split_field(self, path: &[u8]) -> (&[u8], &[u8])
+    /// Returns what comes before the first separator, and what follows from there on.
+    ///
+    /// ```
+    /// use path_rules::Rules;
+    ///
+    /// let (name, rest) = Rules::Either.split_field(br"a/b\c");
+    /// assert!(rt; name == b"a".as_slice() && rest == br"/b\c".as_slice());
+    /// assert_eq!(rt; Rules::Slash.split_field(b"a").1, b"".as_slice());
+    /// ```
+    pub fn split_field(self, path: &[u8]) -> (&[u8], &[u8])
         ensures { IsField self path.now result.0.now result.1.now }
     {
         path.split_at(self.first_separator(path))

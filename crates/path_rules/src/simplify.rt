@@ -1,24 +1,28 @@
 //! Paths without `\\?\`.
-ghost use Rattle.std.specs.Prelude.{◌↔◌, ◌≡◌, ◌≤◌, ◌⊎◌, ℕ, List, IsTrue};
+ghost use Rattle.std.specs.Prelude.{◌↔◌, ◌≡◌, ◌≢◌, ◌≤◌, ◌⊎◌, ℕ, List, IsTrue};
 ghost use Rattle.std.specs.List.{AllByRecursion};
+ghost use Rattle.path_rules.specs.declared.rules.Rules.TheVariants as rule;
 ghost use Rattle.path_rules.specs.Component.{Normal};
+ghost use Rattle.path_rules.specs.Root.{BeginsWithSeparator};
 ghost use Rattle.path_rules.specs.Views.{item_of};
 ghost use Rattle.path_rules.specs.Prefix.{VerbatimDisk, IsPrefixOf};
-ghost use Rattle.path_rules.specs.Simplified.{IsSimplified, IsWindowsSimplified, IsSimplifiable, IsPlainItem, wide_len, wide_units_of};
+ghost use Rattle.path_rules.specs.Simplified.{IsSimplified, IsWindowsSimplified, IsSimplifiable, HasSingleSeparators, IsPlainItem, wide_len, wide_units_of};
 
 use crate::component::Component;
 use crate::components::Components;
 use crate::prefix::{Prefix, is_verbatim, windows_prefix};
 use crate::reserved::is_reserved;
-use crate::root::is_absolute;
-use crate::rules::Style;
+use crate::root::{begins_with_separator, is_absolute};
+use crate::rules::{Rules, Style};
 
 /// Returns the path without `\\?\`, if that names the same path (the crate dunce's `simplified`).
 /// Any other path is returned as it is, and so is each path of Unix.
 ///
 /// `\\?\` is removed before a drive and its root, if no component is `.` or `..`, none is reserved
 /// ([`crate::is_reserved`]) or longer than 255 UTF-16 code units, and the path isn't longer than
-/// 260. A name with a lone surrogate may be among them.
+/// 260. A name with a lone surrogate may be among them. After `\\?\` Windows doesn't separate at
+/// `/`, and an empty name is one, so a path with a `/` or with two `\` in a row stays, as
+/// `\\?\C:/x` (dunce simplifies it).
 ///
 /// The returned path is absolute and has a root exactly if the path does. Below its prefix it has
 /// the same components ([`crate::laws::simplified_place`]). So `\\?\C:`, which is absolute, stays,
@@ -31,6 +35,7 @@ use crate::rules::Style;
 /// assert_eq!(rt; simplified(Style::Windows, br"\\?\C:\a\.."), br"\\?\C:\a\..".as_slice());
 /// assert_eq!(rt; simplified(Style::Windows, br"\\?\C:\con"), br"\\?\C:\con".as_slice());
 /// assert_eq!(rt; simplified(Style::Windows, br"\\?\C:"), br"\\?\C:".as_slice());
+/// assert_eq!(rt; simplified(Style::Windows, br"\\?\C:/x"), br"\\?\C:/x".as_slice());
 /// ```
 pub fn simplified(style: Style, path: &[u8]) -> &[u8]
     ensures { IsSimplified style path.now result.now }
@@ -61,7 +66,35 @@ fn windows_simplified(path: &[u8]) -> &[u8]
     if !is_absolute(Style::Windows, rest) {
         return path;
     }
+    if !has_single_separators(rest) {
+        return path;
+    }
     rest
+}
+
+/// Whether bytes have no `/` and no two `\` in a row.
+fn has_single_separators(bytes: &[u8]) -> bool
+    ensures { IsTrue result ↔ HasSingleSeparators bytes.now }
+{
+    let mut rest = bytes;
+    while let [byte, more @ ..] = rest {
+        if !is_single(*byte, more) {
+            return false;
+        }
+        rest = more;
+    }
+    true
+}
+
+fn is_single(byte: u8, more: &[u8]) -> bool
+    ensures { IsTrue result
+        ↔ ((byte ≢ 0x2F) × ¬ ((byte ≡ 0x5C) × BeginsWithSeparator rule.Verbatim more.now)) }
+{
+    match byte {
+        b'/' => false,
+        b'\\' => !begins_with_separator(Rules::Verbatim, more),
+        _ => true,
+    }
 }
 
 /// Whether the path begins with a drive after `\\?\`.

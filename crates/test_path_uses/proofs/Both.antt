@@ -26,5 +26,12 @@ module _ {X Y : Type 0} where
 pub answered : (Holds : Type 0) (r : Option Bool) (b : Bool) → r ≡ Some b → IsTrue b ↔ Holds → IfSome r (λ has. IsTrue has ↔ Holds)
 answered Holds r b e h = subst (λ x. IfSome x (λ has. IsTrue has ↔ Holds)) (sym e) h
 
+-- the same of one that is asked only under a condition
+pub answered_if : (When Holds : Type 0) (r : Option Bool) (b : Bool) → r ≡ Some b → (When → IsTrue b ↔ Holds) → IfSome r (λ has. When → IsTrue has ↔ Holds)
+answered_if When Holds r b e h = subst (λ x. IfSome x (λ has. When → IsTrue has ↔ Holds)) (sym e) h
+
+pub not_answered_if : (When Holds : Type 0) (r : Option Bool) → r ≡ None → IfSome r (λ has. When → IsTrue has ↔ Holds)
+not_answered_if When Holds r e = subst (λ x. IfSome x (λ has. When → IsTrue has ↔ Holds)) (sym e) tt
+
 pub not_answered : (Holds : Type 0) (r : Option Bool) → r ≡ None → IfSome r (λ has. IsTrue has ↔ Holds)
 not_answered Holds r e = subst (λ x. IfSome x (λ has. IsTrue has ↔ Holds)) (sym e) tt

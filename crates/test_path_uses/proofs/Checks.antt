@@ -13,10 +13,20 @@ use Rattle.path_rules.specs.Trailing.{EndsWithSeparator}
 use Rattle.path_building.specs.CheckedEnd.{IsCheckedJoinEnded}
 use Rattle.path_building.specs.Trailing.{IsWithTrailingSep}
 use Rattle.path_building.specs.Join.{without_dot}
-use Rattle.path_building.specs.Normal.{AreNormalOf}
+use Rattle.path_building.specs.Normal.{AreNormalOf, LeadsTo}
 use Rattle.path_building.specs.Written.{IsPathOf}
-use Rattle.path_building.specs.Base.{HasNoNul, IsBase, IsFirstNul, LacksPart, own_root}
-use Rattle.path_building.specs.Checked.{AreCheckedNames, AreFree, IsCheckedJoin, IsJoinFault, LeadsOut, NameNoStream, NamesReserved, NamesStream}
+use Rattle.path_building.specs.Base.{AreFree, HasNoNul, HasReservedName, IsBase, IsFirstNul, IsFree, LacksPart, own_root}
+use Rattle.path_building.specs.Checked.{AreCheckedNames, IsCheckedJoin, NameNoStream, NamesNoStream}
+use Rattle.path_building.specs.Faults.{HasFault, HasNoStream, IsFreeOn, IsJoinFault, IsReservedName, IsStream, Leaves}
+use Rattle.path_building.specs.declared.base.BaseError.TheVariants as base_error
+use Rattle.path_building.specs.declared.walk.NameError.TheVariants as name_error
+use Rattle.path_building.proofs.lemmas.Normals.{one_form}
+use Rattle.path_building.proofs.lemmas.Resolving.{onto, onto_is, some_form, taken}
+use Rattle.path_rules.specs.Component.{Prefix, RootDir, CurDir, ParentDir, Normal}
+use Rattle.path_rules.specs.declared.rules.Style.TheVariants as style
+use Rattle.std.proofs.Common.{append_assoc, reverse}
+use Rattle.std.proofs.lemmas.List.{reverse-append}
+use Rattle.std.specs.List.{AllByRecursion}
 use Rattle.test_path_uses.proofs.Joins.{OneList}
 
 -- a path that ends with a separator keeps it
@@ -34,14 +44,61 @@ free_not (b ∷ before) after h = free_not before after h.1
 never_free : (s : List ℕ) (index : ℕ) → IsFirstNul s index → ¬ (HasNoNul s)
 never_free s index n h = free_not n.before n.after (subst HasNoNul n.joined h)
 
-module _ {X Y : Type 0} (view : X → List ℕ) (w : whose.Style) (base path : List ℕ) where
-  pub no_way_out : (r : Result X Y) → IfOk r (λ x. IsCheckedJoin w base path (view x)) → LeadsOut w path → IsErr r
-  no_way_out (Ok x) h out = absurd (out.1 h.checked.items h.checked.inside.normal h.checked.inside.are h.checked.inside.form)
-  no_way_out (Err e) h out = Prim.search Rattle.std.proofs.Common.rules
+all_at : (P : Item → Type 0) (front behind : List Item) (x : Item) → AllByRecursion P (front ++ x ∷ behind) → P x
+all_at P [] behind x h = h.0
+all_at P (z ∷ front) behind x h = all_at P front behind x h.1
 
-  pub none_reserved : OneList → (r : Result X Y) → IfOk r (λ x. IsCheckedJoin w base path (view x)) → NamesReserved w path → IsErr r
-  none_reserved list (Ok x) h n = absurd (n.1.1.1.1 (subst (AreFree w) (list w path h.checked.items n.0 h.checked.inside.are n.1.1.0.are) h.checked.free))
-  none_reserved list (Err e) h n = Prim.search Rattle.std.proofs.Common.rules
+no_stream_at : (w : whose.Style) (front behind : List Item) (x : Item) → NameNoStream w (front ++ x ∷ behind) → HasNoStream w x
+no_stream_at style.Unix front behind x h = tt
+no_stream_at style.Windows front behind x h = all_at NamesNoStream front behind x h
+
+free_at : (w : whose.Style) (front behind : List Item) (x : Item) → AreFree w (front ++ x ∷ behind) → IsFreeOn w x
+free_at style.Unix front behind x h = tt
+free_at style.Windows front behind x h = all_at IsFree front behind x h
+
+no_name : (s : List ℕ) (normal ys : List Item) → without_dot normal ≡ [] → reverse normal ≡ Normal s ∷ ys → ⊥
+no_name s [] ys e f = let never : [] ≡ Normal s ∷ ys = f in cc
+no_name s (CurDir ∷ []) ys e f = let never : CurDir ∷ [] ≡ Normal s ∷ ys = f in cc
+no_name s (CurDir ∷ x ∷ xs) ys e f = let never : x ∷ xs ≡ [] = e in cc
+no_name s (Prefix t ∷ xs) ys e f = let never : Prefix t ∷ xs ≡ [] = e in cc
+no_name s (RootDir ∷ xs) ys e f = let never : RootDir ∷ xs ≡ [] = e in cc
+no_name s (ParentDir ∷ xs) ys e f = let never : ParentDir ∷ xs ≡ [] = e in cc
+no_name s (Normal t ∷ xs) ys e f = let never : Normal t ∷ xs ≡ [] = e in cc
+
+turned : (front behind : List Item) → reverse (front ++ ParentDir ∷ behind) ≡ onto behind (ParentDir ∷ reverse front)
+turned front behind =
+    reverse-append front (ParentDir ∷ behind) ∙ ap (λ z. z ++ reverse front) (reverse-append (ParentDir ∷ []) behind)
+    ∙ append_assoc (reverse behind) (ParentDir ∷ []) (reverse front) ∙ sym (onto_is behind (ParentDir ∷ reverse front))
+
+-- a path whose names are checked has no component at fault
+module _ (list : OneList) (w : whose.Style) (path : List ℕ) (names : List Item) (k : AreCheckedNames w path names) (index : ℕ) where
+  never_stream : HasFault w path index (IsStream w) → ⊥
+  never_stream f =
+      let a = f.first in
+      a.fault (no_stream_at w a.front a.behind a.item (subst (NameNoStream w) (list w path k.items f.items k.inside.are f.are ∙ a.joined) k.streams))
+
+  never_reserved : HasFault w path index (IsReservedName w) → ⊥
+  never_reserved f =
+      let a = f.first in
+      a.fault.1 (free_at w a.front a.behind a.item (subst (AreFree w) (list w path k.items f.items k.inside.are f.are ∙ a.joined) k.free))
+
+  never_leaves : HasFault w path index Leaves → ⊥
+  never_leaves f =
+      let a = f.first in
+      let normal = k.inside.normal in
+      let up = subst (λ x. AreNormalOf (a.front ++ x ∷ a.behind) normal) a.fault.1 (subst (λ xs. AreNormalOf xs normal) (list w path k.items f.items k.inside.are f.are ∙ a.joined) k.inside.form) in
+      let some = some_form a.behind (ParentDir ∷ reverse a.front) (reverse normal) (subst (λ z. LeadsTo z (reverse normal)) (turned a.front a.behind) up) in
+      let name = taken some.1 in
+      no_name name.0 a.normal some.0 a.fault.0 (one_form a.form name.1)
+
+module _ {X Y : Type 0} (view : X → List ℕ) (w : whose.Style) (base path : List ℕ) where
+  pub no_way_out : OneList → (r : Result X Y) → IfOk r (λ x. IsCheckedJoin w base path (view x)) → (index : ℕ) → HasFault w path index Leaves → IsErr r
+  no_way_out list (Ok x) h index f = absurd (never_leaves list w path h.names h.checked index f)
+  no_way_out list (Err e) h index f = Prim.search Rattle.std.proofs.Common.rules
+
+  pub none_reserved : OneList → (r : Result X Y) → IfOk r (λ x. IsCheckedJoin w base path (view x)) → (index : ℕ) → HasFault w path index (IsReservedName w) → IsErr r
+  none_reserved list (Ok x) h index f = absurd (never_reserved list w path h.names h.checked index f)
+  none_reserved list (Err e) h index f = Prim.search Rattle.std.proofs.Common.rules
 
   pub no_nul : (r : Result X Y) → IfOk r (λ x. IsCheckedJoin w base path (view x)) → (index : ℕ) → IsFirstNul path index → IsErr r
   no_nul (Ok x) h i n = absurd (never_free path i n h.checked.no_nul)
@@ -52,8 +109,12 @@ module _ {X Y : Type 0} (view : X → List ℕ) (w : whose.Style) (base path : L
   no_base_nul (Err e) h i n = Prim.search Rattle.std.proofs.Common.rules
 
   pub no_open_base : (r : Result X Y) → IfOk r (λ x. IsCheckedJoin w base path (view x)) → LacksPart w base → IsErr r
-  no_open_base (Ok x) h n = absurd (h.place.1 n)
+  no_open_base (Ok x) h n = absurd (h.place.1.0 n)
   no_open_base (Err e) h n = Prim.search Rattle.std.proofs.Common.rules
+
+  pub no_reserved_base : (r : Result X Y) → IfOk r (λ x. IsCheckedJoin w base path (view x)) → HasReservedName w base → IsErr r
+  no_reserved_base (Ok x) h n = absurd (h.place.1.1 n)
+  no_reserved_base (Err e) h n = Prim.search Rattle.std.proofs.Common.rules
 
   pub no_prefix : (r : Result X Y) → IfOk r (λ x. IsCheckedJoin w base path (view x)) → IsPrefixed w path → IsErr r
   no_prefix (Ok x) h p = absurd (h.checked.inside.relative.0 p)
@@ -63,9 +124,9 @@ module _ {X Y : Type 0} (view : X → List ℕ) (w : whose.Style) (base path : L
   no_root (Ok x) h p = absurd (h.checked.inside.relative.1 p)
   no_root (Err e) h p = Prim.search Rattle.std.proofs.Common.rules
 
-  pub no_stream : OneList → (r : Result X Y) → IfOk r (λ x. IsCheckedJoin w base path (view x)) → NamesStream w path → IsErr r
-  no_stream list (Ok x) h n = absurd (n.1.1.1 (subst (NameNoStream w) (list w path h.checked.items n.0 h.checked.inside.are n.1.1.0.are) h.checked.streams))
-  no_stream list (Err e) h n = Prim.search Rattle.std.proofs.Common.rules
+  pub no_stream : OneList → (r : Result X Y) → IfOk r (λ x. IsCheckedJoin w base path (view x)) → (index : ℕ) → HasFault w path index (IsStream w) → IsErr r
+  no_stream list (Ok x) h index f = absurd (never_stream list w path h.names h.checked index f)
+  no_stream list (Err e) h index f = Prim.search Rattle.std.proofs.Common.rules
 
 module _ (list : OneList) (normal : (items one other : List Item) → AreNormalOf items one → AreNormalOf items other → one ≡ other) (w : whose.Style) (base path : List ℕ) where
   names_same : (one other : List Item) → AreCheckedNames w path one → AreCheckedNames w path other → one ≡ other
@@ -79,13 +140,14 @@ module _ (list : OneList) (normal : (items one other : List Item) → AreNormalO
       subst (λ xs. IsPathOf w (items ++ (own_root items ++ xs)) joined) (names_same h.names names h.checked checked)
       (subst (λ xs. IsPathOf w (xs ++ (own_root xs ++ h.names)) joined) (list w base h.base_items items h.base_are are) h.answers)
 
-  pub only_memory : (e : JoinError) → IsJoinFault w base path e → (names : List Item) → AreCheckedNames w path names → IsBase w base → e ≡ error.Memory
-  only_memory (error.BaseNul i) f names k place = absurd (never_free base i f place.0)
-  only_memory error.Base f names k place = absurd (place.1 f.1)
-  only_memory (error.Nul i) f names k place = absurd (never_free path i f.1 k.no_nul)
-  only_memory error.Prefix f names k place = absurd (k.inside.relative.0 f.1.1)
-  only_memory error.Root f names k place = absurd (k.inside.relative.1 f.1.1.1)
-  only_memory error.Leaves f names k place = absurd (f.1.1.1 k.items k.inside.normal k.inside.are k.inside.form)
-  only_memory error.Stream f names k place = let n = f.1.1 in absurd (n.1.1.1 (subst (NameNoStream w) (list w path k.items n.0 k.inside.are n.1.1.0.are) k.streams))
-  only_memory error.Reserved f names k place = let n = f.1.1 in absurd (n.1.1.1.1 (subst (AreFree w) (list w path k.items n.0 k.inside.are n.1.1.0.are) k.free))
-  only_memory error.Memory f names k place = refl
+  pub only_memory : (e : JoinError) → IsJoinFault w base path e → (names : List Item) → AreCheckedNames w path names → IsBase w base → e ≡ error.Name name_error.Memory
+  only_memory (error.Base (base_error.Nul i)) f names k place = absurd (never_free base i f place.0)
+  only_memory (error.Base base_error.Incomplete) f names k place = absurd (place.1.0 f.1)
+  only_memory (error.Base base_error.Reserved) f names k place = absurd (place.1.1 f.1.1)
+  only_memory (error.Name (name_error.Nul i)) f names k place = absurd (never_free path i f.1 k.no_nul)
+  only_memory (error.Name name_error.Prefix) f names k place = absurd (k.inside.relative.0 f.1.1)
+  only_memory (error.Name name_error.Root) f names k place = absurd (k.inside.relative.1 f.1.1.1)
+  only_memory (error.Name (name_error.Leaves i)) f names k place = absurd (never_leaves list w path names k i f.1)
+  only_memory (error.Name (name_error.Stream i)) f names k place = absurd (never_stream list w path names k i f.1)
+  only_memory (error.Name (name_error.Reserved i)) f names k place = absurd (never_reserved list w path names k i f.1)
+  only_memory (error.Name name_error.Memory) f names k place = refl

@@ -4,6 +4,8 @@ use Rattle.std.proofs.lemmas.List.{reverse-reverse}
 use Rattle.path_rules.specs.declared.rules.Style as whose
 use Rattle.path_rules.specs.declared.rules.Style.TheVariants as style
 use Rattle.path_rules.specs.Component.{Item}
+use Rattle.path_rules.specs.Components.{AreComponents}
+use Rattle.path_building.specs.Beginning.{BeginsOddly}
 use Rattle.path_building.specs.Normal.{AreNormalOf}
 use Rattle.path_building.specs.Normalized.{IsNormalForm, IsNormalized, IsShielded}
 use Rattle.path_building.specs.Cleaned.{CleansTo, IsCleanForm, IsCleaned, or_dot, spelled}
@@ -28,7 +30,10 @@ module _ (list : OneList) (normal : (items one other : List Item) → AreNormalO
   normal_same items one other (inr h) (inr k) = normal items one other h.1 k.1
 
   pub normalized : (w : whose.Style) (path one other : List ℕ) → IsNormalized w path one → IsNormalized w path other → one ≡ other
-  normalized w path one other h k =
+  normalized w path one other (inl h) (inl k) = h.1 ∙ sym k.1
+  normalized w path one other (inl h) (inr k) = absurd (k.0 h.0)
+  normalized w path one other (inr h) (inl k) = absurd (h.0 k.0)
+  normalized w path one other (inr (even, h)) (inr (other_even, k)) =
       let forms = normal_same h.items h.normal k.normal h.form (subst (λ x. IsNormalForm x k.normal) (list w path k.items h.items k.are h.are) k.form) in
       let shown = shown_same w k.normal h.shown k.shown (subst (λ x. IsShielded w x h.shown) forms h.shielded) k.shielded in
       one_writing w k.shown one other (subst (λ x. IsWritten w x one) shown h.answers.1) k.answers.1
@@ -43,7 +48,10 @@ module _ (list : OneList) (clean : (items one other : List Item) → CleansTo it
       h.1.1.1 ∙ ap (λ z. or_dot (map spelled z)) left ∙ sym k.1.1.1
 
   pub cleaned : (w : whose.Style) (path one other : List ℕ) → IsCleaned w path one → IsCleaned w path other → one ≡ other
-  cleaned w path one other h k =
+  cleaned w path one other (inl h) (inl k) = h.1 ∙ sym k.1
+  cleaned w path one other (inl h) (inr k) = absurd (k.0 h.0)
+  cleaned w path one other (inr h) (inl k) = absurd (h.0 k.0)
+  cleaned w path one other (inr (even, h)) (inr (other_even, k)) =
       let forms = clean_same h.items h.clean k.clean h.form (subst (λ x. IsCleanForm x k.clean) (list w path k.items h.items k.are h.are) k.form) in
       let shown = shown_same w k.clean h.shown k.shown (subst (λ x. IsShielded w x h.shown) forms h.shielded) k.shielded in
       one_writing w k.shown one other (subst (λ x. IsWritten w x one) shown h.answers.1) k.answers.1
@@ -57,6 +65,11 @@ pub own_form : ((w : whose.Style) (path answer : List ℕ) → IsNormalized w pa
     → (form : Form) (w : whose.Style) (path answer : List ℕ) → IsForm form w path answer → IsForm form w answer answer
 own_form normal clean which.Normal w path answer h = normal w path answer h
 own_form normal clean which.Clean w path answer h = clean w path answer h
+
+-- a path that doesn't begin oddly has a normal form where it is normalized
+pub has_form : (w : whose.Style) (path answer : List ℕ) → IsNormalized w path answer → ¬ (BeginsOddly w path) → (items : List Item) × ((normal : List Item) × (AreComponents w path items × IsNormalForm items normal))
+has_form w path answer (inl h) even = absurd (even h.0)
+has_form w path answer (inr (even, h)) other = (h.items, (h.normal, (h.are, h.form)))
 
 -- the form of `C:/a/../b`
 pub form_of_slashes : (form : Form) → IsForm form style.Windows (codes "C:/a/../b") (codes "C:\\b")

@@ -13,6 +13,9 @@ use Rattle.path_building.specs.Checked.{IsCheckedJoin}
 use Rattle.path_building.specs.Join.{IsVerbatimPath}
 use Rattle.path_building.specs.Relative.{IsRelativeFrom}
 use Rattle.path_building.specs.Restyled.{IsRestyled}
+use Rattle.path_building.specs.Beginning.{BeginsOddly}
+use Rattle.path_building.specs.Cleaned.{IsCleaned}
+use Rattle.path_building.specs.Normalized.{IsNormalized}
 use Rattle.path_building.specs.Written.{BeginsAsObject, IsPathOf}
 use Rattle.path_building.specs.MainSeparators.{SeparatesBy, HasMainSeparators}
 use Rattle.test_path_uses.specs.declared.form.Form.{Form}
@@ -22,26 +25,29 @@ use Rattle.test_path_uses.specs.Slashes.{LacksSlash, HasNoSlash}
 
 -- of what is written
 module _ (written : (w : whose.Style) (items : List Item) (path : List ℕ) → IsPathOf w items path → HasMainSeparators w path) where
-  pub of_form : (f : Form) (w : whose.Style) (path answer : List ℕ) → IsForm f w path answer → HasMainSeparators w answer
-  of_form which.Normal w path answer h = written w h.shown answer h.answers
-  of_form which.Clean w path answer h = written w h.shown answer h.answers
+  pub of_form : (f : Form) (w : whose.Style) (path answer : List ℕ) → IsForm f w path answer → ¬ (BeginsOddly w path) → HasMainSeparators w answer
+  of_form which.Normal w path answer (inl h) even = absurd (even h.0)
+  of_form which.Normal w path answer (inr h) even = written w h.1.shown answer h.1.answers
+  of_form which.Clean w path answer (inl h) even = absurd (even h.0)
+  of_form which.Clean w path answer (inr h) even = written w h.1.shown answer h.1.answers
 
   pub of_joined : (w : whose.Style) (base path joined : List ℕ) → IsCheckedJoin w base path joined → HasMainSeparators w joined
   of_joined w base path joined h = written w (h.base_items ++ (own_root h.base_items ++ h.names)) joined h.answers
 
   pub of_restyled : (from to : whose.Style) (path made : List ℕ) → IsRestyled from to path made → from ≢ to → HasMainSeparators to made
   of_restyled from to path made (inl h) n = absurd (n h.0)
-  of_restyled from to path made (inr h) n = written to h.1.0 made h.1.1.1
+  of_restyled from to path made (inr h) n = written to h.1.1.0 made h.1.1.1.1
 
 -- no path begins as one of the object manager
 module _ (law : (items : List Item) (path : List ℕ) → IsPathOf style.Windows items path → ¬ (BeginsAsObject path)) where
-  pub form_no_object : (f : Form) (path answer : List ℕ) → IsForm f style.Windows path answer → ¬ (BeginsAsObject answer)
-  form_no_object which.Normal path answer h = law h.shown answer h.answers
-  form_no_object which.Clean path answer h = law h.shown answer h.answers
-
   pub restyled_no_object : (path made : List ℕ) → IsRestyled style.Unix style.Windows path made → ¬ (BeginsAsObject made)
   restyled_no_object path made (inl h) = let never : style.Unix ≡ style.Windows = h.0 in cc
-  restyled_no_object path made (inr h) = law h.1.0 made h.1.1.1
+  restyled_no_object path made (inr h) = law h.1.1.0 made h.1.1.1.1
+
+module _ (normal : (path answer : List ℕ) → IsNormalized style.Windows path answer → ¬ (BeginsAsObject answer)) (clean : (path answer : List ℕ) → IsCleaned style.Windows path answer → ¬ (BeginsAsObject answer)) where
+  pub form_no_object : (f : Form) (path answer : List ℕ) → IsForm f style.Windows path answer → ¬ (BeginsAsObject answer)
+  form_no_object which.Normal path answer h = normal path answer h
+  form_no_object which.Clean path answer h = clean path answer h
 
 -- of a way
 module _ (law : (w : whose.Style) (path base way : List ℕ) → IsRelativeFrom w path base (Some way) → ¬ (IsVerbatimPath w path) → (IsAbsolute w path → IsAbsolute w base) → HasMainSeparators w way) where

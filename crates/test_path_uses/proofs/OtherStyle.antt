@@ -19,4 +19,4 @@ one_index list from to path one other items others others_are h are k = same_ind
 
 pub written_anew : OneList → (from to : whose.Style) (path made : List ℕ) → IsRestyled from to path made → (items : List Item) → from ≢ to → AreComponents from path items → IsWritten to items made
 written_anew list from to path made (inl h) items other are = absurd (other h.0)
-written_anew list from to path made (inr h) items other are = subst (λ x. IsWritten to x made) (list from path h.1.0 items h.1.1.0 are) h.1.1.1.1
+written_anew list from to path made (inr h) items other are = subst (λ x. IsWritten to x made) (list from path h.1.1.0 items h.1.1.1.0 are) h.1.1.1.1.1

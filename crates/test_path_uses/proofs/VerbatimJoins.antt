@@ -7,7 +7,7 @@ use Rattle.path_rules.specs.Separators.{separates}
 use Rattle.path_rules.specs.Component.{Item, Prefix, RootDir, ParentDir, Normal}
 use Rattle.path_rules.specs.Components.{AreComponents, prefixed, bare}
 use Rattle.path_rules.specs.Prefix.{VerbatimDisk, IsPrefixOf, IsPrefixed}
-use Rattle.path_building.specs.Base.{HasAllParts, LacksPart}
+use Rattle.path_building.specs.Base.{IsOpenKind, LacksPart}
 use Rattle.path_building.specs.Join.{IsVerbatimPath}
 use Rattle.path_building.specs.Resolved.{nothing, name, up, below_root, AreResolved, HasResolved}
 use Rattle.test_path_uses.proofs.Writings.{OnePrefix}
@@ -24,8 +24,8 @@ pub verbatim : IsVerbatimPath style.Windows (codes "\\\\?\\C:\\a")
 verbatim = (VerbatimDisk 0x43, (codes "\\a", (drive, refl)))
 
 pub whole : OnePrefix → ¬ (LacksPart style.Windows (codes "\\\\?\\C:\\a"))
-whole one (inl h) = h.1.1.1 (subst HasAllParts (one (codes "\\\\?\\C:\\a") (VerbatimDisk 0x43) h.0 (codes "\\a") h.1.0 drive h.1.1.0).0 tt)
-whole one (inr h) = h.0 (VerbatimDisk 0x43, (codes "\\a", drive))
+whole one (inl h) = subst IsOpenKind (one (codes "\\\\?\\C:\\a") h.0 (VerbatimDisk 0x43) h.1.0 (codes "\\a") h.1.1.0 drive).0 h.1.1.1
+whole one (inr h) = h.0 (VerbatimDisk 0x43) (codes "\\a") drive
 
 pub bare_path : ¬ (IsPrefixed style.Windows (codes "..\\b\\."))
 bare_path p = p.1.1

@@ -1,6 +1,7 @@
 //! Paths joined and checked: nothing that is let through leaves the base.
 ghost use Rattle.std.specs.Prelude.{◌≡◌, ◌++◌, ℕ, List, IfErr, IfOk, IfSome, IsErr};
 ghost use Rattle.platform_str.specs.Strings.{path_bytes, path_vec_of};
+ghost use Rattle.os_path.specs.Bases.{path_of_base};
 ghost use Rattle.path_rules.specs.Component.{Item};
 ghost use Rattle.path_rules.specs.Components.{AreComponents};
 ghost use Rattle.path_building.specs.Normalized.{IsNormalForm};
@@ -9,12 +10,14 @@ ghost use Rattle.path_rules.specs.Root.{BeginsWithSeparator};
 ghost use Rattle.path_rules.specs.StyleRules.{rules_of_style};
 ghost use Rattle.path_rules.specs.declared.rules.Style.TheVariants as style;
 ghost use Rattle.path_building.specs.Written.{IsPathOf};
-ghost use Rattle.path_building.specs.Base.{HasNoNul, IsBase, IsFirstNul, LacksPart, own_root};
+ghost use Rattle.path_building.specs.Base.{HasNoNul, HasReservedName, IsBase, IsFirstNul, LacksPart, own_root};
 ghost use Rattle.path_rules.specs.Trailing.{EndsWithSeparator};
 ghost use Rattle.path_building.specs.Trailing.{IsWithTrailingSep};
-ghost use Rattle.path_building.specs.Checked.{AreCheckedNames, BeginsBelow, IsBelowBase, IsCheckedJoin, LeadsOut, NamesReserved, NamesStream};
+ghost use Rattle.path_building.specs.declared.walk.NameError.TheVariants as name_error;
+ghost use Rattle.path_building.specs.Checked.{AreCheckedNames, BeginsBelow, IsBelowBase, IsCheckedJoin};
+ghost use Rattle.path_building.specs.Faults.{HasFault, IsReservedName, IsStream, Leaves};
 
-use os_path::{JoinError, PathExt, PathStyle};
+use os_path::{Base, JoinError, NameError, PathExt, PathStyle};
 use path_building::laws as building;
 use path_rules::laws;
 use platform_str::{Path, PathBuf, Unix, Windows};
@@ -119,7 +122,7 @@ pub fn let_through<'a, E: PathStyle + 'a, A: Allocator + Copy>(
         → IsPathOf E.follows (items ++ (own_root items ++ names)) (path_vec_of joined).items) }
     ensures err { IfErr result (λ error. (names : List Item)
         → AreCheckedNames E.follows (path_bytes path.entry) names
-        → IsBase E.follows (path_bytes base.entry) → error ≡ JoinError.Memory) }
+        → IsBase E.follows (path_bytes base.entry) → error ≡ JoinError.Name name_error.Memory) }
 {
     laws::one_list();
     building::normal_forms();
@@ -127,7 +130,7 @@ pub fn let_through<'a, E: PathStyle + 'a, A: Allocator + Copy>(
 }
 
 /// Rejects each path that has a NUL, a prefix, a root, a stream's colon or a reserved name, or that
-/// leads out of the base. Rejects any path if the base has a NUL or is incomplete.
+/// leads out of the base. Rejects any path if the base has a NUL or a reserved name, or is incomplete.
 pub fn refused<'a, E: PathStyle + 'a, A: Allocator + Copy>(
     alloc: A,
     base: Path<'a, E>,
@@ -136,12 +139,17 @@ pub fn refused<'a, E: PathStyle + 'a, A: Allocator + Copy>(
     ensures nul { (index : ℕ) → IsFirstNul (path_bytes path.entry) index → IsErr result }
     ensures base_nul { (index : ℕ) → IsFirstNul (path_bytes base.entry) index → IsErr result }
     ensures base { LacksPart E.follows (path_bytes base.entry) → IsErr result }
+    ensures base_name { HasReservedName E.follows (path_bytes base.entry) → IsErr result }
     ensures prefix { IsPrefixed E.follows (path_bytes path.entry) → IsErr result }
     ensures root { BeginsWithSeparator (rules_of_style E.follows) (path_bytes path.entry)
         → IsErr result }
-    ensures stream { NamesStream E.follows (path_bytes path.entry) → IsErr result }
-    ensures out { LeadsOut E.follows (path_bytes path.entry) → IsErr result }
-    ensures reserved { NamesReserved E.follows (path_bytes path.entry) → IsErr result }
+    ensures stream { (index : ℕ)
+        → HasFault E.follows (path_bytes path.entry) index (IsStream E.follows) → IsErr result }
+    ensures out { (index : ℕ) → HasFault E.follows (path_bytes path.entry) index Leaves
+        → IsErr result }
+    ensures reserved { (index : ℕ)
+        → HasFault E.follows (path_bytes path.entry) index (IsReservedName E.follows)
+        → IsErr result }
 {
     laws::one_list();
     base.join_checked(alloc, path)
@@ -156,7 +164,19 @@ pub fn nul_index<'a, E: PathStyle + 'a, A: Allocator + Copy>(
     ensures { IfSome result (λ index. IsFirstNul (path_bytes path.entry) index) }
 {
     match base.join_checked(alloc, path) {
-        Err(JoinError::Nul(index)) => Some(index),
+        Err(JoinError::Name(NameError::Nul(index))) => Some(index),
         _ => None,
     }
+}
+
+/// Names of an archive below a folder that is tested once: how many are put below it.
+pub fn unpacked_names<'a, E: PathStyle + 'a, A: Allocator + Copy>(
+    alloc: A,
+    base: Base<'a, E>,
+    name: Path<'a, E>,
+) -> Result<PathBuf<E, A>, NameError>
+    ensures { IfOk result (λ file. IsBelowBase E.follows (path_of_base base.entry)
+        (path_vec_of file).items) }
+{
+    base.join(alloc, name)
 }

@@ -1,12 +1,13 @@
 //! Ignore files: what is below a directory that is ignored, and which file decides.
-ghost use Rattle.std.specs.Prelude.{◌≡◌, ◌<◌, ◌∷◌, [], length, slice_index, Bool, true, false, ℕ, List, None, Some, IsTrue, IfOk, IfSome};
+ghost use Rattle.std.specs.Prelude.{◌≡◌, ◌≢◌, ◌<◌, ◌∷◌, [], length, slice_index, Bool, Option, true, false, ℕ, List, None, Some, IsTrue, IfOk, IfSome};
 ghost use Rattle.os_ignore.specs.declared.file.File.{File};
 ghost use Rattle.os_ignore.specs.declared.line.Line.{Line};
 ghost use Rattle.os_ignore.specs.declared.reason.NoPattern.{NoPattern};
 ghost use Rattle.os_ignore.specs.declared.verdict.Verdict.{Verdict};
 ghost use Rattle.os_ignore.specs.Components.{IsPlain, IsLastComponent};
-ghost use Rattle.os_ignore.specs.Files.{HasReason, IsTextAt};
-ghost use Rattle.os_ignore.specs.Ignores.{IsBlanked, IsFileAt, files_of};
+ghost use Rattle.os_ignore.specs.declared.reason.NoPattern.TheVariants.{Comment};
+ghost use Rattle.os_ignore.specs.Files.{HasReason, IsTextAt, NoTextAt};
+ghost use Rattle.os_ignore.specs.Ignores.{HasNoText, HasText, IsBlanked, IsFileAt, files_of};
 ghost use Rattle.os_ignore.specs.Letters.{escaped};
 ghost use Rattle.os_ignore.specs.Lines.{IsLine, SaysNothing};
 ghost use Rattle.os_ignore.specs.Matching.{LineMatches};
@@ -205,13 +206,35 @@ pub fn is_pattern<A: Allocator + Copy>(alloc: A, line: &[u8]) -> Result<bool, Al
     }
 }
 
+/// Whether a line is a comment. If it isn't, it is a pattern or there is another reason why not.
+pub fn is_comment<A: Allocator + Copy>(alloc: A, line: &[u8]) -> Result<bool, AllocError>
+    ensures comment { IfOk result (λ is. is ≡ true → HasReason A line.now (Some Comment)) }
+    ensures other { IfOk result (λ is. is ≡ false → (reason : Option NoPattern)
+        × (HasReason A line.now reason × (reason ≢ Some Comment))) }
+{
+    match no_pattern(alloc, line)? {
+        Some(NoPattern::Comment) => Ok(true),
+        _ => Ok(false),
+    }
+}
+
+/// Whether a file of this number has a line of this number.
+pub fn has_line_in<A: Allocator + Copy>(ignore: &Ignore<A>, file: usize, line: usize) -> bool
+    ensures has { result ≡ true → (text : List ℕ) × HasText (files_of ignore.now) file line text }
+    ensures none { result ≡ false → HasNoText (files_of ignore.now) file line }
+{
+    ignore.line(file, line).is_some()
+}
+
 /// Whether the one file of a tree has a line of this number.
 pub fn has_line<A: Allocator + Copy>(
     alloc: A,
     content: &[u8],
     line: usize,
 ) -> Result<bool, AllocError>
-    ensures { IfOk result (λ has. has ≡ true → (text : List ℕ) × IsTextAt content.now line text) }
+    ensures has { IfOk result (λ has. has ≡ true → (text : List ℕ)
+        × IsTextAt content.now line text) }
+    ensures none { IfOk result (λ has. has ≡ false → NoTextAt content.now line) }
 {
     let ignore = Ignore::new(alloc, content)?;
     match ignore.line(0, line) {

@@ -4,6 +4,7 @@ ghost use Rattle.platform_str.specs.Strings.{path_bytes, path_vec_of};
 ghost use Rattle.path_rules.specs.declared.rules.Style.TheVariants as whose;
 ghost use Rattle.path_rules.specs.Component.{Item};
 ghost use Rattle.path_rules.specs.Components.{AreComponents};
+ghost use Rattle.path_building.specs.Beginning.{BeginsOddly};
 ghost use Rattle.path_building.specs.Normalized.{IsNormalForm};
 ghost use Rattle.path_building.specs.Cleaned.{DifferInSeparators};
 ghost use Rattle.path_building.specs.Join.{IsVerbatimPath};
@@ -84,12 +85,13 @@ pub fn cleaned_alike<A: Allocator + Copy>(
     Ok((one, two))
 }
 
-/// Whether a path has a normal form; `None` where memory is refused.
+/// Whether a path that doesn't begin oddly has a normal form; `None` where memory is refused.
 pub fn has_normal_form<'a, E: PathStyle + 'a, A: Allocator + Copy>(
     alloc: A,
     path: Path<'a, E>,
 ) -> Option<bool>
-    ensures { IfSome result (λ has. IsTrue has ↔ ((items : List Item) × ((normal : List Item)
+    ensures { IfSome result (λ has. ¬ (BeginsOddly E.follows (path_bytes path.entry))
+        → IsTrue has ↔ ((items : List Item) × ((normal : List Item)
         × (AreComponents E.follows (path_bytes path.entry) items × IsNormalForm items normal)))) }
 {
     match path.normalize(alloc) {

@@ -4,6 +4,7 @@ ghost use Rattle.platform_str.specs.Strings.{path_bytes, path_vec_of};
 ghost use Rattle.path_rules.specs.Component.{Normal};
 ghost use Rattle.path_rules.specs.declared.rules.Style.TheVariants as style;
 ghost use Rattle.path_rules.specs.Root.{IsAbsolute};
+ghost use Rattle.path_building.specs.Beginning.{BeginsOddly};
 ghost use Rattle.path_building.specs.Checked.{AreCheckedNames};
 ghost use Rattle.path_building.specs.Join.{IsVerbatimPath};
 ghost use Rattle.path_building.specs.Written.{BeginsAsObject};
@@ -70,25 +71,29 @@ pub fn slashes_on_windows<A: Allocator + Copy>(
     path.with_style::<Windows, A>(alloc)
 }
 
-/// A path in a form: the main separator alone separates in it, but in its prefix.
+/// A path in a form: the main separator alone separates in it, but in its prefix, unless the path
+/// begins oddly.
 pub fn separators_of_form<'a, E: PathStyle + 'a, A: Allocator + Copy>(
     alloc: A,
     form: Form,
     path: Path<'a, E>,
 ) -> Result<PathBuf<E, A>, NormalizeError>
-    ensures { IfOk result (λ made. HasMainSeparators E.follows (path_vec_of made).items) }
+    ensures { IfOk result (λ made. ¬ (BeginsOddly E.follows (path_bytes path.entry))
+        → HasMainSeparators E.follows (path_vec_of made).items) }
 {
     building::main_separators();
     in_form(alloc, form, path)
 }
 
-/// A Windows path in a form has no `/` after its prefix, unless that begins with `\\?\`.
+/// A Windows path in a form has no `/` after its prefix, unless that begins with `\\?\`, or the path
+/// begins oddly.
 pub fn form_without_slash<A: Allocator + Copy>(
     alloc: A,
     form: Form,
     path: Path<'_, Windows>,
 ) -> Result<PathBuf<Windows, A>, NormalizeError>
-    ensures { IfOk result (λ made. HasNoSlash (path_vec_of made).items) }
+    ensures { IfOk result (λ made. ¬ (BeginsOddly style.Windows (path_bytes path.entry))
+        → HasNoSlash (path_vec_of made).items) }
 {
     separators_of_form(alloc, form, path)
 }
@@ -101,7 +106,7 @@ pub fn no_object_of_form<A: Allocator + Copy>(
 ) -> Result<PathBuf<Windows, A>, NormalizeError>
     ensures { IfOk result (λ made. ¬ (BeginsAsObject (path_vec_of made).items)) }
 {
-    building::no_object();
+    building::no_object_form();
     in_form(alloc, form, path)
 }
 

@@ -11,7 +11,7 @@ use Rattle.path_rules.specs.StyleRules.{rules_of_style, main_separator}
 use Rattle.path_rules.specs.Component.{Item, Prefix, RootDir, CurDir, ParentDir, Normal}
 use Rattle.path_rules.specs.Components.{prefixed}
 use Rattle.path_rules.specs.Root.{BeginsWithSeparator}
-use Rattle.path_rules.specs.Prefix.{IsRawPrefix}
+use Rattle.path_rules.specs.Prefix.{IsPrefixOf, IsRawPrefix}
 use Rattle.path_building.specs.Join.{NeedsNoSeparator, IsJoin, replacing, resolving, at_root, after}
 use Rattle.path_building.specs.Resolved as resolved
 use Rattle.path_building.specs.Resolved.{ResolvesTo, below_root}
@@ -139,7 +139,10 @@ module _ (formed : List ℕ → Type 0) (units : List ℕ → List ℕ) (laws : 
     beside_formed w base path (inl e) fb fp = subst (λ x. formed (x ++ path)) (sym e) fp
     beside_formed w base path (inr (inl h)) fb fp = after_last base h.before path h.last (ascii_separators (rules_of_style w) h.last h.is) h.joined fb fp
     beside_formed style.Unix base path (inr (inr h)) fb fp = absurd h
-    beside_formed style.Windows base path (inr (inr h)) fb fp = let d = drive_bytes base h.0 [] h.1 in after_last base (d.0 ∷ []) path 0x3A (lit< tt) d.1 fb fp
+    beside_formed style.Windows base path (inr (inr h)) fb fp =
+        let alone = h.1.1.1 in
+        let is = subst (λ k. IsPrefixOf base k []) alone.1.1 (subst (IsPrefixOf base h.0) alone.0 h.1.1.0) in
+        let d = drive_bytes base alone.1.0 [] is in after_last base (d.0 ∷ []) path 0x3A (lit< tt) d.1 fb fp
 
     ascii_main : (w : whose.Style) → main_separator w < 0x80
     ascii_main style.Unix = lit< tt

@@ -101,9 +101,11 @@ module _ (formed : List ℕ → Type 0) (units : List ℕ → List ℕ) (laws : 
   of_path w s items h f = from_items formed (joins formed units laws) laws.texts (cuts formed cut_prefix cut_suffix) w s items h f
 
   pub normalized_formed : (w : Style) (path answer : List ℕ) → IsNormalized w path answer → formed path → formed answer
-  normalized_formed w path answer h f =
+  normalized_formed w path answer (inl h) f = subst formed (sym h.1) f
+  normalized_formed w path answer (inr (even, h)) f =
       of_path w answer h.shown h.answers.0 (shielded_formed formed w h.normal h.shown h.shielded (normal_formed formed h.items h.normal h.form (of_items w path h.items h.are f)))
 
   pub cleaned_formed : (w : Style) (path answer : List ℕ) → IsCleaned w path answer → formed path → formed answer
-  cleaned_formed w path answer h f =
+  cleaned_formed w path answer (inl h) f = subst formed (sym h.1) (spelling_formed formed (cuts formed cut_prefix cut_suffix) (joins formed units laws) path f)
+  cleaned_formed w path answer (inr (even, h)) f =
       of_path w answer h.shown h.answers.0 (shielded_formed formed w h.clean h.shown h.shielded (clean_formed formed (spelling_formed formed (cuts formed cut_prefix cut_suffix) (joins formed units laws)) h.items h.clean h.form (of_items w path h.items h.are f)))

@@ -1,15 +1,20 @@
 -- Normal forms and clean forms are their own, also where `.` comes before their first name.
-use Rattle.std.proofs.Common.{◌≡◌, ◌⊎◌, inl, inr, ℕ, Bool, true, false, List, [], ◌∷◌, ◌++◌, map, reverse, refl, sym, ap, ◌∙◌, subst}
+use Rattle.std.proofs.Common.{◌≡◌, ◌↔◌, ◌⊎◌, inl, inr, ℕ, Bool, true, false, List, [], ◌∷◌, ◌++◌, map, reverse, refl, sym, ap, ◌∙◌, subst}
 use Rattle.std.proofs.lemmas.List.{reverse-append}
 use Rattle.path_rules.specs.declared.rules.Style.{Style}
 use Rattle.path_rules.specs.Component.{Item, Prefix, RootDir, CurDir, ParentDir, Normal}
 use Rattle.path_building.specs.Normal.{LeadsTo, nowhere, prefix, bare_root, root, start, here, name, up}
 use Rattle.path_rules.specs.Prefix.{begins_verbatim}
-use Rattle.path_building.specs.Normalized.{AreVerbatim, BeginsAsPrefix, IsNormalForm, IsNormalized}
+use Rattle.path_building.specs.Normalized.{AreVerbatim, BeginsWithColon, IsNormalForm, IsNormalWritten, IsNormalized}
 use Rattle.path_building.specs.Cleaned as clean
-use Rattle.path_building.specs.Cleaned.{CleansTo, StaysAfter, or_dot, spelled, IsCleanForm, IsCleaned}
+use Rattle.path_building.specs.Cleaned.{CleansTo, StaysAfter, or_dot, one_spelling, spelled, IsCleanForm, IsCleanWritten, IsCleaned}
 use Rattle.path_building.proofs.lemmas.Normals.{again}
-use Rattle.path_building.proofs.lemmas.Spellings.{all_again, both_spelled}
+use Rattle.path_building.proofs.lemmas.Spellings.{all_again, both_spelled, spelling_again}
+use Rattle.path_building.specs.Beginning.{BeginsOddly}
+use Rattle.path_building.proofs.lemmas.Beginnings.{odd_spelled, odd_no_object}
+use Rattle.path_building.proofs.lemmas.Objects.{no_object}
+use Rattle.path_building.specs.Written.{BeginsAsObject}
+use Rattle.path_rules.specs.declared.rules.Style.TheVariants as style
 
 -- a list that ends in a name has a first item, and what follows it is empty or ends in that name
 data Ends (s : List ℕ) : List Item → Type 0 where
@@ -74,7 +79,7 @@ normal_again items normal (inl h) = inl (subst AreVerbatim (sym h.1) h.0, refl)
 normal_again items normal (inr h) = normal_of normal (again h.1)
 
 -- with a `.` before its first name
-shielded_again : (w : Style) (items normal : List Item) → IsNormalForm items normal → BeginsAsPrefix w normal → IsNormalForm (CurDir ∷ normal) (CurDir ∷ normal)
+shielded_again : (w : Style) (items normal : List Item) → IsNormalForm items normal → BeginsWithColon w normal → IsNormalForm (CurDir ∷ normal) (CurDir ∷ normal)
 shielded_again w items [] f b = absurd b
 shielded_again w items (Prefix s ∷ xs) f b = absurd b
 shielded_again w items (RootDir ∷ xs) f b = absurd b
@@ -83,11 +88,11 @@ shielded_again w items (ParentDir ∷ xs) f b = absurd b
 shielded_again w items (Normal s ∷ xs) (inl h) b = absurd (subst AreVerbatim (sym h.1) h.0)
 shielded_again w items (Normal s ∷ xs) (inr h) b = inr (λ v. v, dotted s xs (again h.1))
 
-not_begun : (w : Style) (normal shown : List Item) → shown ≡ CurDir ∷ normal → ¬ (BeginsAsPrefix w shown)
-not_begun w normal shown e b = subst (BeginsAsPrefix w) e b
+not_begun : (w : Style) (normal shown : List Item) → shown ≡ CurDir ∷ normal → ¬ (BeginsWithColon w shown)
+not_begun w normal shown e b = subst (BeginsWithColon w) e b
 
-pub normalized_again : (w : Style) (path answer : List ℕ) → IsNormalized w path answer → IsNormalized w answer answer
-normalized_again w path answer h = elim h.shielded as (λ z. IsNormalized w answer answer) [
+written_again : (w : Style) (path answer : List ℕ) → IsNormalWritten w path answer → IsNormalWritten w answer answer
+written_again w path answer h = elim h.shielded as (λ z. IsNormalWritten w answer answer) [
   | inl b ↦ record {
     items = h.shown;
     normal = h.shown;
@@ -96,6 +101,7 @@ normalized_again w path answer h = elim h.shielded as (λ z. IsNormalized w answ
     form = subst (λ z. IsNormalForm z z) (sym b.1) (shielded_again w h.items h.normal h.form b.0);
     shielded = inr (not_begun w h.normal h.shown b.1, refl);
     answers = h.answers;
+    even = h.even;
   }
   | inr n ↦ record {
     items = h.shown;
@@ -103,10 +109,15 @@ normalized_again w path answer h = elim h.shielded as (λ z. IsNormalized w answ
     shown = h.shown;
     are = h.answers.0;
     form = subst (λ z. IsNormalForm z z) (sym n.1) (normal_again h.items h.normal h.form);
-    shielded = inr (subst (λ z. ¬ (BeginsAsPrefix w z)) (sym n.1) n.0, refl);
+    shielded = inr (subst (λ z. ¬ (BeginsWithColon w z)) (sym n.1) n.0, refl);
     answers = h.answers;
+    even = h.even;
   }
 ]
+
+pub normalized_again : (w : Style) (path answer : List ℕ) → IsNormalized w path answer → IsNormalized w answer answer
+normalized_again w path answer (inl h) = inl (subst (BeginsOddly w) (sym h.1) h.0, refl)
+normalized_again w path answer (inr h) = inr (h.1.even, written_again w path answer h.1)
 
 -- clean forms
 after_clean : {s t : List ℕ} {xs ys : List Item} → CleansTo (Normal s ∷ xs) (Normal t ∷ ys) → CleansTo xs ys
@@ -166,7 +177,7 @@ form_again : (items form : List Item) → IsCleanForm items form → IsCleanForm
 form_again items form (inl h) = inl (subst AreVerbatim (sym h.1) h.0, refl)
 form_again items form (inr h) = subst (λ z. IsCleanForm z z) (sym h.1.1.1) (clean_of (map spelled h.1.0) (all_again h.1.0) (both_spelled h.1.0 h.1.0 (clean_again h.1.1.0)))
 
-clean_dotted : (w : Style) (left : List Item) → CleansTo (reverse left) (reverse left) → BeginsAsPrefix w (or_dot left) → CleansTo (reverse (CurDir ∷ or_dot left)) (reverse left)
+clean_dotted : (w : Style) (left : List Item) → CleansTo (reverse left) (reverse left) → BeginsWithColon w (or_dot left) → CleansTo (reverse (CurDir ∷ or_dot left)) (reverse left)
 clean_dotted w [] k b = absurd b
 clean_dotted w (Prefix s ∷ xs) k b = absurd b
 clean_dotted w (RootDir ∷ xs) k b = absurd b
@@ -176,7 +187,7 @@ clean_dotted w (Normal s ∷ xs) k b =
     let e : reverse (CurDir ∷ Normal s ∷ xs) ≡ reverse (Normal s ∷ xs) ++ CurDir ∷ [] = reverse-append (CurDir ∷ []) (Normal s ∷ xs) in
     subst (λ z. CleansTo z (reverse (Normal s ∷ xs))) (sym e) (clean_below k (first_last s xs))
 
-not_verbatim : (w : Style) (xs : List Item) → BeginsAsPrefix w xs → ¬ (AreVerbatim xs)
+not_verbatim : (w : Style) (xs : List Item) → BeginsWithColon w xs → ¬ (AreVerbatim xs)
 not_verbatim w [] b v = b
 not_verbatim w (Prefix s ∷ xs) b v = b
 not_verbatim w (RootDir ∷ xs) b v = b
@@ -184,16 +195,16 @@ not_verbatim w (CurDir ∷ xs) b v = b
 not_verbatim w (ParentDir ∷ xs) b v = b
 not_verbatim w (Normal s ∷ xs) b v = v
 
-clean_shielded : (w : Style) (items form : List Item) → IsCleanForm items form → BeginsAsPrefix w form → IsCleanForm (CurDir ∷ form) form
+clean_shielded : (w : Style) (items form : List Item) → IsCleanForm items form → BeginsWithColon w form → IsCleanForm (CurDir ∷ form) form
 clean_shielded w items form (inl h) b = absurd (not_verbatim w form b (subst AreVerbatim (sym h.1) h.0))
 clean_shielded w items form (inr h) b =
     let left = map spelled h.1.0 in
     let e : form ≡ or_dot left = h.1.1.1 in
     let k : CleansTo (reverse left) (reverse left) = both_spelled h.1.0 h.1.0 (clean_again h.1.1.0) in
-    inr (λ v. v, (left, (subst (λ z. CleansTo (reverse (CurDir ∷ z)) (reverse left)) (sym e) (clean_dotted w left k (subst (BeginsAsPrefix w) e b)), e ∙ ap or_dot (sym (all_again h.1.0)))))
+    inr (λ v. v, (left, (subst (λ z. CleansTo (reverse (CurDir ∷ z)) (reverse left)) (sym e) (clean_dotted w left k (subst (BeginsWithColon w) e b)), e ∙ ap or_dot (sym (all_again h.1.0)))))
 
-pub cleaned_again : (w : Style) (path answer : List ℕ) → IsCleaned w path answer → IsCleaned w answer answer
-cleaned_again w path answer h = elim h.shielded as (λ z. IsCleaned w answer answer) [
+clean_written_again : (w : Style) (path answer : List ℕ) → IsCleanWritten w path answer → IsCleanWritten w answer answer
+clean_written_again w path answer h = elim h.shielded as (λ z. IsCleanWritten w answer answer) [
   | inl b ↦ record {
     items = h.shown;
     clean = h.clean;
@@ -202,6 +213,7 @@ cleaned_again w path answer h = elim h.shielded as (λ z. IsCleaned w answer ans
     form = subst (λ z. IsCleanForm z h.clean) (sym b.1) (clean_shielded w h.items h.clean h.form b.0);
     shielded = inl b;
     answers = h.answers;
+    even = h.even;
   }
   | inr n ↦ record {
     items = h.shown;
@@ -211,5 +223,28 @@ cleaned_again w path answer h = elim h.shielded as (λ z. IsCleaned w answer ans
     form = subst (λ z. IsCleanForm z h.clean) (sym n.1) (form_again h.items h.clean h.form);
     shielded = inr n;
     answers = h.answers;
+    even = h.even;
   }
 ]
+
+pub cleaned_again : (w : Style) (path answer : List ℕ) → IsCleaned w path answer → IsCleaned w answer answer
+cleaned_again w path answer (inl h) = inl (subst (BeginsOddly w) (sym h.1) (odd_spelled w path h.0), h.1 ∙ sym (spelling_again path) ∙ ap one_spelling (sym h.1))
+cleaned_again w path answer (inr h) = inr (h.1.even, clean_written_again w path answer h.1)
+
+-- both forms keep the kind of a path's beginning
+pub normal_beginning : (w : Style) (path answer : List ℕ) → IsNormalized w path answer → BeginsOddly w path ↔ BeginsOddly w answer
+normal_beginning w path answer (inl h) = (λ o. subst (BeginsOddly w) (sym h.1) o, λ o. h.0)
+normal_beginning w path answer (inr h) = (λ o. absurd (h.0 o), λ o. absurd (h.1.even o))
+
+pub clean_beginning : (w : Style) (path answer : List ℕ) → IsCleaned w path answer → BeginsOddly w path ↔ BeginsOddly w answer
+clean_beginning w path answer (inl h) = (λ o. subst (BeginsOddly w) (sym h.1) (odd_spelled w path o), λ o. h.0)
+clean_beginning w path answer (inr h) = (λ o. absurd (h.0 o), λ o. absurd (h.1.even o))
+
+-- neither form begins as a path of the object manager
+pub normal_no_object : (path answer : List ℕ) → IsNormalized style.Windows path answer → ¬ (BeginsAsObject answer)
+normal_no_object path answer (inl h) b = odd_no_object path h.0 (subst BeginsAsObject h.1 b)
+normal_no_object path answer (inr h) b = no_object h.1.shown answer h.1.answers b
+
+pub clean_no_object : (path answer : List ℕ) → IsCleaned style.Windows path answer → ¬ (BeginsAsObject answer)
+clean_no_object path answer (inl h) b = odd_no_object (one_spelling path) (odd_spelled style.Windows path h.0) (subst BeginsAsObject h.1 b)
+clean_no_object path answer (inr h) b = no_object h.1.shown answer h.1.answers b

@@ -1,5 +1,6 @@
 -- What is known of a base: where its first NUL is, and the root of a prefix alone.
-use Rattle.std.proofs.Common.{◌≡◌, ◌≢◌, ◌⊎◌, inl, inr, ℕ, zero, suc, ◌+◌, ◌<◌, Bool, true, false, not, IsTrue, ◌↔◌, ◌&&◌, nat_eq, if◌then◌else◌, List, [], ◌∷◌, ◌++◌, length, take, drop, get_or, take-append-drop, refl, sym, ap, ◌∙◌, subst, arith, append-nil, Option, None, Some, MatchOption}
+use Rattle.std.proofs.Common.{◌≡◌, ◌≢◌, ◌⊎◌, inl, inr, ℕ, zero, suc, ◌+◌, ◌<◌, Bool, true, false, IsTrue, ◌↔◌, ◌&&◌, nat_eq, if◌then◌else◌, List, [], ◌∷◌, ◌++◌, length, map, take, drop, get_or, take-append-drop, refl, sym, ap, ◌∙◌, subst, arith, append-nil, Option, None, Some, MatchOption}
+use Rattle.std.specs.Char.{to_ascii_lowercase}
 use Rattle.std.specs.List.{AllByRecursion}
 use Rattle.std.proofs.lemmas.Bool.{eq-eqb, eqb-true}
 use Rattle.std.proofs.lemmas.List.{take_all, drop_more, length-take-le}
@@ -13,14 +14,20 @@ use Rattle.path_rules.specs.declared.head.Start.TheVariants.{Root, Dot, Nothing}
 use Rattle.path_rules.specs.Separators.{separates}
 use Rattle.path_rules.specs.Component.{Item, Prefix, RootDir, CurDir, ParentDir, Normal, components_in}
 use Rattle.path_rules.specs.Components.{AreComponents, prefixed, bare, root_of, after_root, start_of, after_start}
-use Rattle.path_rules.specs.Heads.{start_items}
-use Rattle.path_rules.specs.Prefix.{Kind, Verbatim, VerbatimUnc, VerbatimDisk, Device, Unc, Disk, Lead, VerbatimLead, DeviceLead, DoubleLead, DriveLead, NoLead, VerbatimLeads, UncLead, DiskLead, NameLead, is_letter, lead_of, verbatim_lead, IsVerbatimBy, IsPrefixBy, IsPrefixOf, rules_of, begins_verbatim}
+use Rattle.path_rules.specs.Heads.{prefix_items, start_items, items_of}
+use Rattle.path_rules.specs.Prefix.{Kind, Verbatim, VerbatimUnc, VerbatimDisk, Device, Unc, Disk, Lead, VerbatimLead, DeviceLead, DoubleLead, DriveLead, NoLead, VerbatimLeads, UncLead, DiskLead, NameLead, is_letter, lead_of, verbatim_lead, IsVerbatimBy, IsPrefixBy, IsPrefixOf, WithPrefix, rules_of, begins_verbatim}
 use Rattle.path_rules.proofs.lemmas.Edges.{edge_or_disk}
-use Rattle.path_rules.proofs.lemmas.OneList.{one_prefix}
+use Rattle.path_rules.proofs.lemmas.OneList.{one_prefix, one_components}
 use Rattle.path_rules.proofs.lemmas.Simple.{begun}
 use Rattle.path_building.specs.Normalized.{AreVerbatim}
 use Rattle.path_building.specs.Spelled.{AreSpelled}
-use Rattle.path_building.specs.Base.{unc, HasNoNul, IsFirstNul, HasAllParts, LacksPart, IsVerbatimAlone, own_root}
+use Rattle.path_building.specs.Base.{unc, HasNoNul, IsFirstNul, NamesNoObject, IsOpenKind, BeginsOpen, LacksPart, IsVerbatimAlone, IsFree, AreFree, HasFreeNames, IsBase, own_root}
+use Rattle.std.proofs.Math.Logic.{∥∥₁_elim}
+use Rattle.std.proofs.Props.{props}
+use Rattle.path_rules.specs.declared.head.Head.{Head}
+use Rattle.path_rules.specs.Parsed.{IsFound, FoundWith, FoundOr}
+use Rattle.path_rules.proofs.lemmas.Alike.{and_then}
+use Rattle.path_rules.proofs.lemmas.Parsings.{with_found, either_found}
 use Rattle.path_building.proofs.lemmas.AsWritten.{prefix_alone}
 use Rattle.path_building.proofs.lemmas.Forms.{empty_rest}
 use Rattle.path_building.proofs.lemmas.Moves.{Fits, prefix_moves}
@@ -92,16 +99,19 @@ begins_verbatim_kind s k rest h b =
     let v = subst (λ l. IsPrefixBy l k rest) lead h in
     verbatim_kind (verbatim_lead v.part v.after) u k rest v.is
 
--- a whole prefix stays before a root
-fits_root : (kind : Kind) → rules_of kind ≡ rules.Verbatim → HasAllParts kind → Fits kind [] (0x5C ∷ [])
-fits_root (Verbatim n) v h = record { edge = refl; none = λ z. inr h.1 }
-fits_root (VerbatimUnc n m) v h = (record { edge = refl; none = λ z. inr h.1 }, λ z. absurd (h.1 z))
+-- a complete prefix stays before a root
+no_unc : (n : List ℕ) → ¬ (NamesNoObject n) → n ≢ unc
+no_unc n h e = h (inr (inl (ap (map to_ascii_lowercase) e)))
+
+fits_root : (kind : Kind) → rules_of kind ≡ rules.Verbatim → ¬ (IsOpenKind kind) → Fits kind [] (0x5C ∷ [])
+fits_root (Verbatim n) v h = record { edge = refl; none = λ z. inr (no_unc n h) }
+fits_root (VerbatimUnc n m) v h = (record { edge = refl; none = λ z. inr (λ e. h (inr e)) }, λ z. absurd (h (inr z)))
 fits_root (VerbatimDisk l) v h = record { edge = refl; none = λ z. inr tt }
 fits_root (Device n) v h = let never : rules.Either ≡ rules.Verbatim = v in cc
 fits_root (Unc n m) v h = let never : rules.Either ≡ rules.Verbatim = v in cc
 fits_root (Disk l) v h = let never : rules.Either ≡ rules.Verbatim = v in cc
 
-pub before_root : (s : List ℕ) (kind : Kind) → IsPrefixOf s kind [] → rules_of kind ≡ rules.Verbatim → HasAllParts kind → IsPrefixOf (s ++ 0x5C ∷ []) kind (0x5C ∷ [])
+pub before_root : (s : List ℕ) (kind : Kind) → IsPrefixOf s kind [] → rules_of kind ≡ rules.Verbatim → ¬ (IsOpenKind kind) → IsPrefixOf (s ++ 0x5C ∷ []) kind (0x5C ∷ [])
 before_root s kind h v p =
     let m = prefix_moves s kind [] (0x5C ∷ []) (fits_root kind v p) h in
     let same : m.before ≡ s = sym (append-nil m.before) ∙ sym m.joined in
@@ -126,42 +136,9 @@ alone_items s a = prefixed (record {
   are = ap (λ z. Prefix s ∷ (start_items z ++ [])) (sym (no_start a.0 a.1.1));
 })
 
--- no prefix alone that lacks a part
-whole_prefix : (s : List ℕ) (kind : Kind) (rest : List ℕ) → IsPrefixOf s kind rest → ¬ (LacksPart style.Windows s) → ¬ ¬ (HasAllParts kind)
-whole_prefix s kind rest h n = λ k. n (inl (kind, (rest, (h, k))))
-
-all_or : (kind : Kind) → HasAllParts kind ⊎ ¬ (HasAllParts kind)
-all_or (Verbatim n) = by n
-  where
-    by : (s : List ℕ) → ((s ≢ []) × (s ≢ unc)) ⊎ ¬ ((s ≢ []) × (s ≢ unc))
-    by [] = inr (λ h. h.0 refl)
-    by (a ∷ []) = inl (λ e. cc, λ e. cc)
-    by (a ∷ b ∷ []) = inl (λ e. cc, λ e. cc)
-    by (a ∷ b ∷ c ∷ d ∷ s) = inl (λ e. cc, λ e. cc)
-    by (a ∷ b ∷ c ∷ []) = cases (nat_eq a 0x55) (nat_eq b 0x4E) (nat_eq c 0x43) refl refl refl
-      where
-        cases : (p q v : Bool) → nat_eq a 0x55 ≡ p → nat_eq b 0x4E ≡ q → nat_eq c 0x43 ≡ v → ((a ∷ b ∷ c ∷ [] ≢ []) × (a ∷ b ∷ c ∷ [] ≢ unc)) ⊎ ¬ ((a ∷ b ∷ c ∷ [] ≢ []) × (a ∷ b ∷ c ∷ [] ≢ unc))
-        cases true true true f g h = inr (λ k. k.1 (ap (λ z. z ∷ b ∷ c ∷ []) (eqb-true a 0x55 f) ∙ ap (λ z. 0x55 ∷ z ∷ c ∷ []) (eqb-true b 0x4E g) ∙ ap (λ z. 0x55 ∷ 0x4E ∷ z ∷ []) (eqb-true c 0x43 h)))
-        cases false q v f g h = inl (λ e. cc, λ k. let same : a ≡ 0x55 = cc in let never : false ≡ true = sym f ∙ eq-eqb a 0x55 same in cc)
-        cases true false v f g h = inl (λ e. cc, λ k. let same : b ≡ 0x4E = cc in let never : false ≡ true = sym g ∙ eq-eqb b 0x4E same in cc)
-        cases true true false f g h = inl (λ e. cc, λ k. let same : c ≡ 0x43 = cc in let never : false ≡ true = sym h ∙ eq-eqb c 0x43 same in cc)
-all_or (VerbatimUnc s n) = by s n
-  where
-    by : (x y : List ℕ) → ((x ≢ []) × (y ≢ [])) ⊎ ¬ ((x ≢ []) × (y ≢ []))
-    by [] y = inr (λ h. h.0 refl)
-    by (a ∷ x) [] = inr (λ h. h.1 refl)
-    by (a ∷ x) (b ∷ y) = inl (λ e. cc, λ e. cc)
-all_or (VerbatimDisk l) = inl tt
-all_or (Device n) = by n
-  where
-    by : (x : List ℕ) → (x ≢ []) ⊎ ¬ (x ≢ [])
-    by [] = inr (λ h. h refl)
-    by (a ∷ x) = inl (λ e. cc)
-all_or (Unc s n) = inl tt
-all_or (Disk l) = inl tt
-
-pub all_parts : (s : List ℕ) (kind : Kind) (rest : List ℕ) → IsPrefixOf s kind rest → ¬ (LacksPart style.Windows s) → HasAllParts kind
-all_parts s kind rest h n = elim (all_or kind) [ inl a ↦ a | inr k ↦ absurd (whole_prefix s kind rest h n k) ]
+-- a path that lacks no part has a complete prefix
+pub all_parts : (s : List ℕ) (kind : Kind) (rest : List ℕ) → IsPrefixOf s kind rest → ¬ (LacksPart style.Windows s) → ¬ (IsOpenKind kind)
+all_parts s kind rest h n o = n (inl (kind, (rest, (h, o))))
 
 pub root_items : (s : List ℕ) → ¬ (LacksPart style.Windows s) → IsVerbatimAlone style.Windows s → AreComponents style.Windows (s ++ 0x5C ∷ []) (Prefix s ∷ RootDir ∷ [])
 root_items s n a = prefixed (record {
@@ -233,16 +210,35 @@ own_root_or (ParentDir ∷ xs) = inl refl
 own_root_or (Normal s ∷ xs) = inl refl
 
 -- what the tests say
-pub verbatim_alone : (s : List ℕ) (kind : Kind) (rest : List ℕ) → IsPrefixOf s kind rest → rules_of kind ≡ rules.Verbatim → (rest ≡ []) ↔ IsVerbatimAlone style.Windows s
-verbatim_alone s kind rest h v = (λ e. (kind, (subst (IsPrefixOf s kind) e h, v)), λ a. (one_prefix s kind a.0 rest [] h a.1.0).1)
+pub open_found : (w : whose.Style) (path : List ℕ) (found : Option Kind) (rest : List ℕ) → ∥ IsFound w path found rest ∥₁ → FoundOr (BeginsOpen w) (λ kind more. IsOpenKind kind) found rest ↔ LacksPart w path
+open_found w path found rest m = either_found w path found rest (BeginsOpen w) (λ kind more. IsOpenKind kind) m
 
-pub none_alone : (s : List ℕ) (kind : Kind) (rest : List ℕ) → IsPrefixOf s kind rest → ¬ (rules_of kind ≡ rules.Verbatim) → ¬ (IsVerbatimAlone style.Windows s)
-none_alone s kind rest h n a = n (ap rules_of (one_prefix s kind a.0 rest [] h a.1.0).0 ∙ a.1.1)
-
-pub prefix_lacks : (s : List ℕ) (kind : Kind) (rest : List ℕ) (r : Bool) → IsPrefixOf s kind rest → (IsTrue r ↔ HasAllParts kind) → IsTrue (not r) ↔ LacksPart style.Windows s
-prefix_lacks s kind rest false h e = (λ t. inl (kind, (rest, (h, λ a. let never : false ≡ true = e.1 a in cc))), λ l. refl)
-prefix_lacks s kind rest true h e = (λ t. let never : false ≡ true = t in cc, λ l. absurd (by l))
+pub alone_found : (w : whose.Style) (path : List ℕ) (found : Option Kind) (rest : List ℕ) → ∥ IsFound w path found rest ∥₁ → FoundWith (λ kind more. (more ≡ []) × (rules_of kind ≡ rules.Verbatim)) found rest ↔ IsVerbatimAlone w path
+alone_found w path found rest m = and_then (with_found w path found rest (λ kind more. (more ≡ []) × (rules_of kind ≡ rules.Verbatim)) m) (same w)
   where
-    by : LacksPart style.Windows s → ⊥
-    by (inl k) = k.1.1.1 (subst HasAllParts (one_prefix s kind k.0 rest k.1.0 h k.1.1.0).0 (e.0 refl))
-    by (inr n) = n.0 (kind, (rest, h))
+    same : (v : whose.Style) → WithPrefix v path (λ kind more. (more ≡ []) × (rules_of kind ≡ rules.Verbatim)) ↔ IsVerbatimAlone v path
+    same style.Unix = (λ h. h, λ h. h)
+    same style.Windows = (λ h. (h.0, (subst (IsPrefixOf path h.0) h.1.1.1.0 h.1.1.0, h.1.1.1.1)), λ a. (a.0, ([], (a.1.0, (refl, a.1.1)))))
+
+-- neither a prefix nor the start is a reserved name
+free_after : (p : List ℕ) (st : Start) (xs : List Item) → AllByRecursion IsFree xs ↔ AllByRecursion IsFree (prefix_items p ++ (start_items st ++ xs))
+free_after [] Root xs = (λ h. (tt, h), λ h. h.1)
+free_after [] Dot xs = (λ h. (tt, h), λ h. h.1)
+free_after [] Nothing xs = (λ h. h, λ h. h)
+free_after (b ∷ p) Root xs = (λ h. (tt, (tt, h)), λ h. h.1.1)
+free_after (b ∷ p) Dot xs = (λ h. (tt, (tt, h)), λ h. h.1.1)
+free_after (b ∷ p) Nothing xs = (λ h. (tt, h), λ h. h.1)
+
+body_free : (w : whose.Style) (head : Head) → AreFree w (components_in head.rules head.body.now) ↔ AreFree w (items_of head)
+body_free style.Unix head = (λ h. tt, λ h. tt)
+body_free style.Windows head = free_after head.prefix.now head.start (components_in head.rules head.body.now)
+
+pub free_names : (w : whose.Style) (path : List ℕ) (head : Head) (b : Bool) → AreComponents w path (items_of head) → (IsTrue b ↔ AreFree w (components_in head.rules head.body.now)) → IsTrue b ↔ HasFreeNames w path
+free_names w path head b are h = (
+  λ t. (items_of head, (are, (body_free w head).0 (h.0 t))),
+  λ f. h.1 ((body_free w head).1 (subst (AreFree w) (one_components w path f.0 (items_of head) f.1.0 are) f.1.1)),
+)
+
+-- a base is one, whatever its proof
+pub is_base : (w : whose.Style) (path : List ℕ) → ∥ IsBase w path ∥₁ → IsBase w path
+is_base w path m = ∥∥₁_elim m (Prim.hlevel props) (λ h. h)

@@ -1,7 +1,7 @@
 -- What is known of a path below a base.
-use Rattle.std.proofs.Common.{◌≡◌, ◌≢◌, ◌↔◌, inr, ℕ, Bool, true, false, ◌&&◌, ◌||◌, IsTrue, nat_eq, if◌then◌else◌, List, [], ◌∷◌, ◌++◌, Option, Some, None, reverse, refl, sym, ap, ◌∙◌, subst, append_assoc, append-nil}
+use Rattle.std.proofs.Common.{◌≡◌, ◌≢◌, ◌↔◌, inr, ℕ, Bool, true, false, ◌&&◌, ◌||◌, IsTrue, nat_eq, if◌then◌else◌, List, [], ◌∷◌, ◌++◌, Option, Some, None, Result, Ok, Err, IfErr, reverse, refl, sym, ap, ◌∙◌, subst, append_assoc, append-nil}
 use Rattle.std.specs.List.{AllByRecursion}
-use Rattle.std.proofs.lemmas.List.{reverse-reverse}
+use Rattle.std.proofs.lemmas.List.{reverse-reverse, reverse-append}
 use Rattle.std.proofs.lemmas.List.Elements.{All-head, All-tail, All-cons, All-nil}
 use Rattle.path_rules.specs.declared.rules.Rules.{Rules}
 use Rattle.path_rules.specs.declared.rules.Rules.TheVariants as rules
@@ -14,31 +14,33 @@ use Rattle.path_rules.specs.Separators.{separates, Edge, IsPlain, IsCut, IsField
 use Rattle.path_rules.specs.StyleRules.{rules_of_style}
 use Rattle.path_rules.specs.Component.{Item, Prefix, RootDir, CurDir, ParentDir, Normal, dot, named, components_in}
 use Rattle.path_rules.specs.Components.{start_of, after_start, AreComponents}
-use Rattle.path_rules.specs.Prefix.{Kind, Verbatim, VerbatimUnc, VerbatimDisk, Device, Unc, Disk, DriveLead, NoLead, is_letter, lead_of, IsPrefixOf, rules_of, IsPrefixed}
+use Rattle.path_rules.specs.Prefix.{Kind, Verbatim, VerbatimUnc, VerbatimDisk, Device, Unc, Disk, IsPrefixOf, rules_of, IsPrefixed}
 use Rattle.path_rules.specs.Heads.{prefix_items, start_items, items_of}
 use Rattle.path_rules.specs.HeadParts.{IsHead, bare_head, prefixed_head}
 use Rattle.path_rules.specs.Root.{BeginsWithSeparator}
 use Rattle.path_building.specs.Join.{IsRelativeTo, without_dot}
-use Rattle.path_building.specs.Normal.{AreNames}
-use Rattle.path_building.specs.Normalized.{BeginsAsPrefix}
+use Rattle.path_building.specs.Normal.{AreNames, LeadsTo, nowhere, start, AreNormalOf}
 use Rattle.path_building.specs.Written.{spelling, IsPathOf}
-use Rattle.path_building.specs.Spelled.{resolve, AreSpelled, MayStart, IsNamesAfter}
-use Rattle.path_building.specs.declared.checked.JoinError.{JoinError}
-use Rattle.path_building.specs.declared.checked.JoinError.TheVariants as error
-use Rattle.path_building.specs.Base.{HasNoNul, IsBase, IsVerbatimAlone}
-use Rattle.path_building.specs.Checked.{has_colon, NamesNoStream, IsFree, NameNoStream, AreFree, LeadsInside, AreCheckedNames, IsNameFault, IsBaseFault, IsCheckedJoin, IsBelowBase, IsJoinFault, LeadsOut}
+use Rattle.path_building.specs.Spelled.{BeginsAsPrefix, resolve, AreSpelled, MayStart, IsNamesAfter}
+use Rattle.path_building.specs.Base.{HasNoNul, AreFree, IsBase, IsVerbatimAlone}
+use Rattle.path_building.specs.Walked.{LeadTo, StopsAt, IsWalkFault}
+use Rattle.path_building.specs.Faults.{IsFit, IsFirstFault, HasFault, IsNameFault}
+use Rattle.path_building.specs.declared.walk.NameError.{NameError}
+use Rattle.path_building.specs.declared.walk.NameError.TheVariants as error
+use Rattle.path_building.specs.Normalized.{BeginsWithColon}
+use Rattle.path_building.proofs.lemmas.Beginnings.{plain_start}
+use Rattle.path_building.specs.Checked.{NamesNoStream, NameNoStream, LeadsInside, AreCheckedNames, IsCheckedJoin, IsBelowBase}
 use Rattle.path_rules.proofs.lemmas.Bodies.{one_item, no_item, first_item}
 use Rattle.path_rules.proofs.lemmas.Edges.{edge_or_disk}
 use Rattle.path_rules.proofs.lemmas.AfterPrefix.{some_of}
-use Rattle.path_building.proofs.lemmas.Forms.{dots_left, empty_rest, resolved_form, leads_nowhere, names_spelled}
+use Rattle.path_building.proofs.lemmas.Forms.{dots_left, empty_rest, resolved_form, names_spelled}
 use Rattle.path_building.proofs.lemmas.Joins.{refuted}
 use Rattle.path_rules.proofs.lemmas.OneList.{one_components}
 use Rattle.path_building.proofs.lemmas.Bases.{alone_items, root_items, root_open, root_of_alone, no_own_root}
-use Rattle.path_building.proofs.lemmas.Resolving.{onto, onto_is}
-use Rattle.path_building.proofs.lemmas.Spelling.{named_spelled}
+use Rattle.path_building.proofs.lemmas.Resolving.{onto, onto_is, resolve_leads}
+use Rattle.path_building.proofs.lemmas.Spelling.{named_spelled, body_spelled}
 use Rattle.path_rules.proofs.lemmas.Starts.{with_root, is_root}
 use Rattle.path_rules.proofs.lemmas.Totals.{some_field, none_by_cut}
-use Rattle.path_building.proofs.lemmas.Written.{no_lead, second_lead}
 
 -- a path that begins with no separator starts with no root
 not_root : (r : Rules) (s : List ℕ) → ¬ (BeginsWithSeparator r s) → start_of r s ≢ Root
@@ -151,26 +153,119 @@ module _ (w : whose.Style) (path : List ℕ) (head : Head) (are : AreComponents 
   pub spelled : (names : List Item) → resolve [] (components_in head.rules head.body.now) ≡ Some (reverse names) → AreSpelled (rules_of_style w) names
   spelled names e = subst (λ r. AreSpelled r names) top.rules (names_spelled w path head are parts names e)
 
-  pub out : resolve [] (components_in head.rules head.body.now) ≡ None → LeadsOut w path
-  out e = (relative, leads_nowhere w path head are parts e)
-
-  pub streams : NameNoStream w (components_in head.rules head.body.now) ↔ NameNoStream w (items_of head)
-  streams = cases w top.prefix top.start
-    where
-      cases : (v : whose.Style) → head.prefix.now ≡ [] → head.start ≢ Root → NameNoStream v (components_in head.rules head.body.now) ↔ NameNoStream v (items_of head)
-      cases style.Unix e n = (λ h. tt, λ h. tt)
-      cases style.Windows e n = from_start NamesNoStream tt head.prefix.now head.start (components_in head.rules head.body.now) e n
-
-  pub free : AreFree w (components_in head.rules head.body.now) ↔ AreFree w (items_of head)
-  free = cases w top.prefix top.start
-    where
-      cases : (v : whose.Style) → head.prefix.now ≡ [] → head.start ≢ Root → AreFree v (components_in head.rules head.body.now) ↔ AreFree v (items_of head)
-      cases style.Unix e n = (λ h. tt, λ h. tt)
-      cases style.Windows e n = from_start IsFree tt head.prefix.now head.start (components_in head.rules head.body.now) e n
-
 pub left_streams : (w : whose.Style) (xs names : List Item) → NameNoStream w xs → resolve [] xs ≡ Some (reverse names) → NameNoStream w names
 left_streams style.Unix xs names h e = tt
 left_streams style.Windows xs names h e = names_all NamesNoStream tt xs names h e
+
+module _ {X E : Type 0} (P Q : E → Type 0) where
+  pub if_err : (r : Result X E) → ((e : E) → P e → Q e) → IfErr r P → IfErr r Q
+  if_err (Ok x) f h = tt
+  if_err (Err e) f h = f e h
+
+no_dot_first : (xs : List Item) → AreNames xs → without_dot xs ≡ xs
+no_dot_first [] n = refl
+no_dot_first (Prefix s ∷ xs) n = absurd n
+no_dot_first (RootDir ∷ xs) n = absurd n
+no_dot_first (CurDir ∷ xs) n = absurd n
+no_dot_first (ParentDir ∷ xs) n = absurd n
+no_dot_first (Normal s ∷ xs) n = refl
+
+some_same : {xs ys : List Item} → Some xs ≡ Some ys → xs ≡ ys
+some_same e = cc
+
+-- what a walk over a path's start and body tells
+start_passed : (st : Start) (xs : List Item) → resolve [] (start_items st ++ xs) ≡ resolve [] xs
+start_passed Root xs = refl
+start_passed Dot xs = refl
+start_passed Nothing xs = refl
+
+fit_streams : (w : whose.Style) (xs : List Item) → AllByRecursion (IsFit w) xs → NameNoStream w xs
+fit_streams style.Unix xs h = tt
+fit_streams style.Windows [] h = tt
+fit_streams style.Windows (x ∷ xs) h = (h.0.0, fit_streams style.Windows xs h.1)
+
+fit_free : (w : whose.Style) (xs : List Item) → AllByRecursion (IsFit w) xs → AreFree w xs
+fit_free style.Unix xs h = tt
+fit_free style.Windows [] h = tt
+fit_free style.Windows (x ∷ xs) h = (h.0.1, fit_free style.Windows xs h.1)
+
+later_fit : (w : whose.Style) (st : Start) (xs : List Item) → AllByRecursion (IsFit w) (start_items st ++ xs) → AllByRecursion (IsFit w) xs
+later_fit w Root xs h = h.1
+later_fit w Dot xs h = h.1
+later_fit w Nothing xs h = h
+
+-- where the first components of a path's start and body lead
+front_spelled : (r : Rules) (xs ys : List Item) → AreSpelled r (xs ++ ys) → AreSpelled r xs
+front_spelled r [] ys h = tt
+front_spelled r (x ∷ xs) ys h = (h.0, front_spelled r xs ys h.1)
+
+front_leads : (w : whose.Style) (r : Rules) (st : Start) (body : List ℕ) (front behind names : List Item) → st ≢ Root → dot r ≡ None → start_items st ++ components_in r body ≡ front ++ behind → LeadTo w front names
+    → (normal : List Item) × (AreNormalOf front normal × (without_dot normal ≡ names))
+front_leads w r Root body front behind names n d j t = absurd (n refl)
+front_leads w r Nothing body front behind names n d j t =
+    let sp = front_spelled r front behind (subst (AreSpelled r) j (body_spelled r body)) in
+    let q = resolve_leads r [] d [] front [] (reverse names) sp tt nowhere t.leads in
+    let form = subst (λ z. LeadsTo z (reverse names)) (onto_is front [] ∙ append-nil (reverse front)) (subst (LeadsTo (onto front [])) (append-nil (reverse names)) q) in
+    (names, (form, no_dot_first names (names_alone front names t.leads)))
+front_leads w r Dot body [] behind names n d j t =
+    let none : [] ≡ names = ap reverse (some_same t.leads) ∙ reverse-reverse names in ([], (nowhere, none))
+front_leads w r Dot body (x ∷ front) behind names n d j t =
+    let later : components_in r body ≡ front ++ behind = cc in
+    let first : CurDir ≡ x = cc in
+    let sp = front_spelled r front behind (subst (AreSpelled r) later (body_spelled r body)) in
+    let e : resolve [] (CurDir ∷ front) ≡ Some (reverse names) = subst (λ z. resolve [] (z ∷ front) ≡ Some (reverse names)) (sym first) t.leads in
+    let q = resolve_leads r (CurDir ∷ []) tt [] front (CurDir ∷ []) (reverse names) sp tt start e in
+    let form = subst (λ z. LeadsTo z (reverse (CurDir ∷ names))) (onto_is front (CurDir ∷ []) ∙ sym (reverse-append (CurDir ∷ []) front)) (subst (LeadsTo (onto front (CurDir ∷ []))) (sym (reverse-append (CurDir ∷ []) names)) q) in
+    (CurDir ∷ names, (subst (λ z. AreNormalOf (z ∷ front) (CurDir ∷ names)) first form, refl))
+
+module _ (w : whose.Style) (path : List ℕ) (head : Head) (are : AreComponents w path (items_of head)) (parts : IsHead w path head) (relative : IsRelativeTo w path) where
+  from_body : (P : List Item → Type 0) → P (start_items head.start ++ components_in head.rules head.body.now) → P (items_of head)
+  from_body P h = subst (λ z. P (prefix_items z ++ (start_items head.start ++ components_in head.rules head.body.now))) (sym (relative_head w path head parts relative).prefix) h
+
+  leads : (names : List Item) → LeadTo w (start_items head.start ++ components_in head.rules head.body.now) names → resolve [] (components_in head.rules head.body.now) ≡ Some (reverse names)
+  leads names walked = sym (start_passed head.start (components_in head.rules head.body.now)) ∙ walked.leads
+
+  pub names_checked : (names : List Item) → LeadTo w (start_items head.start ++ components_in head.rules head.body.now) names → HasNoNul path → AreCheckedNames w path names
+  names_checked names walked n =
+      let fit = from_body (AllByRecursion (IsFit w)) walked.fit in
+      record { no_nul = n; items = items_of head; inside = inside w path head are parts relative names (leads names walked); streams = fit_streams w (items_of head) fit; free = fit_free w (items_of head) fit }
+
+  pub names_spelled_so : (names : List Item) → LeadTo w (start_items head.start ++ components_in head.rules head.body.now) names → AreSpelled (rules_of_style w) names
+  names_spelled_so names walked = spelled w path head are parts relative names (leads names walked)
+
+  pub names_no_stream : (names : List Item) → LeadTo w (start_items head.start ++ components_in head.rules head.body.now) names → NameNoStream w names
+  names_no_stream names walked = left_streams w (components_in head.rules head.body.now) names (fit_streams w (components_in head.rules head.body.now) (later_fit w head.start (components_in head.rules head.body.now) walked.fit)) (leads names walked)
+
+  has_fault : {index : ℕ} {IsFault : List Item → Item → Type 0} → HasNoNul path → StopsAt w (start_items head.start ++ components_in head.rules head.body.now) index IsFault → HasFault w path index IsFault
+  has_fault {index} {IsFault} n s =
+      let top = relative_head w path head parts relative in
+      let q = front_leads w head.rules head.start head.body.now s.front (s.item ∷ s.behind) s.names top.start (dots_left w path head parts top.prefix) s.joined s.before in
+      record {
+        no_nul = n;
+        relative = relative;
+        items = items_of head;
+        are = are;
+        first = from_body (λ z. IsFirstFault w z index IsFault) (record {
+          front = s.front;
+          item = s.item;
+          behind = s.behind;
+          normal = q.0;
+          joined = s.joined;
+          at = s.at;
+          fit = s.before.fit;
+          form = q.1.0;
+          fault = subst (λ z. IsFault z s.item) (sym q.1.1) s.fault;
+        });
+      }
+
+  pub fault_found : HasNoNul path → (e : NameError) → IsWalkFault w (start_items head.start ++ components_in head.rules head.body.now) e → IsNameFault w path e
+  fault_found n (error.Nul i) h = absurd h
+  fault_found n error.Prefix h = absurd h
+  fault_found n error.Root h = absurd h
+  fault_found n (error.Leaves i) h = has_fault n h
+  fault_found n (error.Stream i) h = has_fault n h
+  fault_found n (error.Reserved i) h = has_fault n h
+  fault_found n error.Memory h = tt
 
 -- a component of a body of either separator is one of a verbatim body
 verbatim_plain : (s : List ℕ) → IsPlain rules.Either s → IsPlain rules.Verbatim s
@@ -215,40 +310,17 @@ both_spelled r [] ys h k = k
 both_spelled r (x ∷ xs) ys h k = (h.0, both_spelled r xs ys h.1 k)
 
 -- a name without a colon is read as no prefix
-no_letter : (b : ℕ) (s : List ℕ) → has_colon (b ∷ s) ≡ false → nat_eq b 0x3A ≡ false
-no_letter b s e = left (nat_eq b 0x3A) (has_colon s) e
-  where
-    left : (p q : Bool) → (p || q) ≡ false → p ≡ false
-    left true q f = f
-    left false q f = refl
-
-later_colons : (b : ℕ) (s : List ℕ) → has_colon (b ∷ s) ≡ false → has_colon s ≡ false
-later_colons b s e = right (nat_eq b 0x3A) (has_colon s) e
-  where
-    right : (p q : Bool) → (p || q) ≡ false → q ≡ false
-    right true q f = let never : true ≡ false = f in cc
-    right false q f = f
-
-name_lead : (s : List ℕ) → IsPlain rules.Either s → has_colon s ≡ false → lead_of s ≡ NoLead
-name_lead [] h e = refl
-name_lead (a ∷ []) h e = refl
-name_lead (a ∷ b ∷ s) h e =
-    let second : nat_eq b 0x3A ≡ false = no_letter b s (later_colons a (b ∷ s) e) in
-    second_lead a b s (All-head (λ c. separates rules.Either c ≡ false) a (b ∷ s) h)
-    ∙ ap (λ v. if is_letter a && v then DriveLead a s else NoLead) second ∙ ap (λ v. if v then DriveLead a s else NoLead) (no (is_letter a))
-  where
-    no : (p : Bool) → (p && false) ≡ false
-    no true = refl
-    no false = refl
+no_first_colon : (w : whose.Style) (xs : List Item) → NameNoStream w xs → ¬ (BeginsWithColon w xs)
+no_first_colon w [] n b = b
+no_first_colon w (Prefix s ∷ xs) n b = b
+no_first_colon w (RootDir ∷ xs) n b = b
+no_first_colon w (CurDir ∷ xs) n b = b
+no_first_colon w (ParentDir ∷ xs) n b = b
+no_first_colon style.Unix (Normal s ∷ xs) n b = b
+no_first_colon style.Windows (Normal s ∷ xs) n b = let never : true ≡ false = sym b ∙ n.0 in cc
 
 name_no_prefix : (w : whose.Style) (xs : List Item) → AreSpelled (rules_of_style w) xs → NameNoStream w xs → ¬ (BeginsAsPrefix w xs)
-name_no_prefix w [] h n b = b
-name_no_prefix w (Prefix s ∷ xs) h n b = b
-name_no_prefix w (RootDir ∷ xs) h n b = b
-name_no_prefix w (CurDir ∷ xs) h n b = b
-name_no_prefix w (ParentDir ∷ xs) h n b = b
-name_no_prefix style.Unix (Normal s ∷ xs) h n b = b
-name_no_prefix style.Windows (Normal s ∷ xs) h n b = no_lead s (name_lead s h.0.plain n.0) b.0 b.1.0 b.1.1
+name_no_prefix w xs h n = plain_start w xs h (no_first_colon w xs n)
 
 -- the first name of a path that begins with nothing else is followed by a separator or nothing
 record IsFirstName (r : Rules) (s t : List ℕ) : Type 0 where
@@ -366,12 +438,12 @@ joined_after w base path joined names place checked alone h = record {
 
 pub root_still_open : (w : whose.Style) (base : List ℕ) → IsBase w base → IsVerbatimAlone w base → ¬ (IsVerbatimAlone w (base ++ 0x5C ∷ []))
 root_still_open style.Unix base place a = absurd a
-root_still_open style.Windows base place a = root_open base place.1 a
+root_still_open style.Windows base place a = root_open base place.1.0 a
 
 pub joined_at_root : (w : whose.Style) (base root path joined : List ℕ) (names : List Item) → root ≡ base ++ 0x5C ∷ [] → IsBase w base → AreCheckedNames w path names → IsVerbatimAlone w base → IsNamesAfter w root names joined → IsCheckedJoin w base path joined
 joined_at_root style.Unix base root path joined names e place checked a h = absurd a
 joined_at_root style.Windows base root path joined names e place checked a h =
-    let items : h.items ≡ Prefix base ∷ RootDir ∷ [] = one_components style.Windows root h.items (Prefix base ∷ RootDir ∷ []) h.are (subst (λ z. AreComponents style.Windows z (Prefix base ∷ RootDir ∷ [])) (sym e) (root_items base place.1 a)) in
+    let items : h.items ≡ Prefix base ∷ RootDir ∷ [] = one_components style.Windows root h.items (Prefix base ∷ RootDir ∷ []) h.are (subst (λ z. AreComponents style.Windows z (Prefix base ∷ RootDir ∷ [])) (sym e) (root_items base place.1.0 a)) in
     record {
       base_items = Prefix base ∷ [];
       names = names;
@@ -383,26 +455,3 @@ joined_at_root style.Windows base root path joined names e place checked a h =
 
 pub is_below : (w : whose.Style) (base path joined : List ℕ) → IsCheckedJoin w base path joined → IsBelowBase w base joined
 is_below w base path joined h = record { base_items = h.base_items; names = h.names; base_are = h.base_are; are = h.answers.0; alone = h.checked.inside.alone }
-
--- why a path isn't joined
-pub from_base : (w : whose.Style) (base path : List ℕ) (e : JoinError) → IsBaseFault w base e → IsJoinFault w base path e
-from_base w base path (error.BaseNul i) h = h
-from_base w base path error.Base h = h
-from_base w base path (error.Nul i) h = absurd h
-from_base w base path error.Prefix h = absurd h
-from_base w base path error.Root h = absurd h
-from_base w base path error.Leaves h = absurd h
-from_base w base path error.Stream h = absurd h
-from_base w base path error.Reserved h = absurd h
-from_base w base path error.Memory h = absurd h
-
-pub from_names : (w : whose.Style) (base path : List ℕ) (e : JoinError) → IsBase w base → HasNoNul path → IsNameFault w path e → IsJoinFault w base path e
-from_names w base path (error.BaseNul i) b n h = absurd h
-from_names w base path error.Base b n h = absurd h
-from_names w base path (error.Nul i) b n h = absurd h
-from_names w base path error.Prefix b n h = (b, (n, h))
-from_names w base path error.Root b n h = (b, (n, h))
-from_names w base path error.Leaves b n h = (b, (n, h))
-from_names w base path error.Stream b n h = (b, (n, h))
-from_names w base path error.Reserved b n h = (b, (n, h))
-from_names w base path error.Memory b n h = tt

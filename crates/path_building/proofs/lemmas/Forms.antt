@@ -18,14 +18,16 @@ use Rattle.path_rules.proofs.lemmas.Edges.{edge_or_disk}
 use Rattle.path_rules.specs.Heads.{prefix_items, start_items, items_of}
 use Rattle.path_rules.specs.HeadParts.{IsHead, bare_head, prefixed_head}
 use Rattle.path_building.specs.Normal.{LeadsTo, nowhere, prefix, bare_root, root, start, AreNormalOf}
-use Rattle.path_building.specs.Normalized.{AreVerbatim, BeginsAsPrefix, IsShielded, IsNormalized, HasNoNormalForm}
+use Rattle.path_building.specs.Normalized.{AreVerbatim, BeginsWithColon, IsShielded, IsNormalWritten, HasNoForm}
 use Rattle.path_building.specs.Cleaned as clean
-use Rattle.path_building.specs.Cleaned.{CleansTo, or_dot, spelled, IsCleaned}
+use Rattle.path_building.specs.Cleaned.{CleansTo, or_dot, spelled, IsCleanWritten}
 use Rattle.path_building.specs.Written.{IsPathOf}
 use Rattle.path_building.specs.Spelled.{resolve, cleaned, cleaned_start, AreSpelled}
 use Rattle.path_rules.proofs.lemmas.AfterPrefix.{some_of}
 use Rattle.path_rules.proofs.lemmas.OneList.{one_components}
 use Rattle.path_rules.proofs.lemmas.Parents.{no_dot}
+use Rattle.path_building.specs.Beginning.{BeginsOddly}
+use Rattle.path_building.proofs.lemmas.Beginnings.{shown_plain, written_even, spelled_even}
 use Rattle.path_building.proofs.lemmas.Resolving.{onto, onto_is, from_reverse, IsTopForm, Grounded, resolve_leads, resolve_none, resolve_spelled, Stays, cleaned_cleans, cleaned_spelled}
 use Rattle.path_building.proofs.lemmas.Spelling.{body_spelled}
 use Rattle.path_building.proofs.lemmas.Spellings.{items_spelled}
@@ -83,7 +85,7 @@ verbatim_no r [] Nothing (ParentDir ∷ xs) e sp h = h
 verbatim_no r [] Nothing (Normal s ∷ xs) e sp h = h
 verbatim_no r (b ∷ p) st xs e sp h = let never : true ≡ false = sym h ∙ e in cc
 
-begins_none : (w : whose.Style) (p : List ℕ) (st : Start) (xs : List Item) → p ≢ [] → ¬ (BeginsAsPrefix w (prefix_items p ++ (start_items st ++ xs)))
+begins_none : (w : whose.Style) (p : List ℕ) (st : Start) (xs : List Item) → p ≢ [] → ¬ (BeginsWithColon w (prefix_items p ++ (start_items st ++ xs)))
 begins_none w [] st xs n h = n refl
 begins_none w (b ∷ p) st xs n h = h
 
@@ -171,8 +173,8 @@ module _ (w : whose.Style) (path : List ℕ) (head : Head) (are : AreComponents 
   pub kept_some : begins_verbatim head.prefix.now ≡ true → head.prefix.now ≢ []
   kept_some e n = let never : false ≡ true = sym (ap begins_verbatim n) ∙ e in cc
 
-  pub kept_normal : (names : List Item) (answer : List ℕ) → begins_verbatim head.prefix.now ≡ true → names ≡ components_in head.rules head.body.now → IsPathOf w (prefix_items head.prefix.now ++ (start_items head.start ++ names)) answer → IsNormalized w path answer
-  kept_normal names answer e same answers = record {
+  pub kept_normal : (names : List Item) (answer : List ℕ) → begins_verbatim head.prefix.now ≡ true → names ≡ components_in head.rules head.body.now → IsPathOf w (prefix_items head.prefix.now ++ (start_items head.start ++ names)) answer → ¬ (BeginsOddly w path) → IsNormalWritten w path answer
+  kept_normal names answer e same answers even = record {
     items = items_of head;
     normal = items_of head;
     shown = items_of head;
@@ -180,10 +182,11 @@ module _ (w : whose.Style) (path : List ℕ) (head : Head) (are : AreComponents 
     form = inl (verbatim_yes head.prefix.now (start_items head.start ++ components_in head.rules head.body.now) e, refl);
     shielded = shielded_after w head.prefix.now head.start (components_in head.rules head.body.now) (kept_some e);
     answers = subst (λ z. IsPathOf w (prefix_items head.prefix.now ++ (start_items head.start ++ z)) answer) same answers;
+    even = written_even w path head h even answer head.start names (subst (AreSpelled head.rules) (sym same) (body_spelled head.rules head.body.now)) answers (begins_none w head.prefix.now head.start names (kept_some e));
   }
 
-  pub kept_clean : (names : List Item) (answer : List ℕ) → begins_verbatim head.prefix.now ≡ true → names ≡ components_in head.rules head.body.now → IsPathOf w (prefix_items head.prefix.now ++ (start_items head.start ++ names)) answer → IsCleaned w path answer
-  kept_clean names answer e same answers = record {
+  pub kept_clean : (names : List Item) (answer : List ℕ) → begins_verbatim head.prefix.now ≡ true → names ≡ components_in head.rules head.body.now → IsPathOf w (prefix_items head.prefix.now ++ (start_items head.start ++ names)) answer → ¬ (BeginsOddly w path) → IsCleanWritten w path answer
+  kept_clean names answer e same answers even = record {
     items = items_of head;
     clean = items_of head;
     shown = items_of head;
@@ -191,6 +194,7 @@ module _ (w : whose.Style) (path : List ℕ) (head : Head) (are : AreComponents 
     form = inl (verbatim_yes head.prefix.now (start_items head.start ++ components_in head.rules head.body.now) e, refl);
     shielded = shielded_after w head.prefix.now head.start (components_in head.rules head.body.now) (kept_some e);
     answers = subst (λ z. IsPathOf w (prefix_items head.prefix.now ++ (start_items head.start ++ z)) answer) same answers;
+    even = written_even w path head h even answer head.start names (subst (AreSpelled head.rules) (sym same) (body_spelled head.rules head.body.now)) answers (begins_none w head.prefix.now head.start names (kept_some e));
   }
 
   pub other_verbatim : begins_verbatim head.prefix.now ≡ false → ¬ (AreVerbatim (items_of head))
@@ -207,15 +211,17 @@ module _ (w : whose.Style) (path : List ℕ) (head : Head) (are : AreComponents 
       let q = resolve_leads r rb (top_grounded r p st (dots_left w path head h)) [] xs rb (reverse names) (body_spelled r head.body.now) tt (top_leads p st (no_dot_after w path head h)) e in
       subst (λ z. LeadsTo z (reverse (prefix_items p ++ (start_items st ++ names)))) (onto_is xs rb ∙ sym (reverse_items p st xs)) (subst (LeadsTo (onto xs rb)) (sym (reverse_items p st names)) q)
 
-  pub resolved_normal : (names shown : List Item) (answer : List ℕ) → begins_verbatim head.prefix.now ≡ false → resolve [] (components_in head.rules head.body.now) ≡ Some (reverse names) → IsShielded w (prefix_items head.prefix.now ++ (start_items head.start ++ names)) shown → IsPathOf w shown answer → IsNormalized w path answer
-  resolved_normal names shown answer v e shield answers = record {
+  pub resolved_normal : (names : List Item) (st : Start) (answer : List ℕ) → begins_verbatim head.prefix.now ≡ false → resolve [] (components_in head.rules head.body.now) ≡ Some (reverse names) → IsShielded w (prefix_items head.prefix.now ++ (start_items head.start ++ names)) (prefix_items head.prefix.now ++ (start_items st ++ names))
+      → IsPathOf w (prefix_items head.prefix.now ++ (start_items st ++ names)) answer → AreSpelled head.rules names → ¬ (BeginsOddly w path) → IsNormalWritten w path answer
+  resolved_normal names st answer v e shield answers sp even = record {
     items = items_of head;
     normal = prefix_items head.prefix.now ++ (start_items head.start ++ names);
-    shown = shown;
+    shown = prefix_items head.prefix.now ++ (start_items st ++ names);
     are = are;
     form = inr (other_verbatim v, resolved_form names e);
     shielded = shield;
     answers = answers;
+    even = written_even w path head h even answer st names sp answers (shown_plain w _ _ shield);
   }
 
   pub leads_nowhere : resolve [] (components_in head.rules head.body.now) ≡ None → (items normal : List Item) → AreComponents w path items → ¬ (AreNormalOf items normal)
@@ -229,7 +235,7 @@ module _ (w : whose.Style) (path : List ℕ) (head : Head) (are : AreComponents 
       resolve_none r rb (top_grounded r p st (dots_left w path head h)) (top_form p st) [] xs rb (reverse normal) (body_spelled r head.body.now) tt (top_leads p st (no_dot_after w path head h)) e
       (subst (λ z. LeadsTo z (reverse normal)) (reverse_items p st xs ∙ sym (onto_is xs rb)) (subst (λ z. AreNormalOf z normal) same k))
 
-  pub resolved_none : begins_verbatim head.prefix.now ≡ false → resolve [] (components_in head.rules head.body.now) ≡ None → HasNoNormalForm w path
+  pub resolved_none : begins_verbatim head.prefix.now ≡ false → resolve [] (components_in head.rules head.body.now) ≡ None → HasNoForm w path
   resolved_none v e items normal a f =
       let same : items ≡ items_of head = one_components w path items (items_of head) a are in
       elim f [ inl k ↦ other_verbatim v (subst AreVerbatim same k.0) | inr k ↦ leads_nowhere e items normal a k.1 ]
@@ -261,15 +267,17 @@ module _ (w : whose.Style) (path : List ℕ) (head : Head) (are : AreComponents 
     pub cleaned_names_spelled : AreSpelled head.rules names
     cleaned_names_spelled = from_reverse head.rules names (subst (AreSpelled head.rules) (sym e) (cleaned_spelled head.rules [] rooted [] (components_in head.rules head.body.now) (body_spelled head.rules head.body.now) tt))
 
-    pub cleaned_clean : (shown : List Item) (answer : List ℕ) → begins_verbatim head.prefix.now ≡ false → IsShielded w (or_dot (map spelled (prefix_items head.prefix.now) ++ (cleaned_start head.start ++ names))) shown → IsPathOf w shown answer → IsCleaned w path answer
-    cleaned_clean shown answer v shield answers = record {
+    pub cleaned_clean : (st : Start) (answer : List ℕ) → begins_verbatim head.prefix.now ≡ false → IsShielded w (or_dot (map spelled (prefix_items head.prefix.now) ++ (cleaned_start head.start ++ names))) (map spelled (prefix_items head.prefix.now) ++ (start_items st ++ names))
+        → IsPathOf w (map spelled (prefix_items head.prefix.now) ++ (start_items st ++ names)) answer → ¬ (BeginsOddly w path) → IsCleanWritten w path answer
+    cleaned_clean st answer v shield answers even = record {
       items = items_of head;
       clean = or_dot (map spelled (prefix_items head.prefix.now) ++ (cleaned_start head.start ++ names));
-      shown = shown;
+      shown = map spelled (prefix_items head.prefix.now) ++ (start_items st ++ names);
       are = are;
       form = inr (other_verbatim v, (prefix_items head.prefix.now ++ (cleaned_start head.start ++ names), (cleaned_leads, ap or_dot (sym (items_spelled head.rules head.prefix.now head.start names cleaned_names_spelled)))));
       shielded = shield;
       answers = answers;
+      even = spelled_even w path head h even answer st names v cleaned_names_spelled answers (shown_plain w _ _ shield);
     }
 
     pub cleaned_none : components_in head.rules head.body.now ≡ [] → names ≡ []

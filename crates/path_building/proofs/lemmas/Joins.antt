@@ -75,7 +75,7 @@ alone_items kind base path between p e (inl (n, f)) h =
     ∙ ap (λ x. start_items (implied_root kind) ++ components_in rules.Either x) q.1
     ∙ ap (λ x. x ++ components_in rules.Either path) (sym (append-nil (start_items (implied_root kind))))
 alone_items kind base path between p e (inr (n, f)) h =
-    let root : implied_root kind ≡ Root = has_root kind e (λ l same. n (inr (inr (l, subst (λ x. IsPrefixOf base x []) same p)))) in
+    let root : implied_root kind ≡ Root = has_root kind e (λ l same. n (inr (inr (kind, ([], (p, (refl, (l, same)))))))) in
     ap (λ x. rest_items kind (x ++ path)) f
     ∙ ap (λ x. x ++ components_in rules.Either path) (ap start_items (sym root) ∙ sym (append-nil (start_items (implied_root kind))))
 
@@ -114,7 +114,8 @@ prefixed_items kind raw (d ∷ s) base path between j p e b h = longer_items kin
         none (y ∷ x) f = cc
 
     no_drive : ¬ (IsDriveAlone style.Windows base)
-    no_drive (l, q) = let never : d ∷ s ≡ [] = (one_prefix base kind (Disk l) (d ∷ s) [] p q).1 in cc
+    no_drive q =
+        let never : d ∷ s ≡ [] = (one_prefix base kind q.0 (d ∷ s) q.1.0 p q.1.1.0).1 ∙ q.1.1.1.0 in cc
 
     from : Follows rules.Either base (between ++ path) path → Follows rules.Either (d ∷ s) (between ++ path) path
     from (apart c sep k) = apart c sep k
@@ -142,7 +143,7 @@ join_items style.Unix base path joined some v h i k xs ys a b =
     ∙ sym (plain_join rules.Slash refl base path (q.between ++ path) some f h.1) ∙ ap (plain_components rules.Slash) (sym q.is)
 join_items style.Windows base path joined some v h i (inr (n, m)) xs ys a b =
     let q = follows_base style.Windows base path joined v h i in
-    let f = between_follows style.Windows base path q.between some (λ d. n (Disk d.0, ([], d.1))) q.written in
+    let f = between_follows style.Windows base path q.between some (λ d. n (d.0, (d.1.0, d.1.1.0))) q.written in
     let ones = one_components style.Windows base xs (plain_components rules.Either base) a (bare (record { none = none_of base n; are = refl })) in
     let others = one_components style.Windows path ys (plain_components rules.Either path) b (bare (record { none = none_of path h.0; are = refl })) in
     bare (record {
@@ -218,12 +219,6 @@ verbatim_begins s = (there, λ v. back v (begins_verbatim s) refl)
     back : IsVerbatimPath style.Windows s → (v : Bool) → begins_verbatim s ≡ v → IsTrue (begins_verbatim s)
     back h true e = e
     back h false e = absurd (other_rules s h.0 h.1.0 h.1.1.0 e h.1.1.1)
-
-pub drive_alone : (s : List ℕ) (kind : Kind) (rest : List ℕ) → IsPrefixOf s kind rest → (((letter : ℕ) × (kind ≡ Disk letter)) × (rest ≡ [])) ↔ IsDriveAlone style.Windows s
-drive_alone s kind rest p = (
-  λ h. (h.0.0, subst (λ x. IsPrefixOf s x []) h.0.1 (subst (IsPrefixOf s kind) h.1 p)),
-  λ d. let same = one_prefix s kind (Disk d.0) rest [] p d.1 in ((d.0, same.0), same.1),
-)
 
 -- the path after what is kept of the base
 pub join_root : (w : whose.Style) (base path kept sep : List ℕ) → sep ≡ [] → ¬ (IsPrefixed w path) → ¬ (IsVerbatimPath w base × (path ≢ [])) → BeginsWithSeparator (rules_of_style w) path → IsRawPrefix w base kept → IsJoin w base path (kept ++ (sep ++ path))

@@ -132,7 +132,7 @@ path_of w path head st doubled names before sp none may dbl h kept apart =
     (written_is path head st doubled names sp none w may dbl h) (as_written w head.rules head.prefix.now st doubled names sp (doubles_alone w path head doubled h dbl)) kept apart
 
 -- a path that begins as one of the object manager has the name `??` after its root
-sep_is : (a : ℕ) (s : List ℕ) → separates rules.Either a ≡ true → lead_of (a ∷ 0x3F ∷ s) ≡ NoLead
+pub sep_is : (a : ℕ) (s : List ℕ) → separates rules.Either a ≡ true → lead_of (a ∷ 0x3F ∷ s) ≡ NoLead
 sep_is a s e = cases (is_letter a && nat_eq 0x3F 0x3A) (and_no (is_letter a)) (separates rules.Either a) refl
   where
     and_no : (p : Bool) → (p && false) ≡ false

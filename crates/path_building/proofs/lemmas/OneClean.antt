@@ -11,11 +11,12 @@ use Rattle.path_rules.specs.Components.{AreWindowsComponents, prefixed, bare, ro
 use Rattle.path_rules.specs.Prefix.{Kind, rules_of, begins_verbatim}
 use Rattle.path_building.specs.Join.{IsVerbatimPath}
 use Rattle.path_building.specs.Normalized.{AreVerbatim, IsShielded}
-use Rattle.path_building.specs.Cleaned.{CleansTo, or_dot, spelled, IsCleanForm, IsCleaned, DifferInSeparators}
+use Rattle.path_building.specs.Cleaned.{CleansTo, or_dot, spelled, IsCleanForm, IsCleanWritten, IsCleaned, DifferInSeparators}
 use Rattle.path_building.specs.Written.{IsWrittenOut, IsWritten}
 use Rattle.path_rules.proofs.lemmas.OneList.{one_prefix}
 use Rattle.path_building.proofs.lemmas.Joins.{verbatim_begins}
 use Rattle.path_building.proofs.lemmas.Again.{one_clean}
+use Rattle.path_building.proofs.lemmas.Beginnings.{odd_same}
 use Rattle.path_building.proofs.lemmas.CleanPrefixes.{either_by}
 use Rattle.path_building.proofs.lemmas.Forms.{verbatim_no}
 use Rattle.path_building.proofs.lemmas.Spelling.{body_spelled}
@@ -82,7 +83,7 @@ form_same xs ys us vs e n m (inr h) (inl k) = absurd (m k.0)
 form_same xs ys us vs e n m (inr h) (inr k) = h.1.1.1 ∙ ap or_dot (left_same xs ys h.1.0 k.1.0 e h.1.1.0 k.1.1.0) ∙ sym k.1.1.1
 
 -- shown and written in one way
-shown_same : (w : whose.Style) (form one other : List Item) → IsShielded w form one → IsShielded w form other → one ≡ other
+pub shown_same : (w : whose.Style) (form one other : List Item) → IsShielded w form one → IsShielded w form other → one ≡ other
 shown_same w form one other (inl h) (inl k) = h.1 ∙ sym k.1
 shown_same w form one other (inl h) (inr k) = absurd (k.0 h.0)
 shown_same w form one other (inr h) (inl k) = absurd (h.0 k.0)
@@ -94,17 +95,24 @@ out_same w items one other (inl h) (inr k) = absurd (k.0 h.0)
 out_same w items one other (inr h) (inl k) = absurd (h.0 k.0)
 out_same w items one other (inr h) (inr k) = h.1 ∙ sym k.1
 
-written_same : (w : whose.Style) (items : List Item) (one other : List ℕ) → IsWritten w items one → IsWritten w items other → one ≡ other
+pub written_same : (w : whose.Style) (items : List Item) (one other : List ℕ) → IsWritten w items one → IsWritten w items other → one ≡ other
 written_same w items one other (inl h) (inl k) = h.1 ∙ sym k.1
 written_same w items one other (inl h) (inr k) = absurd (k.0 h.0)
 written_same w items one other (inr h) (inl k) = absurd (h.0 k.0)
 written_same w items one other (inr h) (inr k) = out_same w items one other h.1 k.1
 
-pub one_clean_path : (path other one two : List ℕ) → DifferInSeparators path other → ¬ (IsVerbatimPath style.Windows path) → ¬ (IsVerbatimPath style.Windows other) → IsCleaned style.Windows path one → IsCleaned style.Windows other two → one ≡ two
-one_clean_path path other one two d n m h k =
-    let v = not_begun path n in
-    let w = not_begun other m in
+one_written : (path other one two : List ℕ) → DifferInSeparators path other → begins_verbatim path ≡ false → begins_verbatim other ≡ false → IsCleanWritten style.Windows path one → IsCleanWritten style.Windows other two → one ≡ two
+one_written path other one two d v w h k =
     let items = items_same path other h.items k.items d v w h.are k.are in
     let forms = form_same h.items k.items h.clean k.clean items (other_items path h.items v h.are) (other_items other k.items w k.are) h.form k.form in
     let shown = shown_same style.Windows k.clean h.shown k.shown (subst (λ z. IsShielded style.Windows z h.shown) forms h.shielded) k.shielded in
     written_same style.Windows k.shown one two (subst (λ z. IsWritten style.Windows z one) shown h.answers.1) k.answers.1
+
+pub one_clean_path : (path other one two : List ℕ) → DifferInSeparators path other → ¬ (IsVerbatimPath style.Windows path) → ¬ (IsVerbatimPath style.Windows other) → IsCleaned style.Windows path one → IsCleaned style.Windows other two → one ≡ two
+one_clean_path path other one two d n m h k = by (not_begun path n) (not_begun other m) h k
+  where
+    by : begins_verbatim path ≡ false → begins_verbatim other ≡ false → IsCleaned style.Windows path one → IsCleaned style.Windows other two → one ≡ two
+    by v w (inl a) (inl b) = a.1 ∙ spelling_same path other d ∙ sym b.1
+    by v w (inl a) (inr b) = absurd (b.0 (odd_same path other d v w a.0))
+    by v w (inr a) (inl b) = absurd (a.0 (odd_same other path (turned path other d) w v b.0))
+    by v w (inr a) (inr b) = one_written path other one two d v w a.1 b.1

@@ -34,7 +34,7 @@ joined_at_root w base path joined raw (resolving m u some r) n v root h = absurd
 joined_at_root w base path joined raw (at_root m u j) n v root h = j.is ∙ ap (λ x. x ++ path) (raw_same w base j.raw raw j.prefix h)
 joined_at_root w base path joined raw (after m o j) n v root h = absurd (j.relative root)
 
-between_same : (w : whose.Style) (base one other : List ℕ) → IsBetween w base one → IsBetween w base other → one ≡ other
+pub between_same : (w : whose.Style) (base one other : List ℕ) → IsBetween w base one → IsBetween w base other → one ≡ other
 between_same w base one other (inl h) (inl k) = h.1 ∙ sym k.1
 between_same w base one other (inl h) (inr k) = absurd (k.0 h.0)
 between_same w base one other (inr h) (inl k) = absurd (h.0 k.0)

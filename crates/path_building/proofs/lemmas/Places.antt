@@ -15,7 +15,7 @@ use Rattle.path_rules.specs.HeadParts.{IsHead}
 use Rattle.path_rules.specs.Prefix.{begins_verbatim}
 use Rattle.path_rules.specs.Compare.{AreAlike, AreAllAlike}
 use Rattle.path_building.specs.Cleaned.{CleansTo}
-use Rattle.path_building.specs.Normalized.{BeginsAsPrefix}
+use Rattle.path_building.specs.Normalized.{BeginsWithColon}
 use Rattle.path_building.specs.Written.{joined_names, written, written_apart, NamesAShare, NamesAnObject, IsPathOf}
 use Rattle.path_building.specs.Spelled.{cleaned, cleaned_start, after_bytes}
 use Rattle.path_building.specs.Relative.{IsPlace, AreOnePlace, AreApart, up_from, BeginsAtTop, AreWritten, IsWhole}
@@ -104,10 +104,10 @@ module _ (w : whose.Style) (names : List Item) (none path : List ℕ) (c : ℕ) 
   same_bytes : (st : Start) → path ≡ none ++ after_bytes c st false names → path ≡ after_bytes (main_separator w) st false names
   same_bytes st k = k ∙ ap (λ z. z ++ after_bytes c st false names) e ∙ ap (λ z. after_bytes z st false names) f
 
-  pub names_alone : ¬ (BeginsAtTop names) → ¬ (BeginsAsPrefix w names) → path ≡ none ++ after_bytes c Nothing false names → AreWritten w names path
+  pub names_alone : ¬ (BeginsAtTop names) → ¬ (BeginsWithColon w names) → path ≡ none ++ after_bytes c Nothing false names → AreWritten w names path
   names_alone n b k = (names, (inr (b, refl), inr (object_none w names n, inr (share_none w names n, same_bytes Nothing k ∙ sym (bare_names (main_separator w) names n).0))))
 
-  pub names_dotted : BeginsAsPrefix w names → path ≡ none ++ after_bytes c Dot false names → AreWritten w names path
+  pub names_dotted : BeginsWithColon w names → path ≡ none ++ after_bytes c Dot false names → AreWritten w names path
   names_dotted b k = (CurDir ∷ names, (inl (b, refl), inr (object_none w (CurDir ∷ names) (λ h. h), inr (share_none w (CurDir ∷ names) (λ h. h), same_bytes Dot k ∙ after_dot (main_separator w) names))))
 
 -- what is left of lists whose first components aren't alike

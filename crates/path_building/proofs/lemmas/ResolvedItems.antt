@@ -11,7 +11,7 @@ use Rattle.path_rules.specs.Heads.{start_items}
 use Rattle.path_rules.specs.Components.{AreWindowsComponents, ArePrefixed, AreBare, prefixed, bare, root_of, after_root, start_of, after_start}
 use Rattle.path_building.specs.Resolved.{ResolvesTo, below_root, IsResolved, HasResolved}
 use Rattle.path_building.specs.Join.{IsVerbatimPath, IsJoin, replacing, resolving, at_root, after}
-use Rattle.path_building.specs.Base.{HasAllParts, LacksPart}
+use Rattle.path_building.specs.Base.{IsOpenKind, LacksPart}
 use Rattle.path_building.specs.Written.{LacksShare, written}
 use Rattle.path_building.specs.Spelled.{cleaned, AreSpelled, kept_names, start_below}
 use Rattle.path_rules.proofs.lemmas.Edges.{edge_or_disk}
@@ -25,9 +25,9 @@ use Rattle.path_building.proofs.lemmas.Bases.{alone_items, all_parts, before_roo
 use Rattle.path_building.proofs.lemmas.Checks.{kind_spelled}
 use Rattle.path_building.proofs.lemmas.Resolved.{one_resolved, above, resolves, below_is, left_spelled, after_some}
 
-has_share : (kind : Kind) → HasAllParts kind → ¬ (LacksShare kind)
+has_share : (kind : Kind) → ¬ (IsOpenKind kind) → ¬ (LacksShare kind)
 has_share (Verbatim n) h l = l
-has_share (VerbatimUnc s n) h l = h.1 l
+has_share (VerbatimUnc s n) h l = h (inr l)
 has_share (VerbatimDisk d) h l = l
 has_share (Device n) h l = l
 has_share (Unc s n) h l = l
@@ -48,7 +48,7 @@ start_tight Nothing st [] n e = n e
 start_tight Nothing st (x ∷ xs) n e = let never : Root ≡ Dot = e in cc
 
 -- names below a whole verbatim prefix
-module _ (p : List ℕ) (kind : Kind) (alone : IsPrefixOf p kind []) (verbatim : rules_of kind ≡ rules.Verbatim) (whole : HasAllParts kind) where
+module _ (p : List ℕ) (kind : Kind) (alone : IsPrefixOf p kind []) (verbatim : rules_of kind ≡ rules.Verbatim) (whole : ¬ (IsOpenKind kind)) where
   some_bytes : p ≢ []
   some_bytes e = subst (λ z. IsPrefixOf z kind []) e alone
 

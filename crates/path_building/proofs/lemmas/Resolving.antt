@@ -45,11 +45,11 @@ tail_form (here {y = y} {ys = ys} h) = (y ∷ ys, h)
 tail_form (name {ys = ys} h) = (ys, h)
 tail_form (up {s} {ys = ys} h) = (Normal s ∷ ys, h)
 
-some_form : (xs d zs : List Item) → LeadsTo (onto xs d) zs → (ys : List Item) × LeadsTo d ys
+pub some_form : (xs d zs : List Item) → LeadsTo (onto xs d) zs → (ys : List Item) × LeadsTo d ys
 some_form [] d zs h = (zs, h)
 some_form (x ∷ xs) d zs h = tail_form (some_form xs (x ∷ d) zs h).1
 
-taken : {d ys : List Item} → LeadsTo (ParentDir ∷ d) ys → (s : List ℕ) × LeadsTo d (Normal s ∷ ys)
+pub taken : {d ys : List Item} → LeadsTo (ParentDir ∷ d) ys → (s : List ℕ) × LeadsTo d (Normal s ∷ ys)
 taken (up {s} h) = (s, h)
 
 not_top : (s : List ℕ) (rb ys : List Item) → IsTopForm rb → rb ≡ Normal s ∷ ys → ⊥

@@ -15,7 +15,9 @@ use Rattle.path_rules.specs.Component.{Item, Prefix, RootDir, CurDir, ParentDir,
 use Rattle.path_rules.specs.Components.{AreComponents}
 use Rattle.path_rules.specs.Heads.{prefix_items, start_items, items_of}
 use Rattle.path_rules.specs.HeadParts.{IsHead, bare_head, prefixed_head}
-use Rattle.path_building.specs.Normalized.{BeginsAsPrefix}
+use Rattle.path_building.specs.Beginning.{BeginsAsShare}
+use Rattle.path_building.specs.Normalized.{BeginsWithColon}
+use Rattle.path_building.proofs.lemmas.Beginnings.{plain_start}
 use Rattle.path_building.specs.Written.{IsPathOf}
 use Rattle.path_building.specs.Spelled.{after_bytes, AreSpelled, DoublesRoot, ObjectNext}
 use Rattle.path_building.specs.Restyled.{IsHad, AreHad, IsFirstUnlike, IsRestyled}
@@ -77,7 +79,7 @@ had_spelled from to first (ParentDir ∷ xs) sp h = (record { plain = two_dots t
 had_spelled from to first (Normal s ∷ xs) sp h =
     (record { plain = plain_had to first s h.0; names = same_name (rules_of_style to) (rules_of_style from) s (no_dots to ∙ sym (no_dots from)) ∙ sp.0.names }, had_spelled from to false xs sp.1 h.1)
 
-not_begun : (xs : List Item) → AreHad style.Windows true xs → ¬ (BeginsAsPrefix style.Windows xs)
+not_begun : (xs : List Item) → AreHad style.Windows true xs → ¬ (BeginsWithColon style.Windows xs)
 not_begun [] h b = b
 not_begun (Prefix s ∷ xs) h b = b
 not_begun (RootDir ∷ xs) h b = b
@@ -102,7 +104,7 @@ unfolding is_first
 written_had style.Unix st xs sp h = slash_written st xs sp
 written_had style.Windows Root xs sp h = bare_written Root xs sp (λ e. let never : Root ≡ Nothing = e in cc)
 written_had style.Windows Dot xs sp h = bare_written Dot xs sp (λ e. let never : Dot ≡ Nothing = e in cc)
-written_had style.Windows Nothing xs sp h = bare_written Nothing xs sp (λ e. not_begun xs h)
+written_had style.Windows Nothing xs sp h = bare_written Nothing xs sp (λ e. plain_start style.Windows xs sp (not_begun xs h))
 
 module _ (from to : whose.Style) (path : List ℕ) (head : Head) (are : AreComponents from path (items_of head)) (parts : IsHead from path head) (had : AreHad to true (items_of head)) where
   no_top : (p : List ℕ) (xs : List Item) → AreHad to true (prefix_items p ++ xs) → p ≡ []
@@ -115,8 +117,8 @@ module _ (from to : whose.Style) (path : List ℕ) (head : Head) (are : AreCompo
   style_rules style.Windows (prefixed_head h) e = absurd (some_of path head h e)
 
   pub restyled : from ≢ to → (names : List Item) (none before made : List ℕ) (c : ℕ) → names ≡ components_in head.rules head.body.now → none ≡ [] → c ≡ main_separator to
-      → (¬ (ObjectNext to none head.start names) → before ≡ none) → (ObjectNext to none head.start names → before ≡ main_separator to ∷ 0x2E ∷ []) → made ≡ before ++ after_bytes c head.start false names → IsRestyled from to path made
-  restyled other names none before made c e n s kept apart m =
+      → (¬ (ObjectNext to none head.start names) → before ≡ none) → (ObjectNext to none head.start names → before ≡ main_separator to ∷ 0x2E ∷ []) → made ≡ before ++ after_bytes c head.start false names → ¬ (BeginsAsShare from path) → IsRestyled from to path made
+  restyled other names none before made c e n s kept apart m single =
       let st = head.start in
       let p = no_top head.prefix.now (start_items st ++ components_in head.rules head.body.now) had in
       let items : items_of head ≡ start_items st ++ names = ap (λ z. prefix_items z ++ (start_items st ++ components_in head.rules head.body.now)) p ∙ ap (λ z. start_items st ++ z) (sym e) in
@@ -126,7 +128,7 @@ module _ (from to : whose.Style) (path : List ℕ) (head : Head) (are : AreCompo
       let spelled = had_spelled from to (is_first st) names sp h in
       let is = path_by to (rules_of_style to) [] st false names spelled before (λ o. (windows to (no_prefix_before to [] st names o).0, refl)) (written_had to st names spelled h)
       (as_written to (rules_of_style to) [] st false names spelled (once to)) (λ o. kept (λ k. o (subst (λ z. ObjectNext to z st names) n k)) ∙ n) (λ o. apart (subst (λ z. ObjectNext to z st names) (sym n) o)) in
-      inr (other, (start_items st ++ names, (subst (AreComponents from path) items are, subst (IsPathOf to (start_items st ++ names)) same is)))
+      inr (other, (single, (start_items st ++ names, (subst (AreComponents from path) items are, subst (IsPathOf to (start_items st ++ names)) same is))))
     where
       once : (w : whose.Style) → DoublesRoot w [] false
       once style.Unix = refl

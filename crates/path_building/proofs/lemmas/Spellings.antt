@@ -22,7 +22,7 @@ use Rattle.path_building.proofs.lemmas.Resolving.{no_prefix}
 abbrev Same : ℕ → ℕ → Type 0
 Same a b = (a ≡ b) ⊎ ((separates rules.Either a ≡ true) × (separates rules.Either b ≡ true))
 
-sep_same : (a b : ℕ) → Same a b → separates rules.Either a ≡ separates rules.Either b
+pub sep_same : (a b : ℕ) → Same a b → separates rules.Either a ≡ separates rules.Either b
 sep_same a b (inl e) = ap (separates rules.Either) e
 sep_same a b (inr h) = h.0 ∙ sym h.1
 
@@ -127,7 +127,7 @@ after_field (b ∷ f) t (c ∷ u) p h =
     let same : b ≡ c = plain_byte b c h.0 (All-head (λ z. separates rules.Either z ≡ false) b f p) in
     (q.0, (ap (λ z. c ∷ z) q.1.0 ∙ ap (λ z. z ∷ (f ++ q.0)) (sym same), q.1.1))
 
-field_same : (s u f t : List ℕ) → DifferInSeparators s u → IsField rules.Either s f t → (r : List ℕ) × (IsField rules.Either u f r × DifferInSeparators t r)
+pub field_same : (s u f t : List ℕ) → DifferInSeparators s u → IsField rules.Either s f t → (r : List ℕ) × (IsField rules.Either u f r × DifferInSeparators t r)
 field_same s u f t h k =
     let q = after_field f t u k.plain (subst (λ z. DifferInSeparators z u) k.joined h) in
     (q.0, (record { joined = q.1.0; plain = k.plain; edge = edge_same t q.0 q.1.1 k.edge }, q.1.1))

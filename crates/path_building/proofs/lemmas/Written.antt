@@ -15,9 +15,8 @@ use Rattle.path_rules.specs.Prefix.{Kind, Verbatim, VerbatimUnc, VerbatimDisk, D
 use Rattle.path_rules.specs.Heads.{prefix_items, start_items}
 use Rattle.path_rules.specs.HeadParts.{IsHead, IsBareHead, IsPrefixedHead, bare_head, prefixed_head}
 use Rattle.path_rules.specs.Components.{start_of, plain_components, implied_root, root_of, after_root, ArePrefixed, AreComponents, AreWindowsComponents, prefixed, bare}
-use Rattle.path_building.specs.Normalized.{BeginsAsPrefix}
 use Rattle.path_building.specs.Written.{spelling, more_names, joined_names, LacksShare}
-use Rattle.path_building.specs.Spelled.{after_bytes, MayStart, DoublesRoot, AreSpelled}
+use Rattle.path_building.specs.Spelled.{BeginsAsPrefix, after_bytes, MayStart, DoublesRoot, AreSpelled}
 use Rattle.path_rules.proofs.lemmas.AfterPrefix.{after_prefix, some_prefix}
 use Rattle.path_rules.proofs.lemmas.Edges.{edge_or_disk}
 use Rattle.path_building.proofs.lemmas.Moves.{Fits, prefix_moves}

@@ -1,18 +1,11 @@
 -- What follows a prefix is the end of the path.
 use Rattle.std.proofs.Common.{◌≡◌, ◌-◌, ◌<◌, ◌≤◌, ℕ, Bool, true, false, if◌then◌else◌, ◌&&◌, nat_eq, List, [], ◌∷◌, ◌++◌, length, take, refl, sym, ap, ◌∙◌, arith, append_assoc, length-append, ◌≢◌}
 use Rattle.std.proofs.lemmas.List.{take_at, append_cancel_right}
-use denote.Ref.{Bor}
-use Rattle.path_rules.specs.declared.rules.Rules.{Rules}
 use Rattle.path_rules.specs.declared.rules.Rules.TheVariants as rules
-use Rattle.path_rules.specs.declared.head.Start.{Start}
-use Rattle.path_rules.specs.declared.prefix.Prefix as held
-use Rattle.path_rules.specs.declared.prefix.Prefix.TheVariants as prefix
 use Rattle.path_rules.specs.Separators.{separates, IsField, IsFieldBy}
-use Rattle.path_rules.specs.Component.{Prefix, components_in}
-use Rattle.path_rules.specs.Prefix.{Kind, Lead, VerbatimLead, DeviceLead, DoubleLead, DriveLead, NoLead, VerbatimLeads, UncLead, DiskLead, NameLead, is_letter, double_lead, lead_of, verbatim_lead, IsUnc, IsShare, IsVerbatimBy, IsPrefixBy, IsPrefixOf, rules_of}
-use Rattle.path_rules.specs.PrefixViews.{kind_of, rules_after}
-use Rattle.path_rules.specs.Heads.{prefix_items, start_items}
-use Rattle.path_rules.specs.Components.{root_of, after_root, AreWindowsComponents, prefixed}
+use Rattle.path_rules.specs.Component.{Prefix}
+use Rattle.path_rules.specs.Prefix.{Kind, Lead, VerbatimLead, DeviceLead, DoubleLead, DriveLead, NoLead, VerbatimLeads, UncLead, DiskLead, NameLead, is_letter, double_lead, lead_of, verbatim_lead, IsUnc, IsShare, IsVerbatimBy, IsPrefixBy, IsPrefixOf}
+use Rattle.path_rules.specs.Heads.{prefix_items}
 use Rattle.path_rules.specs.declared.head.Head.{Head}
 use Rattle.path_rules.specs.HeadParts.{IsPrefixedHead}
 
@@ -138,38 +131,13 @@ pub some_prefix : (raw : List ℕ) → 0 < length raw → prefix_items raw ≡ P
 some_prefix [] h = absurd (omega arith)
 some_prefix (b ∷ s) h = refl
 
-pub same_rules : (p : held.Prefix (Bor (List ℕ))) → rules_after p ≡ rules_of (kind_of p)
-same_rules (prefix.Verbatim name) = refl
-same_rules (prefix.VerbatimUnc server share) = refl
-same_rules (prefix.VerbatimDisk letter) = refl
-same_rules (prefix.Device name) = refl
-same_rules (prefix.Unc server share) = refl
-same_rules (prefix.Disk letter) = refl
-
--- a path with a prefix has these components
-pub prefixed_items : (s : List ℕ) (p : held.Prefix (Bor (List ℕ))) (rest : List ℕ) (start : Start) (body : List ℕ) (r : Rules)
-    → IsPrefixOf s (kind_of p) rest → start ≡ root_of (kind_of p) rest → body ≡ after_root rest → r ≡ rules_after p
-    → AreWindowsComponents s (prefix_items (take (length s - length rest) s) ++ (start_items start ++ components_in r body))
-prefixed_items s p rest start body r h e f g =
-    let b = after_prefix s (kind_of p) rest h in
-    prefixed (record {
-      kind = kind_of p;
-      raw = b.before;
-      rest = rest;
-      joined = b.joined;
-      prefix = h;
-      are =
-          ap (λ x. prefix_items x ++ (start_items start ++ components_in r body)) (before_is s rest b)
-          ∙ ap (λ x. x ++ (start_items start ++ components_in r body)) (some_prefix b.before b.some)
-          ∙ ap (λ x. Prefix b.before ∷ (start_items x ++ components_in r body)) e
-          ∙ ap (λ x. Prefix b.before ∷ (start_items (root_of (kind_of p) rest) ++ components_in r x)) f
-          ∙ ap (λ x. Prefix b.before ∷ (start_items (root_of (kind_of p) rest) ++ components_in x (after_root rest))) (g ∙ same_rules p);
-    })
-
 -- a prefix isn't empty
-pub some_of : (path : List ℕ) (head : Head) → IsPrefixedHead path head → head.prefix.now ≢ []
-some_of path head h e =
-    let b = after_prefix path h.kind h.rest h.is in
-    let same : b.before ≡ head.prefix.now = append_cancel_right b.before head.prefix.now h.rest (sym b.joined ∙ h.joined) in
+pub some_before : (path raw : List ℕ) (kind : Kind) (rest : List ℕ) → IsPrefixOf path kind rest → path ≡ raw ++ rest → raw ≢ []
+some_before path raw kind rest h j e =
+    let b = after_prefix path kind rest h in
+    let same : b.before ≡ raw = append_cancel_right b.before raw rest (sym b.joined ∙ j) in
     let n : length b.before ≡ 0 = ap length (same ∙ e) in
     let some : 0 < length b.before = b.some in omega arith
+
+pub some_of : (path : List ℕ) (head : Head) → IsPrefixedHead path head → head.prefix.now ≢ []
+some_of path head h = some_before path head.prefix.now h.kind h.rest h.is h.joined

@@ -19,9 +19,11 @@ use Rattle.path_rules.specs.HeadParts.{IsHead, IsPrefixedHead, bare_head, prefix
 use Rattle.path_rules.specs.Prefix.{Kind, IsPrefixOf}
 use Rattle.path_rules.specs.PrefixViews.{kind_of}
 use Rattle.path_rules.specs.Compare.{IsNoPrefix}
-use Rattle.path_rules.specs.Keys.{HasKeys, AreKeys, IsPrefixOption, prefix_keys, kind_keys, item_keys}
+use Rattle.path_rules.specs.Keys.{HasKeys, AreKeys, prefix_keys, kind_keys, item_keys}
 use Rattle.path_rules.proofs.lemmas.Begins.{no_prefix_parts}
 use Rattle.path_rules.proofs.lemmas.AfterPrefix.{some_of}
+use Rattle.path_rules.specs.Parsed.{IsFound, kind_found}
+use Rattle.path_rules.proofs.lemmas.Parsings.{is_found}
 use Rattle.path_rules.proofs.lemmas.Keeps.{prefix_stays}
 use Rattle.path_rules.proofs.lemmas.OneList.{one_prefix}
 
@@ -58,17 +60,17 @@ prefix_alone path head h kind rest is =
     let same : kept.before ++ [] ≡ head.prefix.now = append-nil kept.before ∙ append_cancel_right kept.before head.prefix.now h.rest (sym kept.joined ∙ h.joined) in
     subst (λ x. IsPrefixOf head.prefix.now x []) ((one_prefix path h.kind kind h.rest rest h.is is).0) (subst (λ x. IsPrefixOf x h.kind []) same kept.kept)
 
-found_keys : (w : whose.Style) (path : List ℕ) (head : Head) (found : Option (held.Prefix (Bor (List ℕ)))) → IsHead w path head → AreComponents w path (items_of head) → IsPrefixOption w path found
+found_keys : (w : whose.Style) (path : List ℕ) (head : Head) (found : Option (held.Prefix (Bor (List ℕ)))) (rest : List ℕ) → IsHead w path head → AreComponents w path (items_of head) → IsFound w path (kind_found found) rest
     → HasKeys w path (prefix_keys (option_map kind_of found) ++ item_keys (start_items head.start ++ components_in head.rules head.body.now))
-found_keys style.Unix path head None h a f = bare_keys style.Unix path head.rules head.start head.body.now head.prefix.now h.prefix a
-found_keys style.Unix path head (Some p) h a f = cc
-found_keys style.Windows path head None (bare_head h) a f = bare_keys style.Windows path head.rules head.start head.body.now head.prefix.now h.prefix a
-found_keys style.Windows path head (Some p) (bare_head h) a f = absurd (h.none (kind_of p) (f.0) (f.1))
-found_keys style.Windows path head None (prefixed_head h) a f = absurd (f h.kind h.rest h.is)
-found_keys style.Windows path head (Some p) (prefixed_head h) a f =
-    prefixed_keys style.Windows path head.rules head.start head.body.now head.prefix.now (kind_of p) (some_of path head h) (prefix_alone path head h (kind_of p) (f.0) (f.1)) a
+found_keys style.Unix path head None rest h a f = bare_keys style.Unix path head.rules head.start head.body.now head.prefix.now h.prefix a
+found_keys style.Unix path head (Some p) rest h a f = absurd f
+found_keys style.Windows path head None rest (bare_head h) a f = bare_keys style.Windows path head.rules head.start head.body.now head.prefix.now h.prefix a
+found_keys style.Windows path head (Some p) rest (bare_head h) a f = absurd (h.none (kind_of p) rest f)
+found_keys style.Windows path head None rest (prefixed_head h) a f = absurd (f.0 h.kind h.rest h.is)
+found_keys style.Windows path head (Some p) rest (prefixed_head h) a f =
+    prefixed_keys style.Windows path head.rules head.start head.body.now head.prefix.now (kind_of p) (some_of path head h) (prefix_alone path head h (kind_of p) rest f) a
 
-pub keys_found : (w : whose.Style) (path : List ℕ) (head : Head) (found : Option (held.Prefix (Bor (List ℕ)))) (none : List ℕ) → none ≡ [] → IsHead w path head → AreComponents w path (items_of head) → IsPrefixOption w path found
+pub keys_found : (w : whose.Style) (path : List ℕ) (head : Head) (found : Option (held.Prefix (Bor (List ℕ)))) (rest none : List ℕ) → none ≡ [] → IsHead w path head → AreComponents w path (items_of head) → ∥ IsFound w path (kind_found found) rest ∥₁
     → HasKeys w path (prefix_keys (option_map kind_of found) ++ item_keys (prefix_items none ++ (start_items head.start ++ components_in head.rules head.body.now)))
-keys_found w path head found none e h a f =
-    subst (λ x. HasKeys w path (prefix_keys (option_map kind_of found) ++ item_keys (prefix_items x ++ (start_items head.start ++ components_in head.rules head.body.now)))) (sym e) (found_keys w path head found h a f)
+keys_found w path head found rest none e h a f =
+    subst (λ x. HasKeys w path (prefix_keys (option_map kind_of found) ++ item_keys (prefix_items x ++ (start_items head.start ++ components_in head.rules head.body.now)))) (sym e) (found_keys w path head found rest h a (is_found w path (kind_found found) rest f))

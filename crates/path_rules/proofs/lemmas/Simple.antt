@@ -18,7 +18,7 @@ use Rattle.path_rules.specs.Components.{AreComponents, AreWindowsComponents, pre
 use Rattle.path_rules.specs.Prefix.{Kind, Verbatim, VerbatimUnc, VerbatimDisk, Disk, UncLead, DiskLead, NameLead, DriveLead, NoLead, IsVerbatimBy, IsPrefixBy, IsPrefixOf, rules_of, begins_verbatim, is_letter, upper, double_lead, verbatim_lead}
 use Rattle.path_rules.specs.Reserved.{is_reserved_byte}
 use Rattle.path_rules.specs.Root.{IsAbsolute}
-use Rattle.path_rules.specs.Simplified.{IsWindowsSimplified, IsSimplified, IsSimplifiable, KeepsPlace, IsPlainItem, wide_len, below_prefix}
+use Rattle.path_rules.specs.Simplified.{IsWindowsSimplified, IsSimplified, IsSimplifiable, HasSingleSeparators, KeepsPlace, IsPlainItem, wide_len, below_prefix}
 use Rattle.path_rules.proofs.lemmas.Bodies.{one_item, no_item, first_item, no_first_item}
 use Rattle.path_rules.proofs.lemmas.Edges.{and_true}
 use Rattle.path_rules.proofs.lemmas.Keeps.{prefix_stays}
@@ -222,13 +222,14 @@ module _ (path t rest : List ℕ) (letter : ℕ) (p : IsPrefixOf path (VerbatimD
         below = below_drive items a h;
       }
 
-pub shortened : (path t : List ℕ) (items : List Item) → t ≡ drop 4 path → begins_verbatim path ≡ true → (letter : ℕ) × ((rest : List ℕ) × IsPrefixOf path (VerbatimDisk letter) rest) → AreWindowsComponents path items → AllByRecursion IsPlainItem items → wide_len path ≤ 260 → IsAbsolute style.Windows t
+pub shortened : (path t : List ℕ) (items : List Item) → t ≡ drop 4 path → begins_verbatim path ≡ true → (letter : ℕ) × ((rest : List ℕ) × IsPrefixOf path (VerbatimDisk letter) rest) → AreWindowsComponents path items → AllByRecursion IsPlainItem items → wide_len path ≤ 260 → IsAbsolute style.Windows t → HasSingleSeparators t
     → IsWindowsSimplified path t
-shortened path t items d e p a h l absolute =
+shortened path t items d e p a h l absolute single =
     let joined : path ≡ 0x5C ∷ 0x5C ∷ 0x3F ∷ 0x5C ∷ t = begun path e ∙ ap (λ x. 0x5C ∷ 0x5C ∷ 0x3F ∷ 0x5C ∷ x) (sym d) in
     let drive = drive_of t (p.1.0) (p.0) (subst (λ x. IsPrefixOf x (VerbatimDisk (p.0)) (p.1.0)) joined (p.1.1)) in
     inl (record {
       joined = joined;
+      single = single;
       letter = p.0;
       rest = p.1.0;
       prefix = p.1.1;
@@ -248,6 +249,10 @@ not_absolute path t d n = inr (kept, refl)
     kept u s =
         let same : t ≡ u = d ∙ ap (drop 4) s.joined in
         n (subst (IsAbsolute style.Windows) (sym same) (s.place.absolute.0 (VerbatimDisk s.letter, (s.rest, (s.prefix, tt)))))
+
+-- a separator isn't single
+pub not_single : (path t : List ℕ) → t ≡ drop 4 path → ¬ (HasSingleSeparators t) → IsWindowsSimplified path path
+not_single path t d n = inr ((λ u s. n (subst HasSingleSeparators (sym (d ∙ ap (drop 4) s.joined)) s.single)), refl)
 
 -- a path keeps its place
 keeps_itself : (w : whose.Style) (path : List ℕ) (items : List Item) → AreComponents w path items → KeepsPlace w path path

@@ -1,6 +1,6 @@
 use Rattle.std.proofs.Common.{subst}
 use Rattle.platform_str.specs.Strings.{bytes}
-use Rattle.path_building.specs.Checked.{IsJoinFault}
+use Rattle.path_building.specs.Faults.{IsJoinFault}
 use Rattle.os_path.proofs.lemmas.CheckedParts.{checked_formed}
 use Rattle.os_path.proofs.checked.join_checked.Goals as goal
 

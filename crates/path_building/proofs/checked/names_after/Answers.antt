@@ -1,37 +1,18 @@
-use Rattle.std.proofs.Common.{◌≡◌, ◌++◌, map, sym, ap, ◌∙◌, subst}
-use Rattle.path_rules.specs.Component.{components_in}
+use Rattle.std.proofs.Common.{map, sym, subst}
+use Rattle.path_rules.specs.StyleRules.{rules_of_style}
 use Rattle.path_rules.specs.Views.{item_of}
-use Rattle.path_rules.specs.Heads.{prefix_items, start_items}
-use Rattle.path_building.specs.Written.{IsPathOf}
-use Rattle.path_building.specs.Spelled.{AreSpelled, MayStart, IsNamesAfter}
-use Rattle.path_building.proofs.lemmas.Forms.{if_ok}
-use Rattle.path_building.proofs.lemmas.Spelling.{body_spelled}
-use Rattle.path_building.proofs.lemmas.Checks.{alone_from, both_spelled, spelled_after, may_start, names_joined}
+use Rattle.path_building.specs.Spelled.{AreSpelled}
+use Rattle.path_building.specs.Checked.{NameNoStream}
 use Rattle.path_building.proofs.checked.names_after.Goals as goal
 
-pub written_as-requires-clause-spelled : goal.written_as-requires-clause-spelled
-written_as-requires-clause-spelled g c =
-    let head = c.head_of-head.result in
-    let names = map item_of c.args.names.now in
-    let items = components_in head.rules head.body.now in
-    let all : map item_of c.deref.result.now ≡ items ++ names = ap (map item_of) c.deref.ensures.value ∙ c.in_ok-add_names.ensures ∙ ap (λ z. z ++ names) c.in_ok-all.ensures in
-    subst (AreSpelled head.rules) (sym all) (both_spelled head.rules items names (body_spelled head.rules head.body.now) (spelled_after c.args.style c.args.path.now head c.head_of-head.ensures.parts names c.requires.spelled))
+pub names_below-requires-clause-spelled : goal.names_below-requires-clause-spelled
+names_below-requires-clause-spelled g c = subst (λ w. AreSpelled (rules_of_style w) (map item_of c.args.names.now)) (sym c.new.ensures.style) c.requires.spelled
 
-pub written_as-requires-clause-none : goal.written_as-requires-clause-none
-written_as-requires-clause-none g c = λ v n. absurd (c.requires.no_alone (alone_from c.args.style c.args.path.now c.head_of-head.result c.head_of-head.ensures.parts v n))
+pub names_below-requires-clause-streams : goal.names_below-requires-clause-streams
+names_below-requires-clause-streams g c = subst (λ w. NameNoStream w (map item_of c.args.names.now)) (sym c.new.ensures.style) c.requires.streams
 
-pub written_as-requires-clause-may_start : goal.written_as-requires-clause-may_start
-written_as-requires-clause-may_start g c =
-    let head = c.head_of-head.result in
-    let names = map item_of c.args.names.now in
-    let all : map item_of c.deref.result.now ≡ map item_of c.in_ok-all.all.items ++ names = ap (map item_of) c.deref.ensures.value ∙ c.in_ok-add_names.ensures in
-    subst (MayStart c.args.style head head.start) (sym all) (may_start c.args.style c.args.path.now head c.head_of-head.ensures.parts (map item_of c.in_ok-all.all.items) names c.in_ok-all.ensures c.requires.spelled c.requires.streams)
+pub names_below-requires-clause-no_alone : goal.names_below-requires-clause-no_alone
+names_below-requires-clause-no_alone g c = rw (c.new.ensures.style, c.new.ensures.whole) c.requires.no_alone
 
 pub returns : goal.returns
-returns g c =
-    let w = c.args.style in
-    let head = c.head_of-head.result in
-    let names = map item_of c.args.names.now in
-    let items = components_in head.rules head.body.now in
-    let all : map item_of c.deref.result.now ≡ items ++ names = ap (map item_of) c.deref.ensures.value ∙ c.in_ok-add_names.ensures ∙ ap (λ z. z ++ names) c.in_ok-all.ensures in
-    if_ok (λ z. IsPathOf w (prefix_items head.prefix.now ++ (start_items head.start ++ map item_of c.deref.result.now)) z.items) (λ z. IsNamesAfter w c.args.path.now names z.items) c.written_as.result (λ z h. names_joined w c.args.path.now z.items head c.head_of-head.ensures.items names (map item_of c.deref.result.now) all h) c.written_as.ensures
+returns g c = rw (← c.new.ensures.style, ← c.new.ensures.whole) c.names_below.ensures

@@ -1,38 +1,23 @@
-use Rattle.std.proofs.Common.{refl, ◌≡◌, ◌++◌, map, reverse, sym, ap, ◌∙◌, subst}
-use Rattle.path_rules.specs.Views.{item_of}
-use Rattle.path_rules.specs.Component.{components_in}
-use Rattle.path_rules.specs.Heads.{prefix_items, start_items, items_of}
-use Rattle.path_building.specs.Written.{IsPathOf}
-use Rattle.path_building.specs.Spelled.{AreSpelled}
-use Rattle.path_building.specs.Cleaned.{spelled, IsCleaned}
-use Rattle.path_building.proofs.lemmas.Forms.{if_ok, nothing_after, kept_clean, no_dot_after, cleaned_clean, cleaned_names_spelled, cleaned_none}
+use Rattle.std.proofs.Common.{◌≡◌, inl, inr, subst}
+use Rattle.path_building.specs.Beginning.{BeginsOddly}
+use Rattle.path_building.specs.Cleaned.{one_spelling, IsCleanWritten, IsCleaned}
+use Rattle.path_building.proofs.lemmas.Joins.{refuted}
+use Rattle.path_building.proofs.lemmas.Forms.{if_ok}
 use Rattle.path_building.proofs.cleaning.clean.Goals as goal
 
-pub returns-then-is_verbatim : goal.returns-then-is_verbatim
-returns-then-is_verbatim g c =
-    let head = c.head_of-head.result in
-    if_ok (λ z. IsPathOf c.args.style (items_of head) z.items) (λ z. IsCleaned c.args.style c.args.path.now z.items) c.rewritten.result
-    (λ z a. kept_clean c.args.style c.args.path.now head c.head_of-head.ensures.items c.head_of-head.ensures.parts (components_in head.rules head.body.now) z.items (sym c.is_verbatim.ensures ∙ c.if-is_verbatim.true) refl a) c.rewritten.ensures
+pub returns-then-begins_oddly : goal.returns-then-begins_oddly
+returns-then-begins_oddly g c =
+    let odd = c.begins_oddly.ensures.0 c.if-begins_oddly.true in
+    let path = c.args.path.now in
+    let begins = subst (BeginsOddly c.args.style) c.new-parsed.ensures.whole (subst (λ w. BeginsOddly w c.new-parsed.result.whole.now) c.new-parsed.ensures.style odd) in
+    if_ok (λ z. z.items ≡ one_spelling path) (λ z. IsCleaned c.args.style path z.items) c.in_one_spelling.result (λ z e. inl (begins, e)) c.in_one_spelling.ensures
 
-pub clean_start-start-requires : goal.clean_start-start-requires
-clean_start-start-requires g c = no_dot_after c.args.style c.args.path.now c.head_of-head.result c.head_of-head.ensures.parts
-
-pub spelled_as-requires-clause-spelled : goal.spelled_as-requires-clause-spelled
-spelled_as-requires-clause-spelled g c =
-    let head = c.head_of-head.result in
-    subst (AreSpelled head.rules) (sym (ap (map item_of) c.as_slice-kept.ensures.value)) (cleaned_names_spelled c.args.style c.args.path.now head c.head_of-head.ensures.items c.head_of-head.ensures.parts c.is_root.result c.is_root.ensures.0 c.is_root.ensures.1 (map item_of c.in_ok-names.names.items) c.in_ok-names.ensures)
-
-pub spelled_as-requires-clause-none : goal.spelled_as-requires-clause-none
-spelled_as-requires-clause-none g c = λ v n.
-    let head = c.head_of-head.result in
-    let none = nothing_after c.args.style c.args.path.now head c.head_of-head.ensures.parts v n in
-    ap (map item_of) c.as_slice-kept.ensures.value ∙ cleaned_none c.args.style c.args.path.now head c.head_of-head.ensures.items c.head_of-head.ensures.parts c.is_root.result c.is_root.ensures.0 c.is_root.ensures.1 (map item_of c.in_ok-names.names.items) c.in_ok-names.ensures none
+pub clean_written-requires : goal.clean_written-requires
+clean_written-requires g c = refuted _ c.begins_oddly.result c.begins_oddly.ensures c.if-begins_oddly.false
 
 pub returns : goal.returns
 returns g c =
-    let head = c.head_of-head.result in
-    let names = map item_of c.as_slice-kept.result.now in
-    let start = c.clean_start-start.result in
-    let same : names ≡ map item_of c.in_ok-names.names.items = ap (map item_of) c.as_slice-kept.ensures.value in
-    if_ok (λ z. IsPathOf c.args.style (map spelled (prefix_items head.prefix.now) ++ (start_items start ++ names)) z.items) (λ z. IsCleaned c.args.style c.args.path.now z.items) c.spelled_as.result
-    (λ z a. cleaned_clean c.args.style c.args.path.now head c.head_of-head.ensures.items c.head_of-head.ensures.parts c.is_root.result c.is_root.ensures.0 c.is_root.ensures.1 names (ap reverse same ∙ c.in_ok-names.ensures) (map spelled (prefix_items head.prefix.now) ++ (start_items start ++ names)) z.items (sym c.is_verbatim.ensures ∙ c.if-is_verbatim.false) c.clean_start-start.ensures.shield a) c.spelled_as.ensures
+    let even = refuted _ c.begins_oddly.result c.begins_oddly.ensures c.if-begins_oddly.false in
+    let w = c.new-parsed.result.style in
+    let path = c.new-parsed.result.whole.now in
+    rw (← c.new-parsed.ensures.style, ← c.new-parsed.ensures.whole) (if_ok (λ z. IsCleanWritten w path z.items) (λ z. IsCleaned w path z.items) c.clean_written.result (λ z h. inr (even, h)) c.clean_written.ensures)

@@ -1,36 +1,24 @@
-use Rattle.std.proofs.Common.{refl, ◌++◌, map, reverse, Some, sym, ap, ◌∙◌, subst}
-use Rattle.path_rules.specs.Views.{item_of}
-use Rattle.std.specs.Option.{option_map}
-use Rattle.path_rules.specs.Component.{components_in}
-use Rattle.path_rules.specs.Heads.{prefix_items, start_items}
-use Rattle.path_building.specs.Spelled.{AreSpelled}
-use Rattle.path_building.proofs.lemmas.Forms.{nothing_after, kept_normal, resolved_normal, resolved_none, names_spelled, names_none}
+use Rattle.std.proofs.Common.{inl, inr, subst}
+use Rattle.path_building.specs.Beginning.{BeginsOddly}
+use Rattle.path_building.specs.Normalized.{IsNormalWritten, IsNormalized}
+use Rattle.path_building.proofs.lemmas.Joins.{refuted}
+use Rattle.path_building.proofs.lemmas.Forms.{if_ok}
 use Rattle.path_building.proofs.normal.normalize.Goals as goal
 
-pub returns-then-is_verbatim-clause-ok : goal.returns-then-is_verbatim-clause-ok
-returns-then-is_verbatim-clause-ok g c =
-    let head = c.head_of-head.result in
-    kept_normal c.args.style c.args.path.now head c.head_of-head.ensures.items c.head_of-head.ensures.parts (components_in head.rules head.body.now) c.in_ok-rewritten.field-0.items (sym c.is_verbatim.ensures ∙ c.if-is_verbatim.true) refl c.in_ok-rewritten.ensures
+pub returns-then-begins_oddly-clause-ok : goal.returns-then-begins_oddly-clause-ok
+returns-then-begins_oddly-clause-ok g c =
+    let odd = c.begins_oddly.ensures.0 c.if-begins_oddly.true in
+    inl (subst (BeginsOddly c.args.style) c.new-parsed.ensures.whole (subst (λ w. BeginsOddly w c.new-parsed.result.whole.now) c.new-parsed.ensures.style odd), c.in_ok-from_slice.ensures.items)
 
-pub returns-in_default-clause-err : goal.returns-in_default-clause-err
-returns-in_default-clause-err g c =
-    let head = c.head_of-head.result in
-    resolved_none c.args.style c.args.path.now head c.head_of-head.ensures.items c.head_of-head.ensures.parts (sym c.is_verbatim.ensures ∙ c.if-is_verbatim.false) (sym c.in_ok-names.ensures ∙ ap (option_map (λ v. reverse (map item_of v.items))) c.in_default.is)
-
-pub written_as-requires-clause-spelled : goal.written_as-requires-clause-spelled
-written_as-requires-clause-spelled g c =
-    let head = c.head_of-head.result in
-    subst (AreSpelled head.rules) (sym (ap (map item_of) c.as_slice-kept.ensures.value)) (names_spelled c.args.style c.args.path.now head c.head_of-head.ensures.items c.head_of-head.ensures.parts (map item_of c.in-Some.names.items) (sym c.in_ok-names.ensures ∙ ap (option_map (λ v. reverse (map item_of v.items))) c.in-Some.is))
-
-pub written_as-requires-clause-none : goal.written_as-requires-clause-none
-written_as-requires-clause-none g c = λ v n.
-    let head = c.head_of-head.result in
-    let none = nothing_after c.args.style c.args.path.now head c.head_of-head.ensures.parts v n in
-    ap (map item_of) c.as_slice-kept.ensures.value ∙ names_none c.args.style c.args.path.now head c.head_of-head.ensures.items c.head_of-head.ensures.parts (map item_of c.in-Some.names.items) (sym c.in_ok-names.ensures ∙ ap (option_map (λ v. reverse (map item_of v.items))) c.in-Some.is) none
+pub normal_written-requires : goal.normal_written-requires
+normal_written-requires g c = refuted _ c.begins_oddly.result c.begins_oddly.ensures c.if-begins_oddly.false
 
 pub returns-clause-ok : goal.returns-clause-ok
 returns-clause-ok g c =
-    let head = c.head_of-head.result in
-    let names = map item_of c.as_slice-kept.result.now in
-    resolved_normal c.args.style c.args.path.now head c.head_of-head.ensures.items c.head_of-head.ensures.parts names (prefix_items head.prefix.now ++ (start_items c.shielded_start-start.result ++ names)) c.in_ok-written_as.field-0.items (sym c.is_verbatim.ensures ∙ c.if-is_verbatim.false)
-    (sym c.in_ok-names.ensures ∙ ap (option_map (λ v. reverse (map item_of v.items))) c.in-Some.is ∙ ap (λ z. Some (reverse (map item_of z))) (sym c.as_slice-kept.ensures.value)) c.shielded_start-start.ensures.shield c.in_ok-written_as.ensures
+    let even = refuted _ c.begins_oddly.result c.begins_oddly.ensures c.if-begins_oddly.false in
+    let w = c.new-parsed.result.style in
+    let path = c.new-parsed.result.whole.now in
+    rw (← c.new-parsed.ensures.style, ← c.new-parsed.ensures.whole) (if_ok (λ z. IsNormalWritten w path z.items) (λ z. IsNormalized w path z.items) c.normal_written.result (λ z h. inr (even, h)) c.normal_written.ensures.ok)
+
+pub returns-clause-err : goal.returns-clause-err
+returns-clause-err g c = rw (← c.new-parsed.ensures.style, ← c.new-parsed.ensures.whole) c.normal_written.ensures.err

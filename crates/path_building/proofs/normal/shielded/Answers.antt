@@ -4,7 +4,7 @@ use Rattle.path_rules.specs.Views.{item_of}
 use Rattle.path_building.specs.Normalized.{IsShielded}
 use Rattle.path_building.proofs.normal.shielded.Goals as goal
 
-pub returns-else-begins_as_prefix-clause-shield : goal.returns-else-begins_as_prefix-clause-shield
-returns-else-begins_as_prefix-clause-shield c =
+pub returns-else-begins_with_colon-clause-shield : goal.returns-else-begins_with_colon-clause-shield
+returns-else-begins_with_colon-clause-shield c =
     let names = map item_of c.args.names.now in
-    subst (λ z. IsShielded c.args.style (start_items z ++ names) names) (sym c.in-Nothing.is) (inr (λ h. let never : true ≡ false = sym (c.begins_as_prefix.ensures.1 h) ∙ c.if-begins_as_prefix.false in cc, refl))
+    subst (λ z. IsShielded c.args.style (start_items z ++ names) names) (sym c.in-Nothing.is) (inr (λ h. let never : true ≡ false = sym (c.begins_with_colon.ensures.1 h) ∙ c.if-begins_with_colon.false in cc, refl))

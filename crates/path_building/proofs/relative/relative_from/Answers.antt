@@ -1,9 +1,12 @@
-use Rattle.std.proofs.Common.{inr, subst}
+use Rattle.std.proofs.Common.{inl, inr, subst}
 use Rattle.std.specs.Option.{option_map}
 use Rattle.path_building.specs.Join.{IsJoin}
 use Rattle.path_building.specs.Relative.{IsCandidateOrNone, AreOnePlace}
 use Rattle.path_building.proofs.lemmas.Joins.{refuted}
 use Rattle.path_building.proofs.relative.relative_from.Goals as goal
+
+pub returns-in_default : goal.returns-in_default
+returns-in_default g c = inl (subst (λ z. IsCandidateOrNone c.args.style c.args.path.now c.args.base.now (option_map (λ v. v.items) z)) c.in_default.is c.in_ok-way.ensures)
 
 pub returns : goal.returns
 returns g c =

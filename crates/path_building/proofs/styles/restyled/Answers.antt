@@ -26,5 +26,5 @@ returns g c =
     (λ z made. restyled from to path head c.head_of-head.ensures.items c.head_of-head.ensures.parts had c.requires.unlike written none before z.items c.main_separator-separator.result (ap (map item_of) c.deref-2.ensures.value ∙ c.in_ok-names.ensures) c.as_slice-none.ensures c.main_separator-separator.ensures
     (subst (λ z. ¬ (ObjectNext to none head.start z) → before ≡ none) (sym names) c.before_start-before.ensures.kept)
     (subst (λ z. ObjectNext to none head.start z → before ≡ main_separator to ∷ 0x2E ∷ []) (sym names) c.before_start-before.ensures.apart)
-    made)
+    made c.requires.single)
     c.written.ensures

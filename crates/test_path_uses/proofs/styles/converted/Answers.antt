@@ -1,4 +1,4 @@
-use Rattle.std.proofs.Common.{subst}
+use Rattle.std.proofs.Common.{inl, inr, subst}
 use Rattle.platform_str.specs.Strings.{path_bytes, path_vec_of}
 use Rattle.os_path.specs.Converted.{IsConvertFault}
 use Rattle.test_path_uses.proofs.Both.{with_ok, with_err}
@@ -7,10 +7,13 @@ use Rattle.test_path_uses.proofs.styles.converted.Goals as goal
 
 pub returns-clause-first : goal.returns-clause-first
 returns-clause-first g c =
-    with_err c.with_style.result c.with_style.ensures.err (λ error h items known index are first e.
+    with_err c.with_style.result c.with_style.ensures.err (λ error h items known index single are first e.
     let s = path_bytes c.args.path in
     let fault = subst (IsConvertFault g.E.PathStyle.follows g.F.PathStyle.follows g.F.Platform.first_fault s) e h in
-    one_index c.one_list.ensures.items g.E.PathStyle.follows g.F.PathStyle.follows s index known items fault.1.0 fault.1.1.0 fault.1.1.1 are first)
+    elim fault.1 [
+      | inl k ↦ absurd (single k.0)
+      | inr k ↦ one_index c.one_list.ensures.items g.E.PathStyle.follows g.F.PathStyle.follows s index known items k.1.0 k.1.1.0 k.1.1.1 are first
+    ])
 
 pub returns-clause-written : goal.returns-clause-written
 returns-clause-written g c =

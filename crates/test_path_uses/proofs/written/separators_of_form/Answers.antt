@@ -5,4 +5,4 @@ use Rattle.test_path_uses.proofs.written.separators_of_form.Goals as goal
 
 pub returns : goal.returns
 returns g c =
-    with_ok c.in_form.result c.in_form.ensures (λ made h. of_form c.main_separators.ensures.written c.args.form g.E.PathStyle.follows (path_bytes c.args.path) (path_vec_of made).items h)
+    with_ok c.in_form.result c.in_form.ensures (λ made h even. of_form c.main_separators.ensures.written c.args.form g.E.PathStyle.follows (path_bytes c.args.path) (path_vec_of made).items h even)

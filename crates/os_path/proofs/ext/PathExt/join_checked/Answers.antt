@@ -1,7 +1,7 @@
 use Rattle.std.proofs.Common.{rules, ◌≡◌, subst}
 use Rattle.std.specs.Prelude.{IfErr}
 use Rattle.platform_str.specs.Strings.{bytes, path_bytes}
-use Rattle.path_building.specs.Checked.{IsJoinFault}
+use Rattle.path_building.specs.Faults.{IsJoinFault}
 use Rattle.os_path.proofs.ext.PathExt.join_checked.Goals as goal
 
 pub returns-clause-err : goal.returns-clause-err

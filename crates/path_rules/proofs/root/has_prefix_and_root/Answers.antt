@@ -1,9 +1,0 @@
-use Rattle.path_rules.specs.PrefixViews.{kind_of}
-use Rattle.path_rules.proofs.lemmas.Roots.{root_of_prefixed}
-use Rattle.path_rules.proofs.root.has_prefix_and_root.Goals as goal
-
-pub returns-in-Some : goal.returns-in-Some
-returns-in-Some c =
-    let kind = kind_of c.in-Some.prefix in
-    let rest = c.in-Some.rest.now in
-    (λ t. (kind, (rest, (c.in-Some.ensures, c.has_root_after.ensures.0 t))), λ h. c.has_root_after.ensures.1 (root_of_prefixed c.args.path.now kind rest c.in-Some.ensures h))
