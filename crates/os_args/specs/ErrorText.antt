@@ -1,14 +1,14 @@
 -- What an error prints, on one line.
 use Rattle.std.specs.Prelude.{ℕ, List, [], ◌++◌, Option, Some, None, codes}
 use Rattle.std.specs.Char.{encode_utf8}
-use Rattle.os_quote.specs.Shown.{stays_on_line}
-use Rattle.os_quote.specs.Escaped.{escape_of}
+use Rattle.os_quote.specs.declared.form.Form.TheVariants.{Line}
+use Rattle.os_quote.specs.Escaped.{escape_in}
 use Rattle.os_args.specs.Word.{Kind, Long, LongBytes, Short, ShortBytes, Value}
 use Rattle.os_args.specs.Reading.{Fault, UnexpectedValue, MissingValue, UnexpectedArgument}
 
 -- how a string is printed: as its escape on one line; the platform defines the units of bytes
 abbrev pub shown : (List ℕ → List ℕ) → List ℕ → List ℕ
-shown units s = escape_of stays_on_line units s
+shown units s = escape_in Line units s
 
 -- a word that was read, as it was given, without its value
 abbrev pub word_text : (List ℕ → List ℕ) → Kind → List ℕ

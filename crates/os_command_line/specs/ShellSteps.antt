@@ -1,5 +1,5 @@
 -- Parts of words, read or written. Only private contracts name these.
-use Rattle.std.specs.Prelude.{◌≡◌, ℕ, ◌≤◌, nat_lt, Bool, true, false, Result, List, [], ◌∷◌, ◌++◌, length}
+use Rattle.std.specs.Prelude.{nat_eq, ◌≡◌, ℕ, ◌≤◌, nat_lt, Bool, true, false, Result, List, [], ◌∷◌, ◌++◌, length}
 use Rattle.os_str_ext.specs.Symbols.{symbols_of}
 use Rattle.platform_str.specs.PlatformWords.{itself}
 use Rattle.os_command_line.specs.declared.shell.form.Form.{Form}
@@ -9,9 +9,9 @@ use Rattle.os_command_line.specs.declared.shell.fault.WordsFault.{WordsFault}
 use Rattle.std.specs.List.{AllByRecursion}
 use Rattle.std.specs.Str.{is_utf8}
 use Rattle.os_command_line.specs.Fish.{is_escaped}
-use Rattle.os_command_line.specs.Shell.{single_quote, HasNoQuote, Ends}
+use Rattle.os_command_line.specs.Shell.{single_quote, newline, HasNoQuote, Ends}
 use Rattle.os_command_line.specs.ShellReader.{is_itself, items_of}
-use Rattle.os_command_line.specs.ShellWriting.{is_plain_name, single_quoted, dollar_quoted, IsLineText}
+use Rattle.os_command_line.specs.ShellWriting.{is_marked, is_plain_name, single_quoted, dollar_quoted, IsLineText}
 
 -- the name in a form
 abbrev pub form_text : Form → List ℕ → List ℕ
@@ -53,6 +53,21 @@ prints_text Dollar name = true
 pub record IsCutAtQuote (bytes prefix after : List ℕ) : Type 0 where
   pub none_before : HasNoQuote prefix
   pub joined : bytes ≡ prefix ++ single_quote ∷ after
+
+-- bytes that are written as they are in single quotes
+abbrev pub AreUnmarked : List ℕ → Type 0
+AreUnmarked bytes = AllByRecursion (λ b. is_marked b ≡ false) bytes
+
+-- the bytes are cut around their first single quote or `^`
+pub record IsCutAtMarked (bytes prefix : List ℕ) (b : ℕ) (after : List ℕ) : Type 0 where
+  pub unmarked_before : AreUnmarked prefix
+  pub marked : is_marked b ≡ true
+  pub joined : bytes ≡ prefix ++ b ∷ after
+
+-- whether what follows the bytes is first on a line
+abbrev pub ends_line : Bool → List ℕ → Bool
+ends_line first [] = first
+ends_line first (b ∷ bs) = ends_line (nat_eq b newline) bs
 
 -- bytes that no backslash escapes in fish's single quotes
 abbrev pub AreShown : List ℕ → Type 0

@@ -12,7 +12,7 @@ use Rattle.os_str_ext.specs.declared.symbols.Symbol.TheVariants as symbol
 use Rattle.platform_str.specs.PlatformWords.{itself}
 use Rattle.os_command_line.specs.declared.shell.error.ShellError.{ShellError}
 use Rattle.os_command_line.specs.declared.shell.error.ShellError.TheVariants as error
-use Rattle.os_command_line.specs.Shell.{single_quote, backslash, dollar}
+use Rattle.os_command_line.specs.Shell.{single_quote, backslash, dollar, newline}
 
 -- each number is that of a byte
 abbrev pub AreBytes : List ℕ → Type 0
@@ -32,13 +32,29 @@ abbrev pub is_plain_name : List ℕ → Bool
 is_plain_name [] = false
 is_plain_name (b ∷ bs) = are_plain (b ∷ bs)
 
--- a byte in single quotes, which a single quote can't be in: they end before it, and begin again after it
-abbrev pub single_byte : ℕ → List ℕ
-single_byte b = if nat_eq b single_quote then single_quote ∷ backslash ∷ single_quote ∷ single_quote ∷ [] else b ∷ []
+-- the code of `^`
+abbrev pub caret : ℕ
+caret = 0x5E
+
+-- a byte that isn't written as it is in single quotes, or not everywhere: a single quote or `^`
+abbrev pub is_marked : ℕ → Bool
+is_marked b = nat_eq b single_quote || nat_eq b caret
+
+-- What means a byte in single quotes, first on a line or not. A single quote can't be in them: they end before it, and begin again after it.
+-- Where a history is kept, bash takes a `^` that is first on a line as a quick substitution, in quotes too: the quotes end before it, and begin again.
+abbrev pub single_byte : Bool → ℕ → List ℕ
+single_byte first b =
+    if nat_eq b single_quote then single_quote ∷ backslash ∷ single_quote ∷ single_quote ∷ []
+    else (if first && nat_eq b caret then single_quote ∷ single_quote ∷ b ∷ [] else b ∷ [])
+
+-- what means bytes there, the first of them first on a line or not
+abbrev pub single_text : Bool → List ℕ → List ℕ
+single_text first [] = []
+single_text first (b ∷ bs) = single_byte first b ++ single_text (nat_eq b newline) bs
 
 -- the name in single quotes
 abbrev pub single_quoted : List ℕ → List ℕ
-single_quoted name = single_quote ∷ (flat_map single_byte name ++ single_quote ∷ [])
+single_quoted name = single_quote ∷ (single_text false name ++ single_quote ∷ [])
 
 -- the word of a name in every POSIX shell
 abbrev pub quoted_word : List ℕ → List ℕ

@@ -1,5 +1,5 @@
 -- Which programs Windows starts cmd.exe for, by their names (std's `Command` on Windows). Lists are of 16-bit units.
-use Rattle.std.specs.Prelude.{◌≡◌, ◌⊎◌, ℕ, ◌+◌, List, ◌∷◌}
+use Rattle.std.specs.Prelude.{◌≡◌, ◌⊎◌, ℕ, ◌+◌, nat_eq, Bool, true, ◌||◌, List, ◌∷◌}
 use Rattle.std.specs.List.{AllByRecursion}
 
 -- this letter, in lower case or in upper case
@@ -25,6 +25,17 @@ pub data EndsAsBatch (dropped : ℕ → Type 0) : List ℕ → Type 0 where
   here : (x y z : ℕ) (after : List ℕ) → IsBatchExtension x y z → AllByRecursion dropped after → EndsAsBatch dropped (0x2E ∷ x ∷ y ∷ z ∷ after)
   later : (u : ℕ) (us : List ℕ) → EndsAsBatch dropped us → EndsAsBatch dropped (u ∷ us)
 
--- the program of this path is a batch file
+-- `\` or `/`
+abbrev pub is_separator : ℕ → Bool
+is_separator u = nat_eq u 0x5C || nat_eq u 0x2F
+
+-- The last component has only units that are dropped, and one at least. The units are the rest of a path, from the start of a component on or not:
+-- they are that component;
+-- or it comes after some more units.
+pub data EndsInDots (dropped : ℕ → Type 0) : Bool → List ℕ → Type 0 where
+  here : (u : ℕ) (us : List ℕ) → dropped u → AllByRecursion dropped us → EndsInDots dropped true (u ∷ us)
+  later : (first : Bool) (u : ℕ) (us : List ℕ) → EndsInDots dropped (is_separator u) us → EndsInDots dropped first (u ∷ us)
+
+-- the program of this path is a batch file; or it may be one, since its last component is `.` or `..`, and only the full path shows which file that is
 abbrev pub NeedsCmd : List ℕ → Type 0
-NeedsCmd path = EndsAsBatch (IsDropped path) path
+NeedsCmd path = EndsAsBatch (IsDropped path) path ⊎ EndsInDots (IsDropped path) true path

@@ -1,7 +1,8 @@
 //! Words of a shell, read and written.
 //!
 //! [`Words`] reads a line as `sh` does, where nothing is expanded. What [`quoted`] and its kin
-//! write is read back as the same name by every POSIX shell, as an argument, and nothing else.
+//! write is read back as the same name by every POSIX shell, as an argument, and nothing else. Only
+//! the words of [`quoted_line`], [`quote_line`] and [`push_word_line`] are safe to paste at a prompt.
 
 mod display;
 mod error;

@@ -1,8 +1,9 @@
 //! Command lines of Windows: program's names and arguments, read and written.
 //!
 //! A Windows program gets one command line, a string of 16-bit units, and splits it itself. These
-//! calls read it as the C runtime of 2015 and later does (Microsoft, "Parsing C command-line
-//! arguments"), which is how Rust's std reads it, too.
+//! calls read it as the C runtime of 2008 and later does (Microsoft, "Parsing C command-line
+//! arguments"), which is how Rust's std reads it, too. `CommandLineToArgvW` reads some lines
+//! differently ([`Arguments`]).
 
 mod argument;
 mod arguments;

@@ -1,7 +1,8 @@
 -- The names that most proofs cite, re-exported from one file. Declares nothing.
 pub use Rattle.memchr.specs.Find.{NoneBefore, Passes, is_byte}
-pub use Rattle.os_quote.specs.{Parts.text_escape, Parts.token_of, Escape.BeginsNoToken, Escape.IsBadEscapeBy, Escape.IsEscape, Escape.IsEscapeBy, Escape.IsLineEscape, Escape.chunk_items, Escape.items_of}
-pub use Rattle.os_quote.specs.Escaped.{escape_of, escaped_text}
+pub use Rattle.os_quote.specs.{Parts.text_escape, Parts.token_of, Escape.BeginsNoToken, Escape.IsBadEscapeBy, Escape.IsEscape, Escape.IsEscapeBy, Escape.IsLineEscape, Escape.chunk_items, Escape.items_of, Escape.items_in}
+pub use Rattle.os_quote.specs.Ending.{before_ending, ending, ends_in_space, has_ending, space}
+pub use Rattle.os_quote.specs.Escaped.{escape_of, escape_in, escaped_text}
 pub use Rattle.os_quote.specs.Item.{Backslash, ByteUnit, Character, HasLongTokens, IsItem, IsLong, Item, LongCharacter, WideUnit, backslash, byte_digits, character_item, hidden_item, high_digits, item_text, item_texts, long_digits, unit_item, wide_digits}
 pub use Rattle.os_quote.specs.Plain.{IsCutAfterPlain, IsPlain, IsPlainUpTo}
 pub use Rattle.os_quote.specs.Reading.{HasNoBackslash, HasNoClosed, HasNoFive, HasNoLong, HasNoNumber, HasNoWide, AreBytesRead, IsClosed, IsCutAtFirst, IsFive, IsRead, item_bytes, token_item}

@@ -2,6 +2,7 @@ pub mod Items
 pub mod Tokens
 pub mod LongTokens
 pub mod Texts
+pub mod Endings
 pub mod Stripping
 pub mod Escapes
 pub mod ItemLengths
@@ -10,6 +11,7 @@ pub mod TokenTexts
 pub mod Unescaping
 pub mod Shown
 pub mod Lines
+pub mod LastBytes
 pub mod SuspectLanes
 pub mod SuspectTables
 pub mod Suspects

@@ -2,7 +2,7 @@
 use Rattle.std.specs.Prelude.{◌≡◌, ◌≢◌, ℕ, Bool, List, ◌∷◌, ◌++◌, map, length}
 use Rattle.std.specs.{List.flat_map, List.AllByRecursion, Str.chars}
 use Rattle.wtf8_core.specs.Chunks.{Chunk, AreChunks}
-use Rattle.os_quote.specs.{Item.Item, Item.backslash, Item.item_text, Item.item_texts, Item.IsItem, Item.unit_item, Item.character_item, Shown.is_any, Shown.stays_on_line, declared.error.QuoteError.QuoteError, declared.error.QuoteError.TheVariants.BadEscape, declared.error.QuoteError.TheVariants.NotCanonical, declared.error.QuoteError.TheVariants.Memory}
+use Rattle.os_quote.specs.{Item.Item, Item.backslash, Item.item_text, Item.item_texts, Item.IsItem, Item.unit_item, Item.character_item, Shown.is_any, Shown.stays_on_line, Shown.shown_by, Ending.before_ending, Ending.ending, declared.form.Form.Form, declared.form.Form.TheVariants.Text, declared.form.Form.TheVariants.Line, declared.error.QuoteError.QuoteError, declared.error.QuoteError.TheVariants.BadEscape, declared.error.QuoteError.TheVariants.NotCanonical, declared.error.QuoteError.TheVariants.Memory}
 
 -- the items of a chunk: one for each unit of its part, then one for each character of its text
 abbrev pub chunk_items : (ℕ → Bool) → (List ℕ → List ℕ) → Chunk → List Item
@@ -12,19 +12,23 @@ chunk_items shows units c = map unit_item (units c.0) ++ map (character_item sho
 abbrev pub items_of : (ℕ → Bool) → (List ℕ → List ℕ) → List Chunk → List Item
 items_of shows units chunks = flat_map (chunk_items shows units) chunks
 
--- text is the escape of the string s in the form that shows these characters unchanged; the platform defines the units of bytes
-pub record IsEscapeBy (shows : ℕ → Bool) (units : List ℕ → List ℕ) (s text : List ℕ) : Type 0 where
+-- the items of a string in a form: those of the chunks, and on one line the token of a space at the end
+abbrev pub items_in : Form → (List ℕ → List ℕ) → List Chunk → List ℕ → List Item
+items_in form units chunks s = items_of (shown_by form) units chunks ++ ending form s
+
+-- text is the escape of the string s in the form; the platform defines the units of bytes
+pub record IsEscapeBy (form : Form) (units : List ℕ → List ℕ) (s text : List ℕ) : Type 0 where
   pub chunks : List Chunk
-  pub are_chunks : AreChunks s chunks
-  pub text_is : text ≡ item_texts (items_of shows units chunks)
+  pub are_chunks : AreChunks (before_ending form s) chunks
+  pub text_is : text ≡ item_texts (items_in form units chunks s)
 
 -- the escape in which every character but the backslash is unchanged
 abbrev pub IsEscape : (List ℕ → List ℕ) → List ℕ → List ℕ → Type 0
-IsEscape = IsEscapeBy is_any
+IsEscape = IsEscapeBy Text
 
--- the escape on one line
+-- the escape on one line, in which hidden characters and a space at the end are tokens
 abbrev pub IsLineEscape : (List ℕ → List ℕ) → List ℕ → List ℕ → Type 0
-IsLineEscape = IsEscapeBy stays_on_line
+IsLineEscape = IsEscapeBy Line
 
 -- rest begins with a backslash that begins no token of the form
 pub record BeginsNoToken (shows : ℕ → Bool) (rest : List ℕ) : Type 0 where
@@ -49,15 +53,15 @@ abbrev pub IsBadLineEscape : List ℕ → ℕ → Type 0
 IsBadLineEscape = IsBadEscapeBy stays_on_line
 
 -- why text isn't the escape of a string of the platform: a backslash in it begins no token, or else it isn't the escape of any string; or an allocation failed
-abbrev pub IsQuoteFaultBy : (ℕ → Bool) → (List ℕ → Type 0) → (List ℕ → List ℕ) → List ℕ → QuoteError → Type 0
-IsQuoteFaultBy shows well_formed units text (BadEscape n) = IsBadEscapeBy shows text n
-IsQuoteFaultBy shows well_formed units text NotCanonical =
-    ((s : List ℕ) → well_formed s → ¬ (IsEscapeBy shows units s text)) × ((n : ℕ) → ¬ (IsBadEscapeBy shows text n))
-IsQuoteFaultBy shows well_formed units text Memory = Unit {0}
+abbrev pub IsQuoteFaultBy : Form → (List ℕ → Type 0) → (List ℕ → List ℕ) → List ℕ → QuoteError → Type 0
+IsQuoteFaultBy form well_formed units text (BadEscape n) = IsBadEscapeBy (shown_by form) text n
+IsQuoteFaultBy form well_formed units text NotCanonical =
+    ((s : List ℕ) → well_formed s → ¬ (IsEscapeBy form units s text)) × ((n : ℕ) → ¬ (IsBadEscapeBy (shown_by form) text n))
+IsQuoteFaultBy form well_formed units text Memory = Unit {0}
 
 -- why text isn't the escape of a string of the platform, in each form
 abbrev pub IsQuoteFault : (List ℕ → Type 0) → (List ℕ → List ℕ) → List ℕ → QuoteError → Type 0
-IsQuoteFault = IsQuoteFaultBy is_any
+IsQuoteFault = IsQuoteFaultBy Text
 
 abbrev pub IsLineFault : (List ℕ → Type 0) → (List ℕ → List ℕ) → List ℕ → QuoteError → Type 0
-IsLineFault = IsQuoteFaultBy stays_on_line
+IsLineFault = IsQuoteFaultBy Line

@@ -2,7 +2,7 @@
 use Rattle.std.specs.Prelude.{ℕ, ◌||◌, Bool, false, List, [], ◌∷◌}
 use Rattle.std.specs.Int.{is_in_range}
 
--- the first and the last of each range, in order, by Unicode 18.0. They are the characters of the general categories Cc (controls), Cf (format characters), Zl and Zp (line and paragraph separators), and Zs (blanks) but the space U+0020. Next are the code points of the property Default_Ignorable_Code_Point. The last is U+2800, the braille pattern without dots, which is a symbol and shown as a blank (its code chart)
+-- the first and the last of each range, in order, by Unicode 18.0. They are the characters of the general categories Cc (controls), Cf (format characters), Zl and Zp (line and paragraph separators), Co (private use), and Zs (blanks) but the space U+0020. Next are the code points of the properties Default_Ignorable_Code_Point and Noncharacter_Code_Point. Four symbols and signs are blanks by their code charts: U+2800, the braille pattern without dots, U+13441 and U+13442, the full and the half blank of hieroglyphs, and U+1D159, the note head that isn't there. The last range has the planes 4 to 16, in which no character has a sign
 abbrev pub hidden_ranges : List (ℕ × ℕ)
 hidden_ranges =
     (0x00, 0x1F)
@@ -25,16 +25,24 @@ hidden_ranges =
     ∷ (0x2800, 0x2800)
     ∷ (0x3000, 0x3000)
     ∷ (0x3164, 0x3164)
+    ∷ (0xE000, 0xF8FF)
+    ∷ (0xFDD0, 0xFDEF)
     ∷ (0xFE00, 0xFE0F)
     ∷ (0xFEFF, 0xFEFF)
     ∷ (0xFFA0, 0xFFA0)
     ∷ (0xFFF0, 0xFFFB)
+    ∷ (0xFFFE, 0xFFFF)
     ∷ (0x1_10BD, 0x1_10BD)
     ∷ (0x1_10CD, 0x1_10CD)
     ∷ (0x1_3430, 0x1_343F)
+    ∷ (0x1_3441, 0x1_3442)
     ∷ (0x1_BCA0, 0x1_BCA3)
+    ∷ (0x1_D159, 0x1_D159)
     ∷ (0x1_D173, 0x1_D17A)
-    ∷ (0xE_0000, 0xE_0FFF)
+    ∷ (0x1_FFFE, 0x1_FFFF)
+    ∷ (0x2_FFFE, 0x2_FFFF)
+    ∷ (0x3_FFFE, 0x3_FFFF)
+    ∷ (0x4_0000, 0x10_FFFF)
     ∷ []
 
 -- a code point of one of the ranges

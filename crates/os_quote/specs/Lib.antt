@@ -1,6 +1,7 @@
 pub mod Item
 pub mod HiddenCharacters
 pub mod Shown
+pub mod Ending
 pub mod Hidden
 pub mod Plain
 pub mod Start

@@ -31,7 +31,7 @@ pub enum QuoteError {
     /// Each backslash is in a token, but the text isn't the escape of any string of the platform.
     ///
     /// On Unix an example is `\x41`, since the escape of that string is `A`. In the form for one
-    /// line another is a newline, since its escape there is `\u000A`.
+    /// line others are a newline, since its escape there is `\u000A`, and a text that ends in a space.
     NotCanonical,
     /// An allocation failed.
     Memory,

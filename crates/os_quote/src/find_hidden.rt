@@ -56,7 +56,7 @@ fn is_unchanged(character: char) -> bool
 /// Returns `true` if each character of a text stays on a line ([`stays_on_line`]).
 ///
 /// Then [`escape_line`](crate::escape_line) shows the text as it is, except that it doubles
-/// backslashes. It doesn't allocate.
+/// backslashes and writes a space at the end as a token. It doesn't allocate.
 ///
 /// ```
 /// use os_quote::is_on_one_line;

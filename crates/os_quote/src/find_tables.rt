@@ -8,47 +8,48 @@ use wtf8_core::four_copies;
 // Each bit means some kinds of characters. Three bytes may begin one of these if each of them has
 // the bit; a byte has the bits that both tables of its halves have, and the third byte those of either
 // pair. The bits are dealt so that few other characters pass for suspects: none of Greek, Hebrew,
-// Devanagari, Thai, hiragana, full-width katakana, the syllables of Hangul, the first block of CJK
-// ideographs and emoji; of Latin, Cyrillic and Arabic some past the basic ones, as `ț`, `ґ` and the comma.
+// Devanagari, Thai, hiragana, katakana, the syllables of Hangul and most CJK ideographs; of Latin,
+// Cyrillic and Arabic few past the basic ones, as `¢`, `Ȁ`, `ҁ` and the comma; and all full-width
+// forms, and all characters past U+FFFF, as emoji.
 
 /// By the high half of the first byte.
 pub(crate) const FIRST_HIGH: [u8; 64] = four_copies!(
-    1, 1, 0, 0, 0, 2, 0, 4, 0, 0, 0, 0, 48, 50, 200, 128
+    1, 1, 0, 0, 0, 2, 0, 4, 0, 0, 0, 0, 48, 34, 220, 1
 );
 
 /// By its low half.
 pub(crate) const FIRST_LOW: [u8; 64] = four_copies!(
-    129, 137, 241, 137, 1, 1, 1, 1, 33, 1, 1, 17, 3, 17, 1, 69
+    17, 73, 113, 9, 1, 1, 1, 1, 33, 1, 1, 33, 3, 33, 129, 5
 );
 
 /// By the high half of the second byte.
 pub(crate) const SECOND_HIGH: [u8; 64] = four_copies!(
-    7, 7, 7, 7, 7, 7, 7, 7, 127, 191, 151, 71, 7, 7, 7, 7
+    7, 7, 7, 7, 7, 7, 7, 7, 239, 175, 215, 135, 7, 7, 7, 7
 );
 
 /// By its low half.
 pub(crate) const SECOND_LOW: [u8; 64] = four_copies!(
-    255, 231, 167, 167, 39, 47, 39, 39, 103, 39, 47, 231, 39, 183, 111, 119
+    255, 231, 183, 183, 167, 239, 167, 167, 167, 167, 175, 167, 167, 183, 175, 167
 );
 
 /// By the high half of the third byte.
 pub(crate) const THIRD_HIGH: [u8; 64] = four_copies!(
-    55, 55, 55, 55, 55, 55, 55, 55, 191, 247, 191, 247, 55, 55, 55, 55
+    55, 55, 55, 55, 55, 55, 55, 55, 191, 247, 183, 183, 55, 55, 55, 55
 );
 
 /// By its low half.
 pub(crate) const THIRD_LOW: [u8; 64] = four_copies!(
-    191, 183, 183, 183, 191, 183, 183, 183, 183, 183, 183, 183, 183, 183, 183, 247
+    191, 183, 183, 183, 183, 183, 183, 183, 183, 183, 183, 183, 183, 183, 183, 247
 );
 
 /// By the high half of the third byte, in a second table for kinds that need two boxes.
 pub(crate) const OTHER_HIGH: [u8; 64] = four_copies!(
-    32, 32, 32, 32, 32, 32, 32, 32, 224, 168, 96, 104, 32, 32, 32, 32
+    0, 0, 0, 0, 0, 0, 0, 0, 64, 0, 72, 8, 0, 0, 0, 0
 );
 
 /// By its low half.
 pub(crate) const OTHER_LOW: [u8; 64] = four_copies!(
-    224, 224, 224, 224, 104, 104, 96, 96, 96, 96, 96, 224, 224, 224, 224, 232
+    64, 64, 64, 64, 72, 72, 64, 64, 64, 64, 64, 64, 64, 64, 64, 64
 );
 
 /// Whether a byte followed by two others may begin such a character.

@@ -8,7 +8,7 @@
 //!
 //! [`escape_line`], [`escaped_line`] and [`unescape_line`] are a second form, for log lines and
 //! terminals. It also writes as tokens controls, format characters, blanks other than the space,
-//! and what Unicode ignores in display.
+//! what Unicode ignores in display, private use, and a space at the end.
 #![tactic(auto)]
 
 mod error;

@@ -1,14 +1,14 @@
 //! Reads escapes, which may be invalid UTF-8, and writes their strings into a buffer.
-ghost use Rattle.std.specs.Prelude.{◌≡◌, ◌≢◌, ◌≤◌, length, IfOk, IfErr, IfSome, MatchOption, MatchResult};
+ghost use Rattle.std.specs.Prelude.{◌≡◌, ◌≢◌, ◌≤◌, false, length, IsTrue, IfOk, IfErr, IfSome, MatchOption, MatchResult};
+ghost use Rattle.std.specs.List.{AllByRecursion};
 ghost use Rattle.std.specs.Str.{IsUtf8};
-ghost use Rattle.os_quote.specs.{Shown.shown_by, declared.error.QuoteError.TheVariants.Memory, Escape.IsQuoteFault, Escape.IsLineFault, Escape.IsQuoteFaultBy, Unescaped.IsUnescaped, Unescaped.IsLineUnescaped, Unescaped.IsUnescapedBy, Unescaped.AreReadBy};
+ghost use Rattle.os_quote.specs.{Ending.has_ending, Plain.IsPlain, declared.error.QuoteError.TheVariants.Memory, Escape.IsQuoteFault, Escape.IsLineFault, Escape.IsQuoteFaultBy, Unescaped.IsUnescaped, Unescaped.IsLineUnescaped, Unescaped.IsUnescapedBy, Unescaped.AreReadBy};
 
 use crate::error::{QuoteError, Unescaped};
 use crate::find_plain::are_plain;
-use crate::form::Form;
-use crate::read_string::write_by;
+use crate::form::{Form, has_ending};
+use crate::read_string::{is_own, write_by};
 use crate::read_token::cut_backslash;
-use crate::write_walk::split_at_token;
 use os_str_bytes::Platform;
 use wtf8_core::{is_utf8, push_truncated};
 
@@ -69,20 +69,20 @@ pub fn write_unescaped_line<E: Platform>(text: &str, buffer: &mut [u8]) -> Resul
     write_text_by::<E>(Form::Line, text, buffer)
 }
 
-/// Writes the string that has this escape in a form into a buffer. A text without tokens is its own
-/// escape.
+/// Writes the string that has this escape in a form into a buffer. A text that the form shows as it is
+/// is its own escape.
 #[inline(always)]
 fn write_text_by<E: Platform>(form: Form, text: &str, buffer: &mut [u8]) -> Unescaped
-    ensures string { IfOk result (λ count. IsUnescapedBy (shown_by form) E.well_formed E.units
-        text.now buffer.old buffer.new count) }
+    ensures string { IfOk result (λ count. IsUnescapedBy form E.well_formed E.units text.now
+        buffer.old buffer.new count) }
     ensures fault { IfErr result
-        (λ fault. IsQuoteFaultBy (shown_by form) E.well_formed E.units text.now fault) }
+        (λ fault. IsQuoteFaultBy form E.well_formed E.units text.now fault) }
     ensures never_memory { IfErr result (λ fault. fault ≢ Memory) }
 {
-    match split_at_token(form, text) {
-        None => Ok(push_truncated(buffer, 0, text.as_bytes())),
-        Some(_) => write_by::<E>(form, text.as_bytes(), buffer),
+    if is_own(form, text) {
+        return Ok(push_truncated(buffer, 0, text.as_bytes()));
     }
+    write_by::<E>(form, text.as_bytes(), buffer)
 }
 
 /// Writes the string that has this escape into a buffer, as
@@ -147,13 +147,14 @@ pub fn write_unescaped_line_bytes<E: Platform>(
 }
 
 /// Writes the string that has this escape in a form, or returns `None` if the escape isn't UTF-8.
-/// Plain bytes are their own escape. Where all is shown, so is each text without a backslash.
+/// Plain bytes are their own escape, unless a space ends a line. Where all is shown, so is each text
+/// without a backslash.
 fn write_bytes_by<E: Platform>(form: Form, escape: &[u8], buffer: &mut [u8]) -> Option<Unescaped>
     ensures utf8 { IfSome result (λ _. IsUtf8 escape.now) }
-    ensures read { AreReadBy (shown_by form) E.well_formed E.units escape.now buffer.old
-        buffer.new result }
+    ensures read { AreReadBy form E.well_formed E.units escape.now buffer.old buffer.new
+        result }
 {
-    if are_plain(escape) {
+    if are_own(form, escape) {
         return Some(Ok(push_truncated(buffer, 0, escape)));
     }
     if let Some(_) = cut_backslash(escape) {
@@ -171,12 +172,19 @@ fn write_bytes_by<E: Platform>(form: Form, escape: &[u8], buffer: &mut [u8]) -> 
     }
 }
 
+/// Whether bytes are plain, and the form shows them as they are.
+fn are_own(form: Form, bytes: &[u8]) -> bool
+    ensures { IsTrue result → AllByRecursion IsPlain bytes.now × (has_ending form bytes.now ≡ false) }
+{
+    are_plain(bytes) && !has_ending(form, bytes)
+}
+
 /// Writes the string of an escape that has a backslash, as [`write_bytes_by`] does. The escape is
 /// read first. It is checked for UTF-8 only if it isn't the escape of a string that fits.
 fn write_tokens<E: Platform>(form: Form, escape: &[u8], buffer: &mut [u8]) -> Option<Unescaped>
     ensures utf8 { IfSome result (λ _. IsUtf8 escape.now) }
-    ensures read { AreReadBy (shown_by form) E.well_formed E.units escape.now buffer.old
-        buffer.new result }
+    ensures read { AreReadBy form E.well_formed E.units escape.now buffer.old buffer.new
+        result }
 {
     let read = write_by::<E>(form, escape, buffer);
     if let Ok(count) = read {

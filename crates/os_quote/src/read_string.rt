@@ -1,12 +1,12 @@
 //! Reads escapes: decodes their tokens, and checks that the text is the escape of the result.
-ghost use Rattle.std.specs.Prelude.{◌≡◌, ◌≢◌, ◌↔◌, length, IsOk, IfOk, IfErr, IsTrue, ◌+◌, ◌≤◌, ◌<◌, ◌^◌, ◌++◌, [], ℕ, List, MatchResult, MatchOption};
+ghost use Rattle.std.specs.Prelude.{◌≡◌, ◌≢◌, ◌↔◌, false, length, IsOk, IfOk, IfErr, IsTrue, ◌+◌, ◌≤◌, ◌<◌, ◌^◌, ◌++◌, [], ℕ, List, MatchResult, MatchOption};
 ghost use Rattle.platform_str.specs.{BufferSink.Pushes, Strings.string_vec_of, Strings.bytes};
-ghost use Rattle.os_quote.specs.{Shown.shown_by, Stripping.StartsNot, Escape.IsEscape, Escape.IsLineEscape, Escape.IsEscapeBy, Escape.IsQuoteFault, Escape.IsLineFault, Escape.IsQuoteFaultBy, Escape.IsBadEscapeBy, Reading.AreBytesRead, Reading.item_bytes, Reading.token_item, Unescaped.IsUnescapedBy, declared.error.QuoteError.TheVariants.Memory};
+ghost use Rattle.os_quote.specs.{Shown.shown_by, Ending.has_ending, Hidden.AreUnchanged, Stripping.StartsNot, Escape.IsEscape, Escape.IsLineEscape, Escape.IsEscapeBy, Escape.IsQuoteFault, Escape.IsLineFault, Escape.IsQuoteFaultBy, Escape.IsBadEscapeBy, Reading.AreBytesRead, Reading.item_bytes, Reading.token_item, Unescaped.IsUnescapedBy, declared.error.QuoteError.TheVariants.Memory};
 ghost use Rattle.std.specs.Str.{IsUtf8};
 ghost use Rattle.wtf8_core.specs.{CodePoint.IsCodePoint, CodePoint.encode, Truncated.IsTruncated};
 
 use crate::error::{QuoteError, Unescaped};
-use crate::form::Form;
+use crate::form::{Form, has_ending};
 use crate::read_token::{Token, cut_backslash, first_token, strip};
 use crate::write_walk::{split_at_token, write_escape_to};
 use os_str_bytes::{OsStr, OsStrBytesExt, OsString, Platform, Sink, Unix, laws};
@@ -55,8 +55,9 @@ pub fn unescape<E: Platform, A: Allocator>(
 ///
 /// Those of [`unescape`]. A token is also `\u{`, five or six digits without a leading zero, and
 /// `}`, for a character past U+FFFF. If each backslash is in a token, two kinds of text return
-/// [`QuoteError::NotCanonical`]: one has a character that doesn't stay on the line, and the other a
-/// token for a character that does, as `\u0041` or `\u{1F600}`. The empty text allocates nothing.
+/// [`QuoteError::NotCanonical`]. One has a character that doesn't stay on the line, or a space at the
+/// end. The other has a token for a character that does, as `\u0041` or `\u{1F600}`, or for a space
+/// that isn't at the end. The empty text allocates nothing.
 ///
 /// ```
 /// use os_quote::unescape_line;
@@ -78,6 +79,20 @@ pub fn unescape_line<E: Platform, A: Allocator>(
     unescape_by(Form::Line, alloc, text)
 }
 
+/// Whether a form shows a text as it is: no character of it is written as a token, and no space at
+/// its end.
+#[inline(always)]
+pub(crate) fn is_own(form: Form, text: &str) -> bool
+    ensures own { IsTrue result → AreUnchanged (shown_by form) text.now
+        × (has_ending form text.now ≡ false) }
+    ensures some { result ≡ false → 0 < length text.now }
+{
+    match split_at_token(form, text) {
+        Some(_) => false,
+        None => !has_ending(form, text.as_bytes()),
+    }
+}
+
 /// Returns the string that has this escape in a form. A text with a token is read token by token.
 /// If the bytes that it means aren't a string with this escape, then none has it.
 fn unescape_by<E: Platform, A: Allocator>(
@@ -86,14 +101,14 @@ fn unescape_by<E: Platform, A: Allocator>(
     text: &str,
 ) -> Result<OsString<E, A>, QuoteError>
     ensures string { IfOk result
-        (λ string. IsEscapeBy (shown_by form) E.units (string_vec_of string).items text.now) }
+        (λ string. IsEscapeBy form E.units (string_vec_of string).items text.now) }
     ensures fault { IfErr result
-        (λ fault. IsQuoteFaultBy (shown_by form) E.well_formed E.units text.now fault) }
+        (λ fault. IsQuoteFaultBy form E.well_formed E.units text.now fault) }
     ensures empty { length text.now ≡ 0 → IsOk result }
 {
-    let Some(_) = split_at_token(form, text) else {
+    if is_own(form, text) {
         return Ok(OsStr::new(text).to_owned(alloc)?);
-    };
+    }
     let mut encoded = vec![in alloc; 0; text.len()]?;
     let count = write_by::<E>(form, text.as_bytes(), encoded.as_mut_slice())?;
     encoded.truncate(count);
@@ -104,11 +119,11 @@ fn unescape_by<E: Platform, A: Allocator>(
 /// be invalid UTF-8. If they are the escape of a string that fits, they are valid UTF-8. Any other
 /// result is right only if they are valid UTF-8.
 pub(crate) fn write_by<E: Platform>(form: Form, escape: &[u8], buffer: &mut [u8]) -> Unescaped
-    ensures string { IsUtf8 escape.now → IfOk result (λ count. IsUnescapedBy (shown_by form)
+    ensures string { IsUtf8 escape.now → IfOk result (λ count. IsUnescapedBy form
         E.well_formed E.units escape.now buffer.old buffer.new count) }
     ensures room { IfOk result (λ count. count ≤ length buffer.old → IsUtf8 escape.now) }
     ensures fault { IsUtf8 escape.now → IfErr result
-        (λ fault. IsQuoteFaultBy (shown_by form) E.well_formed E.units escape.now fault) }
+        (λ fault. IsQuoteFaultBy form E.well_formed E.units escape.now fault) }
     ensures never_memory { IfErr result (λ fault. fault ≢ Memory) }
 {
     let count = match read(form, escape, buffer) {
@@ -130,7 +145,7 @@ pub(crate) fn write_by<E: Platform>(form: Form, escape: &[u8], buffer: &mut [u8]
 #[inline(never)]
 fn is_unescaped<E: Platform>(form: Form, encoded: &[u8], escape: &[u8]) -> bool
     ensures { IsTrue result ↔ (E.well_formed encoded.now
-        × IsEscapeBy (shown_by form) E.units encoded.now escape.now) }
+        × IsEscapeBy form E.units encoded.now escape.now) }
 {
     laws::faults::<E>();
     match OsStr::<E>::checked(encoded) {
@@ -215,7 +230,7 @@ impl<'a> Sink for Comparison<'a> {
 
 /// Whether the bytes are the escape of the string in a form.
 fn has_escape<E: Platform>(form: Form, string: OsStr<'_, E>, text: &[u8]) -> bool
-    ensures { IsTrue result ↔ IsEscapeBy (shown_by form) E.units (bytes string.entry) text.now }
+    ensures { IsTrue result ↔ IsEscapeBy form E.units (bytes string.entry) text.now }
 {
     let mut comparison = Comparison { rest: text };
     match write_escape_to(form, string, &mut comparison) {

@@ -2,7 +2,7 @@
 ghost use Rattle.std.specs.Prelude.{◌*◌, ◌<◌, ◌^◌, ℕ, List, length};
 ghost use Rattle.wtf8_core.specs.Truncated.{IsTruncated};
 ghost use Rattle.platform_str.specs.Strings.{bytes};
-ghost use Rattle.os_quote.specs.{Escaped.escape_of, Shown.shown_by, Escape.IsEscape, Escape.IsLineEscape};
+ghost use Rattle.os_quote.specs.{Escaped.escape_in, Escape.IsEscape, Escape.IsLineEscape};
 
 use crate::form::Form;
 use crate::write_walk::write_escape_to;
@@ -58,8 +58,8 @@ pub fn write_escape_line<E: Platform>(string: OsStr<'_, E>, buffer: &mut [u8]) -
 /// escape. A buffer takes every piece, so no error is lost.
 fn push_escape<E: Platform>(form: Form, string: OsStr<'_, E>, buffer: &mut [u8]) -> usize
     requires { 6 * length (bytes string) < 2 ^ 64 }
-    ensures { IsTruncated (escape_of (shown_by form) E.units (bytes string.entry)) buffer.old
-        buffer.new result }
+    ensures { IsTruncated (escape_in form E.units (bytes string.entry)) buffer.old buffer.new
+        result }
 {
     let mut sink = TruncatedBuffer {
         bytes: buffer,

@@ -31,11 +31,11 @@ impl<'a, E: Platform> Copy for Escaped<'a, E> {}
 
 impl<'a, E: Platform> Escaped<'a, E> {
     ghost use Rattle.platform_str.specs.Strings.{bytes};
-    ghost use Rattle.os_quote.specs.{Shown.shown_by, Escape.IsEscapeBy, Escaped.escaped_text};
+    ghost use Rattle.os_quote.specs.{Escape.IsEscapeBy, Escaped.escaped_text};
 
     /// A value that prints the string as its escape in this form.
     pub(crate) fn new(form: Form, string: OsStr<'a, E>) -> Self
-        ensures { IsEscapeBy (shown_by form) E.units (bytes string.entry) (escaped_text result) }
+        ensures { IsEscapeBy form E.units (bytes string.entry) (escaped_text result) }
     {
         Escaped { string, form }
     }

@@ -1,7 +1,7 @@
 //! From strings to escapes.
 ghost use Rattle.std.specs.Prelude.{IfOk, string_bytes};
 ghost use Rattle.platform_str.specs.Strings.{bytes};
-ghost use Rattle.os_quote.specs.{Shown.shown_by, Escaped.escaped_text, Escape.IsEscape, Escape.IsLineEscape, Escape.IsEscapeBy};
+ghost use Rattle.os_quote.specs.{Escaped.escaped_text, Escape.IsEscape, Escape.IsLineEscape, Escape.IsEscapeBy};
 
 use crate::form::Form;
 use crate::write_display::Escaped;
@@ -67,21 +67,33 @@ pub fn escaped<'a, E: Platform>(string: OsStr<'a, E>) -> Escaped<'a, E>
 /// `\uHHHH` or, past U+FFFF, `\u{H..}` of five or six digits:
 ///
 /// - controls, format characters, and line and paragraph separators (Unicode 18.0, general categories
-///   Cc, Cf, Zl and Zp): what ends a line, moves the cursor or sets the direction of text, joiners and
-///   spaces without width, and tags
+///   Cc, Cf, Zl and Zp): what ends a line, moves the cursor or overrides the direction of text, joiners
+///   and spaces without width, and tags
 /// - blanks other than the space U+0020 (category Zs), as the no-break space U+00A0 and the
 ///   ideographic space U+3000
 /// - what is ignored in display (property Default_Ignorable_Code_Point): fillers, variation
 ///   selectors, and code points that are reserved for such characters
-/// - U+2800, the braille pattern without dots, which is a symbol and looks like a blank
+/// - signs that are blank: U+2800 (braille without dots), U+13441 and U+13442 (blanks of hieroglyphs),
+///   U+1D159 (a note head that isn't there)
+/// - private use (category Co), for which each font has another sign or none. Systems that store a
+///   character which a name can't have write one of these, as U+F03A for a colon.
+/// - noncharacters (property Noncharacter_Code_Point), as U+FFFE
+/// - all code points from U+40000 on. In these planes no character has a sign.
 ///
-/// So nothing in it ends the line, moves the cursor or sets the direction of text, and each of its
-/// characters but the space is one that fonts have a sign for. All other characters are shown as they
-/// are: letters from right to left, which need no control for that, combining marks, which change how a
-/// neighbor looks, letters that look alike, and code points that Unicode 18.0 hasn't assigned. Names in
-/// many languages need the first three.
+/// A space at the end of the string is `\u0020`, since editors remove blanks from the ends of lines. So
+/// the result doesn't end in a blank.
 ///
-/// The list is that of one version of Unicode. A later version may assign more such characters, and
+/// Nothing in it ends the line, moves the cursor or overrides the direction of text. All other
+/// characters are shown as they are:
+///
+/// - letters from right to left. A terminal orders these, and digits and signs beside them, from right
+///   to left, so that two names can look alike (Unicode Standard Annex 9).
+/// - combining marks, which change how a neighbor looks, and letters that look alike. Names in many
+///   languages need all of these. It doesn't find names that look alike.
+/// - code points below U+40000 that Unicode 18.0 hasn't assigned. Fonts show a box for them. Each later
+///   version assigns some, so as tokens they would change the escapes of names with each version.
+///
+/// The list is that of one version of Unicode. A later version may assign more hidden characters, and
 /// then the escape of a string with one of these changes.
 ///
 /// Rust's `str::escape_debug` takes texts only, and its result can't be read back.
@@ -131,7 +143,7 @@ pub(crate) fn escape_by<E: Platform, A: Allocator>(
     string: OsStr<'_, E>,
 ) -> Result<String<A>, AllocError>
     ensures { IfOk result
-        (λ text. IsEscapeBy (shown_by form) E.units (bytes string.entry) (string_bytes text)) }
+        (λ text. IsEscapeBy form E.units (bytes string.entry) (string_bytes text)) }
 {
     let mut text = String::with_capacity(alloc, string.len())?;
     text.write(Escaped::new(form, string))?;

@@ -1,17 +1,17 @@
 //! Writes the escape of a string, piece by piece, to a sink.
-ghost use Rattle.os_quote.specs.{Parts.TakesBeginning, Parts.text_escape, Parts.token_of, Start.byte_item, Escaped.escape_of, Item.item_text, Item.unit_item, Shown.shown_by, Hidden.AreUnchanged, Hidden.IsCutAtToken};
-ghost use Rattle.std.specs.Prelude.{◌≤◌, ◌++◌, IfOk, MatchOption, length};
+ghost use Rattle.os_quote.specs.{Parts.TakesBeginning, Parts.text_escape, Parts.token_of, Start.byte_item, Escaped.escape_of, Escaped.escape_in, Ending.before_ending, Item.item_text, Item.unit_item, Shown.shown_by, Hidden.AreUnchanged, Hidden.IsCutAtToken, declared.form.Form.TheVariants.Line};
+ghost use Rattle.std.specs.Prelude.{◌≡◌, ◌≤◌, ◌++◌, IfOk, MatchOption, length};
 ghost use Rattle.platform_str.specs.Sinks.{Takes};
 ghost use Rattle.platform_str.specs.Strings.{bytes};
 
 use crate::find_hidden::split_hidden;
 use crate::find_plain::split_plain;
 use crate::find_start::split_text;
-use crate::form::Form;
+use crate::form::{Form, has_ending};
 use crate::read_token::split_backslash;
 use crate::write_bytes::{SHOWN, TEXTS, put_next, put_text, split_first_byte};
 use crate::write_token::TokenText;
-use os_str_bytes::{OsStr, Platform, Sink};
+use os_str_bytes::{OsStr, OsStrBytesExt, Platform, Sink};
 use std::fmt;
 
 /// Writes the escape of a string in a form to a sink, piece by piece. Each piece is written right
@@ -23,17 +23,42 @@ pub(crate) fn write_escape_to<E: Platform, S: Sink>(
     string: OsStr<'_, E>,
     sink: &mut S,
 ) -> fmt::Result
-    requires { S.rules.has_room sink.old (escape_of (shown_by form) E.units (bytes string)) }
-    ensures { Takes S.rules sink.old (escape_of (shown_by form) E.units (bytes string.entry))
+    requires { S.rules.has_room sink.old (escape_in form E.units (bytes string)) }
+    ensures { Takes S.rules sink.old (escape_in form E.units (bytes string.entry))
         result sink.new }
 {
     match form {
         Form::Text => walk(Form::Text, string, sink),
-        Form::Line => walk(Form::Line, string, sink),
+        Form::Line => write_line(string, sink),
     }
 }
 
-/// Writes the escape of a string to a sink, as [`write_escape_to`] does, in a loop for one form.
+/// Writes the escape of a string on one line to a sink. A space at the end is a token.
+#[inline(always)]
+fn write_line<E: Platform, S: Sink>(string: OsStr<'_, E>, sink: &mut S) -> fmt::Result
+    requires { S.rules.has_room sink.old (escape_in Line E.units (bytes string)) }
+    ensures { Takes S.rules sink.old (escape_in Line E.units (bytes string.entry)) result sink.new }
+{
+    walk(Form::Line, before_space(string), sink)?;
+    if has_ending(Form::Line, string.as_encoded_bytes()) {
+        return write_character(' ', sink);
+    }
+    Ok(())
+}
+
+/// What comes before a space at the end of a string, or the whole string if there is none.
+#[inline(always)]
+fn before_space<'a, E: Platform>(string: OsStr<'a, E>) -> OsStr<'a, E>
+    ensures { bytes result ≡ before_ending Line (bytes string.entry) }
+{
+    match string.strip_suffix(" ") {
+        Some(front) => front,
+        None => string,
+    }
+}
+
+/// Writes what a string has in a form to a sink, character by character and unit by unit, in a loop
+/// for one form.
 #[inline(always)]
 fn walk<E: Platform, S: Sink>(form: Form, string: OsStr<'_, E>, sink: &mut S) -> fmt::Result
     requires { S.rules.has_room sink.old (escape_of (shown_by form) E.units (bytes string)) }

@@ -19,8 +19,9 @@ use Rattle.os_command_line.specs.ShellWriting.{IsFirstNul, IsNameFault}
 use Rattle.os_command_line.specs.Windows.{IsLiteral, IsCommandLine}
 use Rattle.os_command_line.specs.Windows.Reads.{ends, literal, opens, closes, doubled}
 use Rattle.os_command_line.specs.Windows.ReadsName.{name_ends, name_unit}
-use Rattle.os_command_line.specs.WindowsBatch.{IsBatchExtension, IsVerbatim, EndsAsBatch, NeedsCmd}
+use Rattle.os_command_line.specs.WindowsBatch.{IsBatchExtension, IsDropped, IsVerbatim, EndsAsBatch, EndsInDots, NeedsCmd}
 use Rattle.os_command_line.specs.WindowsBatch.EndsAsBatch.{here, later}
+use Rattle.os_command_line.specs.WindowsBatch.EndsInDots.{here as dots_here, later as dots_later}
 use Rattle.os_command_line.specs.WindowsWriting.{IsFirstAt, IsArgumentFault}
 use Rattle.test_line_uses.specs.Faults.{special_at, unclosed_at}
 
@@ -178,13 +179,44 @@ second_name_refused name (Err f) e none fault = second_name_fault name f e fault
 -- ---- batch files
 
 pub capitals : NeedsCmd (codes "a.BAT")
-capitals = later 0x61 (codes ".BAT") (here 0x42 0x41 0x54 [] (inl (inr refl, inr refl, inr refl)) tt)
+capitals = inl (later 0x61 (codes ".BAT") (here 0x42 0x41 0x54 [] (inl (inr refl, inr refl, inr refl)) tt))
 
 pub before_full_stop : NeedsCmd (codes "a.cmd.")
-before_full_stop = later 0x61 (codes ".cmd.") (here 0x63 0x6D 0x64 (codes ".") (inr (inl refl, inl refl, inl refl)) ((not_verbatim, inl refl), tt))
+before_full_stop = inl (later 0x61 (codes ".cmd.") (here 0x63 0x6D 0x64 (codes ".") (inr (inl refl, inl refl, inl refl)) ((not_verbatim, inl refl), tt)))
   where
     not_verbatim : ¬ (IsVerbatim (codes "a.cmd."))
     not_verbatim v = omega (arith, heads v.3)
+
+pub before_dot : NeedsCmd (codes "a.bat/.")
+before_dot = inr (dots_later true 0x61 (codes ".bat/.") (dots_later false 0x2E (codes "bat/.") (dots_later false 0x62 (codes "at/.") (dots_later false 0x61 (codes "t/.") (dots_later false 0x74 (codes "/.") (dots_later false 0x2F (codes ".") (dots_here 0x2E [] (not_verbatim, inl refl) tt)))))))
+  where
+    not_verbatim : ¬ (IsVerbatim (codes "a.bat/."))
+    not_verbatim v = omega (arith, heads v.3)
+
+-- the last of some units, which is dropped if the last component has only such units
+last_of : List ℕ → ℕ
+last_of [] = 0
+last_of (x ∷ []) = x
+last_of (x ∷ y ∷ ys) = last_of (y ∷ ys)
+
+all_last : (dropped : ℕ → Type 0) (u : ℕ) (us : List ℕ) → dropped u → AllByRecursion dropped us → dropped (last_of (u ∷ us))
+unfolding last_of
+all_last dropped u [] d a = d
+all_last dropped u (v ∷ vs) d a = all_last dropped v vs a.0 a.1
+
+some_dots : (dropped : ℕ → Type 0) (first : Bool) (us : List ℕ) → EndsInDots dropped first us → 1 ≤ length us
+some_dots dropped _ _ (dots_here u us d a) = omega arith
+some_dots dropped _ _ (dots_later first u us e) = omega arith
+
+last_dropped : (dropped : ℕ → Type 0) (first : Bool) (us : List ℕ) → EndsInDots dropped first us → dropped (last_of us)
+unfolding last_of
+last_dropped dropped _ _ (dots_here u us d a) = all_last dropped u us d a
+last_dropped dropped _ _ (dots_later first u [] e) = absurd (omega (arith, some_dots dropped _ [] e))
+last_dropped dropped _ _ (dots_later first u (v ∷ vs) e) = last_dropped dropped _ (v ∷ vs) e
+
+pub no_dots : (path : List ℕ) → EndsInDots (IsDropped path) true (codes "a.exe") → ⊥
+unfolding last_of
+no_dots path h = elim (last_dropped (IsDropped path) true (codes "a.exe") h).1 [ inl e ↦ omega (arith, e) | inr e ↦ omega (arith, e) ]
 
 some_units : (dropped : ℕ → Type 0) (us : List ℕ) → EndsAsBatch dropped us → 4 ≤ length us
 some_units dropped _ (here x y z after e d) = omega arith

@@ -131,11 +131,13 @@ pub fn line_of_one<A: Allocator>(
 }
 
 /// Whether Windows starts cmd.exe for a program: for a batch file in capital letters, also before full
-/// stops, and not for a program.
+/// stops or if only the full path shows it, and not for a program.
 pub fn batch_files(program: OsStr<'_, Windows>) -> bool
     ensures capitals { ⟦<Windows as Platform>⟧.units (bytes program.entry) ≡ codes "a.BAT"
         → IsTrue result }
     ensures full_stop { ⟦<Windows as Platform>⟧.units (bytes program.entry) ≡ codes "a.cmd."
+        → IsTrue result }
+    ensures dot { ⟦<Windows as Platform>⟧.units (bytes program.entry) ≡ codes "a.bat/."
         → IsTrue result }
     ensures program { ⟦<Windows as Platform>⟧.units (bytes program.entry) ≡ codes "a.exe"
         → result ≡ false }

@@ -1,11 +1,12 @@
 //! Escapes on one line: a string comes back from its own, has one, and nothing in it leaves the
 //! line.
-ghost use Rattle.std.specs.Prelude.{◌≡◌, ◌≢◌, ◌⊎◌, ◌*◌, ◌<◌, ◌^◌, ℕ, List, length, Err, IsTrue, IsSomeAnd, IsOkAnd, IsErrAnd, IfOk, IfErr, string_bytes};
+ghost use Rattle.std.specs.Prelude.{◌≡◌, ◌≢◌, ◌⊎◌, false, ◌*◌, ◌<◌, ◌^◌, ℕ, List, length, Err, IsTrue, IsSomeAnd, IsOkAnd, IsErrAnd, IfOk, IfErr, string_bytes};
 ghost use Rattle.std.specs.List.{All};
 ghost use Rattle.std.specs.Str.{IsUtf8, chars};
 ghost use Rattle.wtf8_core.specs.Truncated.{IsTruncated};
 ghost use Rattle.platform_str.specs.Strings.{bytes, string_vec_of};
 ghost use Rattle.os_quote.specs.Shown.{stays_on_line};
+ghost use Rattle.os_quote.specs.Ending.{ends_in_space};
 ghost use Rattle.os_quote.specs.Escape.{IsLineEscape, IsBadLineEscape};
 
 use os_quote::{
@@ -38,7 +39,7 @@ pub fn has_line_escape<'a, E: Platform + 'a>(string: OsStr<'a, E>) -> OsStr<'a, 
 }
 
 /// Returns the escape on one line of a string with a known one, which is that one. Each of its
-/// characters stays on the line.
+/// characters stays on the line, and the last one isn't a space.
 pub fn line_escape_says<E: Platform, A: Allocator>(
     alloc: A,
     string: OsStr<'_, E>,
@@ -47,6 +48,7 @@ pub fn line_escape_says<E: Platform, A: Allocator>(
     requires { IsLineEscape E.units (bytes string) known.now }
     ensures text { IsUtf8 known.now }
     ensures on_line { All (λ c. IsTrue (stays_on_line c)) (chars known.now) }
+    ensures no_space { ends_in_space known.now ≡ false }
     ensures same { IfOk result (λ text. string_bytes text ≡ known.now) }
 {
     laws::line_escapes::<E>();
@@ -55,14 +57,15 @@ pub fn line_escape_says<E: Platform, A: Allocator>(
 
 /// The escape on one line of a string, in which nothing is unseen: no newline, no soft hyphen, no
 /// no-break space, no ideographic space, no override of the direction, no empty braille pattern, no
-/// variation selector and no tag.
+/// variation selector and no tag. Nor is there a character for private use, a noncharacter or the blank
+/// note head.
 pub fn line_without_unseen<E: Platform, A: Allocator>(
     alloc: A,
     string: OsStr<'_, E>,
 ) -> Result<String<A>, AllocError>
     ensures { IfOk result (λ text. All (λ c. c ≢ 0x0A × (c ≢ 0xAD × (c ≢ 0xA0 × (c ≢ 0x3000
-        × (c ≢ 0x202E × (c ≢ 0x2800 × (c ≢ 0xFE0F × (c ≢ 0xE_0041))))))))
-        (chars (string_bytes text))) }
+        × (c ≢ 0x202E × (c ≢ 0x2800 × (c ≢ 0xFE0F × (c ≢ 0xE_0041 × (c ≢ 0xE000
+        × (c ≢ 0xFFFE × (c ≢ 0x1_D159))))))))))) (chars (string_bytes text))) }
 {
     laws::line_escapes::<E>();
     escape_line(alloc, string)

@@ -1,6 +1,6 @@
 -- What is quoted is read back, in each charset that keeps the bytes on which quotes depend.
-use Rattle.std.proofs.Common.{◌≡◌, ◌≢◌, ℕ, ◌<◌, ◌≤◌, Bool, true, false, ◌||◌, ◌&&◌, eqb, List, [], ◌∷◌, ◌++◌, refl, sym, ap, ◌∙◌, subst, arith, append_assoc, inl, inr}
-use Rattle.std.specs.List.{All, AllByRecursion, flat_map}
+use Rattle.std.proofs.Common.{◌≡◌, ◌≢◌, ℕ, ◌<◌, Bool, true, false, ◌&&◌, eqb, List, [], ◌∷◌, ◌++◌, refl, sym, ap, ◌∙◌, subst, arith, append_assoc, inl, inr}
+use Rattle.std.specs.List.{All, AllByRecursion}
 use Rattle.std.proofs.lemmas.Bool.{cases_Bool, eqb-true, true≢false, and_parts}
 use Rattle.std.proofs.lemmas.List.Elements.{recursion_from_All}
 use Rattle.wtf8_core.specs.Byte.{IsByte}
@@ -10,7 +10,7 @@ use Rattle.os_command_line.specs.Charset.IsCharacter.{byte, longer}
 use Rattle.os_command_line.specs.Shell.{single_quote, backslash, dollar, newline, is_blank, is_mark, is_special}
 use Rattle.os_command_line.specs.ShellCharacters.{opens_dollar, IsBare, Ends, EndsBefore, Begins, Reads, IsReadAs, IsCharacterText}
 use Rattle.os_command_line.specs.ShellCharacters.Reads.{ends, bare, escaped, single}
-use Rattle.os_command_line.specs.ShellWriting.{AreBytes, is_plain, are_plain, is_plain_name, single_byte, single_quoted, quoted_word}
+use Rattle.os_command_line.specs.ShellWriting.{AreBytes, is_plain, are_plain, is_plain_name, caret, single_text, single_quoted, quoted_word}
 use Rattle.os_command_line.proofs.lemmas.CharsetCuts.{Parts, split}
 use Rattle.os_command_line.proofs.lemmas.Lists.{all_joined, both_parts}
 use Rattle.os_command_line.proofs.lemmas.ShellOneReading.{and_none, blank_is}
@@ -83,39 +83,54 @@ pub at_quote : (done b : List ℕ) (cs : List (List ℕ)) → AreCharacters (don
 at_quote done b cs r = split cs r.are_characters done 0 single_quote b r.is_joined (omega arith, inl refl)
 
 -- in single quotes, after some bytes
-pub single_text : (l : Language) (first : Bool) (done name after : List ℕ) (cs : List (List ℕ)) → HasNo single_quote done → EndsBefore after → AreCharacters (done ++ (flat_map single_byte name ++ single_quote ∷ after)) cs → IsRestAs l first ((single_quote ∷ []) ∷ cs) (done ++ name) after
-single_text l first done [] after cs h e r =
+single_read : (l : Language) (first line : Bool) (done name after : List ℕ) (cs : List (List ℕ)) → HasNo single_quote done → EndsBefore after → AreCharacters (done ++ (single_text line name ++ single_quote ∷ after)) cs → IsRestAs l first ((single_quote ∷ []) ∷ cs) (done ++ name) after
+single_read l first line done [] after cs h e r =
     let p = at_quote done after cs r in
     record { rest = p.rest; rest_are = p.rest_are; reads = closed l first done after cs [] p.rest h p (ends false p.rest (ends_are after p.rest e p.rest_are)) }
-single_text l first done (b ∷ name) after cs h e r = elim (cases_Bool (eqb b single_quote)) [
+single_read l first line done (b ∷ name) after cs h e r = elim (cases_Bool (eqb b single_quote)) [
   | inl q ↦
       let f = eqb-true b single_quote q in
-      let text = flat_map single_byte name ++ single_quote ∷ after in
-      let s = subst (λ z. AreCharacters (done ++ (flat_map single_byte (z ∷ name) ++ single_quote ∷ after)) cs) f r in
+      let text = single_text false name ++ single_quote ∷ after in
+      let s = subst (λ z. AreCharacters (done ++ (single_text line (z ∷ name) ++ single_quote ∷ after)) cs) f r in
       let p = at_quote done (backslash ∷ single_quote ∷ single_quote ∷ text) cs s in
       let x = first_is backslash (single_quote ∷ single_quote ∷ text) p.rest (omega arith) p.rest_are in
       let y = first_is single_quote (single_quote ∷ text) x.rest (omega arith) x.rest_are in
       let z = first_is single_quote text y.rest (omega arith) y.rest_are in
-      let again = single_text l false [] name after z.rest tt e z.rest_are in
+      let again = single_read l false false [] name after z.rest tt e z.rest_are in
       let more = escaped false (single_quote ∷ []) ((single_quote ∷ []) ∷ z.rest) name again.rest refl again.reads in
       let all = same (sym (x.is ∙ ap (λ t. (backslash ∷ []) ∷ t) (y.is ∙ ap (λ t. (single_quote ∷ []) ∷ t) z.is))) refl more in
       subst (λ k. IsRestAs l first ((single_quote ∷ []) ∷ cs) (done ++ k ∷ name) after) (sym f)
       (record { rest = again.rest; rest_are = again.rest_are; reads = closed l first done (backslash ∷ single_quote ∷ single_quote ∷ text) cs (single_quote ∷ name) again.rest h p all })
-  | inr q ↦
-      let text = flat_map single_byte name ++ single_quote ∷ after in
-      let t = ap (λ z. done ++ z) (whole text q) ∙ sym (append_assoc done (b ∷ []) text) in
-      let more = single_text l first (done ++ b ∷ []) name after cs (all_joined (λ x. eqb x single_quote ≡ false) done (b ∷ []) h (q, tt)) e (subst (λ z. AreCharacters z cs) t r) in
-      subst (λ z. IsRestAs l first ((single_quote ∷ []) ∷ cs) z after) (append_assoc done (b ∷ []) name) more
+  | inr q ↦ elim (cases_Bool (line && eqb b caret)) [
+    | inl f ↦
+        let s = subst (λ z. AreCharacters (done ++ z) cs) (apart q f) r in
+        let p = at_quote done (single_quote ∷ b ∷ text) cs s in
+        let x = first_is single_quote (b ∷ text) p.rest (omega arith) p.rest_are in
+        let again = single_read l false (eqb b newline) (b ∷ []) name after x.rest (q, tt) e x.rest_are in
+        let all = same (sym x.is) refl again.reads in
+        record { rest = again.rest; rest_are = again.rest_are; reads = closed l first done (single_quote ∷ b ∷ text) cs (b ∷ name) again.rest h p all }
+    | inr f ↦
+        let t = ap (λ z. done ++ z) (whole q f) ∙ sym (append_assoc done (b ∷ []) text) in
+        let more = single_read l first (eqb b newline) (done ++ b ∷ []) name after cs (all_joined (λ x. eqb x single_quote ≡ false) done (b ∷ []) h (q, tt)) e (subst (λ z. AreCharacters z cs) t r) in
+        subst (λ z. IsRestAs l first ((single_quote ∷ []) ∷ cs) z after) (append_assoc done (b ∷ []) name) more
+  ]
 ]
   where
-    whole : (text : List ℕ) → eqb b single_quote ≡ false → flat_map single_byte (b ∷ name) ++ single_quote ∷ after ≡ b ∷ (flat_map single_byte name ++ single_quote ∷ after)
-    whole text q = rw q refl
+    text : List ℕ
+    text = single_text (eqb b newline) name ++ single_quote ∷ after
+
+    whole : eqb b single_quote ≡ false → line && eqb b caret ≡ false → single_text line (b ∷ name) ++ single_quote ∷ after ≡ b ∷ text
+    whole q f = rw (q, f) refl
+
+    -- the quotes end and begin again before it
+    apart : eqb b single_quote ≡ false → line && eqb b caret ≡ true → single_text line (b ∷ name) ++ single_quote ∷ after ≡ single_quote ∷ single_quote ∷ b ∷ text
+    apart q f = rw (q, f) refl
 
 pub single_is : (l : Language) (name : List ℕ) → IsCharacterText l (single_quoted name) name
 single_is l name after cs e r =
-    let t = append_assoc (flat_map single_byte name) (single_quote ∷ []) after in
-    let f = first_is single_quote (flat_map single_byte name ++ single_quote ∷ after) cs (omega arith) (subst (λ z. AreCharacters (single_quote ∷ z) cs) t r) in
-    let i = single_text l true [] name after f.rest tt e f.rest_are in
+    let t = append_assoc (single_text false name) (single_quote ∷ []) after in
+    let f = first_is single_quote (single_text false name ++ single_quote ∷ after) cs (omega arith) (subst (λ z. AreCharacters (single_quote ∷ z) cs) t r) in
+    let i = single_read l true false [] name after f.rest tt e f.rest_are in
     subst (λ z. IsReadAs l z name after) (sym f.is) (record { rest = i.rest; rest_are = i.rest_are; begins = begins_with single_quote f.rest refl (λ g. omega (arith, g)); reads = i.reads })
 
 -- ---- bytes that mean themselves

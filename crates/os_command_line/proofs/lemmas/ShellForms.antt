@@ -6,8 +6,8 @@ use Rattle.std.proofs.lemmas.List.{take_all, drop_more, length-take-le}
 use Rattle.memchr.specs.Find.{NoneBefore, Nowhere, Passes, is_byte}
 use Rattle.os_command_line.specs.Fish.{is_escaped}
 use Rattle.os_command_line.specs.Shell.{single_quote, HasNoQuote}
-use Rattle.os_command_line.specs.ShellSteps.{AreShown, IsCutAtEscaped, IsCutAtQuote}
-use Rattle.os_command_line.specs.ShellWriting.{is_plain, are_plain, HasNoNul, IsFirstNul}
+use Rattle.os_command_line.specs.ShellSteps.{AreShown, AreUnmarked, IsCutAtEscaped, IsCutAtMarked, IsCutAtQuote}
+use Rattle.os_command_line.specs.ShellWriting.{is_marked, is_plain, are_plain, HasNoNul, IsFirstNul}
 
 -- where no byte before an index passes a test
 module _ (test : ℕ → Bool) (P : ℕ → Type 0) (other : (x : ℕ) → ¬ (test x ≡ true) → P x) where
@@ -44,6 +44,15 @@ no_quote_found bytes h = nowhere (is_byte single_quote) (λ x. eqb x single_quot
 
 pub quote_found : (bytes : List ℕ) (i : ℕ) → NoneBefore (Passes (is_byte single_quote) bytes) 0 (length bytes) i × Passes (is_byte single_quote) bytes i → IsCutAtQuote bytes (take i bytes) (drop (i + 1) bytes)
 quote_found bytes i h = record { none_before = before_first (is_byte single_quote) (λ x. eqb x single_quote ≡ false) not_quote bytes i h.0; joined = cut_at single_quote bytes i h.0.high h.1 }
+
+not_marked : (x : ℕ) → ¬ (is_marked x ≡ true) → is_marked x ≡ false
+not_marked x n = elim (cases_Bool (is_marked x)) [ inl e ↦ absurd (n e) | inr e ↦ e ]
+
+pub none_marked : (bytes : List ℕ) → Nowhere (Passes is_marked bytes) 0 (length bytes) → AreUnmarked bytes
+none_marked bytes h = nowhere is_marked (λ x. is_marked x ≡ false) not_marked bytes h
+
+pub marked_found : (bytes : List ℕ) (i : ℕ) → NoneBefore (Passes is_marked bytes) 0 (length bytes) i × Passes is_marked bytes i → IsCutAtMarked bytes (take i bytes) (get_or bytes i 0) (drop (i + 1) bytes)
+marked_found bytes i h = record { unmarked_before = before_first is_marked (λ x. is_marked x ≡ false) not_marked bytes i h.0; marked = h.1; joined = cut_here bytes i h.0.high }
 
 not_escaped : (x : ℕ) → ¬ (is_escaped x ≡ true) → is_escaped x ≡ false
 not_escaped x n = elim (cases_Bool (is_escaped x)) [ inl e ↦ absurd (n e) | inr e ↦ e ]

@@ -20,13 +20,13 @@ use Rattle.os_str_ext.specs.declared.symbols.Symbol.TheVariants as symbol
 use Rattle.os_str_ext.proofs.lemmas.EachChunk.{are_chunks_of}
 use Rattle.os_quote.specs.Shown.{stays_on_line}
 use Rattle.os_command_line.specs.declared.shell.language.Language.{Language}
-use Rattle.os_command_line.specs.Shell.{single_quote, backslash, dollar, IsTextOf, language}
-use Rattle.os_command_line.specs.ShellWriting.{AreBytes, HasNoNul, is_plain_name, single_byte, single_quoted, quoted_word, letter_for, octal_text, shown_or_octal, character_text, symbol_text, is_escape, is_high, text_after, dollar_text, IsDollarWord, IsLineText, IsLineWord}
+use Rattle.os_command_line.specs.Shell.{single_quote, backslash, dollar, newline, IsTextOf, language}
+use Rattle.os_command_line.specs.ShellWriting.{AreBytes, HasNoNul, is_plain_name, single_byte, single_text, single_quoted, quoted_word, letter_for, octal_text, shown_or_octal, character_text, symbol_text, is_escape, is_high, text_after, dollar_text, IsDollarWord, IsLineText, IsLineWord}
 use Rattle.os_command_line.proofs.lemmas.CharacterForms.{text_form, each_of}
 use Rattle.os_command_line.proofs.lemmas.Lists.{all_joined}
 use Rattle.os_command_line.proofs.lemmas.ShellDollar.{dollar_is}
 use Rattle.os_command_line.proofs.lemmas.ShellRoundTrip.{word_is_text, one_word}
-use Rattle.os_command_line.proofs.lemmas.ShellWritten.{by_letter, single_plain, single_len, dollar_word_len}
+use Rattle.os_command_line.proofs.lemmas.ShellWritten.{by_letter, on_one_line, single_plain, single_len, dollar_word_len}
 
 -- ---- texts on one line, one after the other
 
@@ -84,10 +84,10 @@ one_character c s e =
     (u, subst (AllByRecursion IsStaying) (sym one) (e, tt))
 
 abbrev IsSingleOnLine : ℕ → Type 0
-IsSingleOnLine c = IsLineText (flat_map single_byte (encode_utf8 c))
+IsSingleOnLine c = IsLineText (flat_map (single_byte false) (encode_utf8 c))
 
 single_mark : IsSingleOnLine single_quote
-single_mark = subst (λ z. IsLineText (flat_map single_byte z)) (sym (encode_ascii single_quote (omega arith))) (ascii (single_quote ∷ backslash ∷ single_quote ∷ single_quote ∷ []) (mark, (slash, (mark, (mark, tt)))))
+single_mark = subst (λ z. IsLineText (flat_map (single_byte false) z)) (sym (encode_ascii single_quote (omega arith))) (ascii (single_quote ∷ backslash ∷ single_quote ∷ single_quote ∷ []) (mark, (slash, (mark, (mark, tt)))))
 
 single_character : (c : ℕ) → IsScalar c → stays_on_line c ≡ true → IsSingleOnLine c
 single_character c s e = elim (cases_Bool (eqb c single_quote)) [
@@ -95,18 +95,31 @@ single_character c s e = elim (cases_Bool (eqb c single_quote)) [
   | inr q ↦ subst IsLineText (sym (single_plain (encode_utf8 c) (each_of (λ b. eqb b single_quote ≡ false) (λ b h. ne_eqb b single_quote (λ f. omega (arith, f, h))) encode_utf8 text_form c q))) (one_character c s e)
 ]
 
-single_characters : (cs : List ℕ) → all_scalars cs ≡ true → AllByRecursion IsStaying cs → IsLineText (flat_map single_byte (encode_utf8_all cs))
+single_characters : (cs : List ℕ) → all_scalars cs ≡ true → AllByRecursion IsStaying cs → IsLineText (flat_map (single_byte false) (encode_utf8_all cs))
 single_characters [] s e = no_text
 single_characters (c ∷ cs) s e =
     let p = and_parts _ (all_scalars cs) s in
-    subst IsLineText (sym (flat_map-append single_byte (encode_utf8 c) (encode_utf8_all cs))) (both (flat_map single_byte (encode_utf8 c)) (flat_map single_byte (encode_utf8_all cs)) (single_character c p.0 e.0) (single_characters cs p.1 e.1))
+    subst IsLineText (sym (flat_map-append (single_byte false) (encode_utf8 c) (encode_utf8_all cs))) (both (flat_map (single_byte false) (encode_utf8 c)) (flat_map (single_byte false) (encode_utf8_all cs)) (single_character c p.0 e.0) (single_characters cs p.1 e.1))
+
+-- no newline is in what stays on the line
+no_newline : (c : ℕ) → stays_on_line c ≡ true → AllByRecursion (λ b. eqb b newline ≡ false) (encode_utf8 c)
+no_newline c e = elim (cases_Bool (eqb c newline)) [
+  | inl q ↦ absurd (true≢false (sym e ∙ ap stays_on_line (eqb-true c newline q)))
+  | inr q ↦ each_of (λ b. eqb b newline ≡ false) (λ b h. ne_eqb b newline (λ f. omega (arith, f, h))) encode_utf8 text_form c q
+]
+
+no_newlines : (cs : List ℕ) → AllByRecursion IsStaying cs → AllByRecursion (λ b. eqb b newline ≡ false) (encode_utf8_all cs)
+no_newlines [] e = tt
+no_newlines (c ∷ cs) e = all_joined (λ b. eqb b newline ≡ false) (encode_utf8 c) (encode_utf8_all cs) (no_newline c e.0) (no_newlines cs e.1)
 
 single_on_line : (name : List ℕ) → IsLineText name → IsLineText (single_quoted name)
 single_on_line name t =
     let u = t.0 in
-    let inner = subst (λ z. IsLineText (flat_map single_byte z)) u.1.1 (single_characters u.0 u.1.0 (subst (AllByRecursion IsStaying) (sym (chars_from_encodes u.0 name u u.1.1)) t.1)) in
+    let staying = subst (AllByRecursion IsStaying) (sym (chars_from_encodes u.0 name u u.1.1)) t.1 in
+    let lines = on_one_line name (subst (AllByRecursion (λ b. eqb b newline ≡ false)) u.1.1 (no_newlines u.0 staying)) in
+    let inner = subst IsLineText (sym lines) (subst (λ z. IsLineText (flat_map (single_byte false) z)) u.1.1 (single_characters u.0 u.1.0 staying)) in
     let quote = ascii (single_quote ∷ []) (mark, tt) in
-    both (single_quote ∷ []) (flat_map single_byte name ++ single_quote ∷ []) quote (both (flat_map single_byte name) (single_quote ∷ []) inner quote)
+    both (single_quote ∷ []) (single_text false name ++ single_quote ∷ []) quote (both (single_text false name) (single_quote ∷ []) inner quote)
 
 word_on_line : (name : List ℕ) → IsLineText name → IsLineText (quoted_word name)
 word_on_line name t = elim (cases_Bool (is_plain_name name)) [

@@ -1,18 +1,18 @@
 -- What is written is read back.
 use Rattle.std.proofs.Common.{◌≡◌, ◌≢◌, ℕ, ◌<◌, Bool, true, false, not, ◌||◌, ◌&&◌, eqb, List, [], ◌∷◌, ◌++◌, map, length, refl, sym, ap, ◌∙◌, subst, arith, append_assoc, append-nil, Ok, inl, inr}
-use Rattle.std.specs.List.{All, AllByRecursion, flat_map}
+use Rattle.std.specs.List.{All, AllByRecursion}
 use Rattle.std.proofs.lemmas.Bool.Decides.{nat_tests}
 use Rattle.std.proofs.lemmas.List.Elements.{recursion_from_All}
 use Rattle.wtf8_core.specs.Byte.{IsByte}
 use Rattle.std.proofs.lemmas.Bool.{cases_Bool, true≢false, and_parts, not-true, eqb-true}
 use Rattle.wtf8_core.proofs.lemmas.vectors.ComputedTests.{all_below, each_below}
 use Rattle.os_command_line.specs.declared.shell.language.Language.{Language}
-use Rattle.os_command_line.specs.Shell.{single_quote, backslash, dollar, is_mark, is_blank, is_operator, is_pattern, is_history, is_special, begins_quote, opens_dollar, IsBare, HasNoQuote, Outcome, Ends, Reads, Begins, AreItems, IsRead, AreWords, IsTextOf}
+use Rattle.os_command_line.specs.Shell.{single_quote, backslash, dollar, newline, is_mark, is_blank, is_operator, is_pattern, is_history, is_special, begins_quote, opens_dollar, IsBare, HasNoQuote, Outcome, Ends, Reads, Begins, AreItems, IsRead, AreWords, IsTextOf}
 use Rattle.os_command_line.specs.Shell.Outcome.{Word, Fault}
 use Rattle.os_command_line.specs.Shell.IsGap.{no_gap, blank}
 use Rattle.os_command_line.specs.Shell.Reads.{ends, bare, escaped, single}
 use Rattle.os_command_line.specs.ReservedWords.{is_reserved, first_word, line_words}
-use Rattle.os_command_line.specs.ShellWriting.{AreBytes, is_plain, are_plain, is_plain_name, single_byte, single_quoted, quoted_word, after_first, join_words}
+use Rattle.os_command_line.specs.ShellWriting.{AreBytes, is_plain, are_plain, is_plain_name, caret, single_text, single_quoted, quoted_word, after_first, join_words}
 use Rattle.os_command_line.proofs.lemmas.Lists.{no_cons, one_more}
 use Rattle.os_command_line.proofs.lemmas.ShellOneReading.{one_reading, and_none, or_false}
 use Rattle.os_command_line.proofs.lemmas.ShellEachLine.{same}
@@ -75,26 +75,38 @@ plain_begins : (b : ℕ) (text : List ℕ) → b < 0x100 → is_plain b ≡ true
 plain_begins b text lt p = let h = plain_is b lt p in begins_with b text h.1 (λ e. true≢false (sym (subst (λ z. is_mark z ≡ true) (sym e) refl) ∙ h.0))
 
 -- in single quotes, after some bytes
-single_text : (l : Language) (first : Bool) (done name after : List ℕ) → HasNoQuote done → Ends after → Reads l first (single_quote ∷ (done ++ (flat_map single_byte name ++ single_quote ∷ after))) (Word (done ++ name) after)
-single_text l first done [] after h e = single first done after (Word [] after) h (ends false after e)
-single_text l first done (b ∷ name) after h e = elim (cases_Bool (eqb b single_quote)) [
-  | inl q ↦ let rest = flat_map single_byte name ++ single_quote ∷ after in
-      let again = single_text l false [] name after tt e in
+single_read : (l : Language) (first line : Bool) (done name after : List ℕ) → HasNoQuote done → Ends after → Reads l first (single_quote ∷ (done ++ (single_text line name ++ single_quote ∷ after))) (Word (done ++ name) after)
+single_read l first line done [] after h e = single first done after (Word [] after) h (ends false after e)
+single_read l first line done (b ∷ name) after h e = elim (cases_Bool (eqb b single_quote)) [
+  | inl q ↦ let rest = single_text false name ++ single_quote ∷ after in
+      let again = single_read l false false [] name after tt e in
       let f = eqb-true b single_quote q in
-      subst (λ x. Reads l first (single_quote ∷ (done ++ (flat_map single_byte (x ∷ name) ++ single_quote ∷ after))) (Word (done ++ x ∷ name) after)) (sym f)
+      subst (λ x. Reads l first (single_quote ∷ (done ++ (single_text line (x ∷ name) ++ single_quote ∷ after))) (Word (done ++ x ∷ name) after)) (sym f)
       (single first done (backslash ∷ single_quote ∷ single_quote ∷ rest) (Word (single_quote ∷ name) after) h (escaped false single_quote (single_quote ∷ rest) (Word name after) refl again))
-  | inr q ↦ let rest = flat_map single_byte name ++ single_quote ∷ after in
-      let more = single_text l first (done ++ b ∷ []) name after (one_more (λ x. eqb x single_quote ≡ false) done b h q) e in
-      same (ap (λ z. single_quote ∷ z) (append_assoc done (b ∷ []) rest ∙ ap (λ z. done ++ z) (sym (whole q)))) (ap (λ z. Word z after) (append_assoc done (b ∷ []) name)) more
+  | inr q ↦ elim (cases_Bool (line && eqb b caret)) [
+    | inl f ↦
+        let again = single_read l false (eqb b newline) (b ∷ []) name after (q, tt) e in
+        same (ap (λ z. single_quote ∷ (done ++ z)) (sym (apart q f))) refl (single first done (single_quote ∷ b ∷ rest) (Word (b ∷ name) after) h again)
+    | inr f ↦
+        let more = single_read l first (eqb b newline) (done ++ b ∷ []) name after (one_more (λ x. eqb x single_quote ≡ false) done b h q) e in
+        same (ap (λ z. single_quote ∷ z) (append_assoc done (b ∷ []) rest ∙ ap (λ z. done ++ z) (sym (whole q f)))) (ap (λ z. Word z after) (append_assoc done (b ∷ []) name)) more
+  ]
 ]
   where
-    whole : eqb b single_quote ≡ false → flat_map single_byte (b ∷ name) ++ single_quote ∷ after ≡ b ∷ (flat_map single_byte name ++ single_quote ∷ after)
-    whole q = rw q refl
+    rest : List ℕ
+    rest = single_text (eqb b newline) name ++ single_quote ∷ after
+
+    whole : eqb b single_quote ≡ false → line && eqb b caret ≡ false → single_text line (b ∷ name) ++ single_quote ∷ after ≡ b ∷ rest
+    whole q f = rw (q, f) refl
+
+    -- the quotes end and begin again before it
+    apart : eqb b single_quote ≡ false → line && eqb b caret ≡ true → single_text line (b ∷ name) ++ single_quote ∷ after ≡ single_quote ∷ single_quote ∷ b ∷ rest
+    apart q f = rw (q, f) refl
 
 pub single_is : (l : Language) (name : List ℕ) → IsTextOf l (single_quoted name) name
 single_is l name after e = (
-  begins_with single_quote ((flat_map single_byte name ++ single_quote ∷ []) ++ after) refl (λ f. omega (arith, f)),
-  same (ap (λ z. single_quote ∷ z) (sym (append_assoc (flat_map single_byte name) (single_quote ∷ []) after))) refl (single_text l true [] name after tt e),
+  begins_with single_quote ((single_text false name ++ single_quote ∷ []) ++ after) refl (λ f. omega (arith, f)),
+  same (ap (λ z. single_quote ∷ z) (sym (append_assoc (single_text false name) (single_quote ∷ []) after))) refl (single_read l true false [] name after tt e),
 )
 
 plain_is_text : (l : Language) (name : List ℕ) → AreBytes name → is_plain_name name ≡ true → IsTextOf l name name

@@ -1,10 +1,9 @@
 -- Words as they are written, and how long they are.
-use Rattle.std.proofs.Common.{◌≡◌, ℕ, ◌+◌, ◌*◌, ◌<◌, ◌≤◌, Bool, true, false, ◌&&◌, eqb, List, [], ◌∷◌, ◌++◌, length, refl, sym, ap, ◌∙◌, subst, arith, append_assoc, length-append, inl, inr, ltb, Some}
+use Rattle.std.proofs.Common.{◌≡◌, ◌≢◌, ◌⊎◌, ℕ, ◌+◌, ◌*◌, ◌<◌, ◌≤◌, Bool, true, false, ◌&&◌, eqb, List, [], ◌∷◌, ◌++◌, length, refl, sym, ap, ◌∙◌, subst, arith, append_assoc, append-nil, length-append, if◌then◌else◌, inl, inr, ltb, Some}
 use Rattle.std.specs.Char.{encode_utf8}
-use Rattle.std.specs.List.{All, flat_map}
+use Rattle.std.specs.List.{All, AllByRecursion, flat_map}
 use Rattle.std.proofs.lemmas.Bool.{cases_Bool, eqb-true}
 use Rattle.std.proofs.lemmas.Bool.Decides.{nat_tests}
-use Rattle.std.proofs.lemmas.Grind.{flat_map-append}
 use Rattle.std.proofs.lemmas.Str.{length-encode, len_utf8_bounds}
 use Rattle.wtf8_core.specs.Byte.{IsByte}
 use Rattle.wtf8_core.specs.PartUnits.{unit_bytes}
@@ -19,50 +18,91 @@ use Rattle.wtf8_core.proofs.lemmas.chunks.OneList.{some_chunks}
 use Rattle.os_str_ext.specs.Chunks.{chunks_of}
 use Rattle.os_str_ext.proofs.lemmas.SymbolBytes.{symbols_joined}
 use Rattle.os_quote.specs.Shown.{stays_on_line}
-use Rattle.os_command_line.specs.Shell.{single_quote, backslash, escape_meaning, HasNoQuote}
-use Rattle.os_command_line.specs.ShellSteps.{IsCutAtQuote, form_text}
+use Rattle.os_command_line.specs.Shell.{single_quote, backslash, newline, escape_meaning, HasNoQuote}
+use Rattle.os_command_line.specs.ShellSteps.{AreUnmarked, IsCutAtMarked, ends_line, form_text}
 use Rattle.os_command_line.specs.declared.shell.form.Form.{Form}
 use Rattle.os_command_line.specs.declared.shell.form.Form.TheVariants.{Bare, Single, Dollar}
-use Rattle.os_command_line.specs.ShellWriting.{single_byte, single_quoted, letter_for, octal_text, shown_or_octal, character_text, symbol_text, is_escape, is_high, text_after, dollar_text, IsDollarWord}
-use Rattle.os_command_line.proofs.lemmas.ShellOneReading.{and_none}
+use Rattle.os_command_line.specs.ShellWriting.{caret, is_marked, single_byte, single_text, single_quoted, letter_for, octal_text, shown_or_octal, character_text, symbol_text, is_escape, is_high, text_after, dollar_text, IsDollarWord}
+use Rattle.os_command_line.proofs.lemmas.ShellOneReading.{and_none, or_false, or_true}
 
 -- ---- single quotes
 
--- a single quote in single quotes
-abbrev pub quote_text : List ℕ
-quote_text = single_quote ∷ backslash ∷ single_quote ∷ single_quote ∷ []
+as_it_is : (first : Bool) (b : ℕ) → is_marked b ≡ false → single_byte first b ≡ b ∷ []
+as_it_is true b e = let n = or_false (eqb b single_quote) (eqb b caret) e in rw (n.0, n.1) refl
+as_it_is false b e = let n = or_false (eqb b single_quote) (eqb b caret) e in rw n.0 refl
 
-pub single_plain : (bytes : List ℕ) → HasNoQuote bytes → flat_map single_byte bytes ≡ bytes
-single_plain [] h = refl
-single_plain (b ∷ bytes) h = rw h.0 (ap (λ z. b ∷ z) (single_plain bytes h.1))
-
--- up to the first quote and after it
-single_cut : (bytes prefix after : List ℕ) → IsCutAtQuote bytes prefix after → flat_map single_byte bytes ≡ prefix ++ (quote_text ++ flat_map single_byte after)
-single_cut bytes prefix after k =
-    ap (flat_map single_byte) k.joined ∙ flat_map-append single_byte prefix (single_quote ∷ after) ∙ ap (λ z. z ++ (quote_text ++ flat_map single_byte after)) (single_plain prefix k.none_before)
+-- bytes that are written as they are, and what follows them
+unmarked_text : (first : Bool) (a b : List ℕ) → AreUnmarked a → single_text first (a ++ b) ≡ a ++ single_text (ends_line first a) b
+unmarked_text first [] b h = refl
+unmarked_text first (x ∷ a) b h = ap (λ z. z ++ single_text (eqb x newline) (a ++ b)) (as_it_is first x h.0) ∙ ap (λ z. x ∷ z) (unmarked_text (eqb x newline) a b h.1)
 
 -- what comes after the first single quote
 abbrev pub inner_text : List ℕ → List ℕ
-inner_text bytes = flat_map single_byte bytes ++ single_quote ∷ []
+inner_text bytes = single_text false bytes ++ single_quote ∷ []
 
-pub cut_text : (bytes prefix after : List ℕ) → IsCutAtQuote bytes prefix after → inner_text bytes ≡ prefix ++ (quote_text ++ inner_text after)
-cut_text bytes prefix after k = ap (λ z. z ++ single_quote ∷ []) (single_cut bytes prefix after k) ∙ append_assoc prefix (quote_text ++ flat_map single_byte after) (single_quote ∷ [])
+pub marked_low : (b : ℕ) → is_marked b ≡ true → b < 0x80
+marked_low b e = grind (arith, nat_tests)
 
-pub shown_text : (bytes : List ℕ) → HasNoQuote bytes → inner_text bytes ≡ bytes ++ single_quote ∷ []
-shown_text bytes h = ap (λ z. z ++ single_quote ∷ []) (single_plain bytes h)
+not_newline : (b : ℕ) → is_marked b ≡ true → eqb b newline ≡ false
+not_newline b e = grind (arith, nat_tests)
 
-pub cut_shorter : (bytes prefix after : List ℕ) → IsCutAtQuote bytes prefix after → length after < length bytes
-cut_shorter bytes prefix after k = omega (arith, ap length k.joined, length-append prefix (single_quote ∷ after))
+-- up to the first byte that isn't written as it is, and after it
+pub cut_text : (bytes prefix after : List ℕ) (b : ℕ) → IsCutAtMarked bytes prefix b after → inner_text bytes ≡ prefix ++ (single_byte (ends_line false prefix) b ++ inner_text after)
+cut_text bytes prefix after b k =
+    let first = ends_line false prefix in
+    let next = ap (λ z. single_byte first b ++ single_text z after) (not_newline b k.marked) in
+    ap (λ z. z ++ single_quote ∷ []) (ap (single_text false) k.joined ∙ unmarked_text false prefix (b ∷ after) k.unmarked_before ∙ ap (λ z. prefix ++ z) next)
+    ∙ append_assoc prefix (single_byte first b ++ single_text false after) (single_quote ∷ [])
+    ∙ ap (λ z. prefix ++ z) (append_assoc (single_byte first b) (single_text false after) (single_quote ∷ []))
 
-byte_len : (b : ℕ) → length (single_byte b) ≤ 4
-byte_len b = elim (cases_Bool (eqb b single_quote)) [ inl e ↦ rw e (omega arith) | inr e ↦ rw e (omega arith) ]
+pub shown_text : (bytes : List ℕ) → AreUnmarked bytes → inner_text bytes ≡ bytes ++ single_quote ∷ []
+shown_text bytes h = ap (λ z. z ++ single_quote ∷ []) (ap (single_text false) (sym (append-nil bytes)) ∙ unmarked_text false bytes [] h ∙ append-nil bytes)
 
-pub bytes_len : (bytes : List ℕ) → length (flat_map single_byte bytes) ≤ 4 * length bytes
-bytes_len [] = omega arith
-bytes_len (b ∷ bytes) = omega (arith, byte_len b, bytes_len bytes, length-append (single_byte b) (flat_map single_byte bytes))
+pub cut_shorter : (bytes prefix after : List ℕ) (b : ℕ) → IsCutAtMarked bytes prefix b after → length after < length bytes
+cut_shorter bytes prefix after b k = omega (arith, ap length k.joined, length-append prefix (b ∷ after))
+
+last_decides : (first : Bool) (xs : List ℕ) (x : ℕ) → ends_line first (xs ++ x ∷ []) ≡ eqb x newline
+last_decides first [] x = refl
+last_decides first (y ∷ xs) x = last_decides (eqb y newline) xs x
+
+pub last_on_line : (bytes before : List ℕ) (last : ℕ) → bytes ≡ before ++ last ∷ [] → ends_line false bytes ≡ eqb last newline
+last_on_line bytes before last e = ap (ends_line false) e ∙ last_decides false before last
+
+pub marked_quote : (first : Bool) (b : ℕ) → b ≡ single_quote → single_byte first b ≡ single_quote ∷ backslash ∷ single_quote ∷ single_quote ∷ []
+marked_quote first b e = ap (single_byte first) e
+
+pub marked_caret : (first : Bool) (b : ℕ) → is_marked b ≡ true → b ≢ single_quote → single_byte first b ≡ (if first then single_quote ∷ single_quote ∷ caret ∷ [] else caret ∷ [])
+marked_caret first b e n = ap (single_byte first) (is_caret (or_true (eqb b single_quote) (eqb b caret) e)) ∙ by first
+  where
+    is_caret : (eqb b single_quote ≡ true) ⊎ (eqb b caret ≡ true) → b ≡ caret
+    is_caret (inl q) = absurd (n (eqb-true b single_quote q))
+    is_caret (inr q) = eqb-true b caret q
+
+    by : (first : Bool) → single_byte first caret ≡ (if first then single_quote ∷ single_quote ∷ caret ∷ [] else caret ∷ [])
+    by true = refl
+    by false = refl
+
+-- text without newlines has no line but the first
+pub on_one_line : (bytes : List ℕ) → AllByRecursion (λ b. eqb b newline ≡ false) bytes → single_text false bytes ≡ flat_map (single_byte false) bytes
+on_one_line [] h = refl
+on_one_line (b ∷ bytes) h = ap (λ z. single_byte false b ++ single_text z bytes) h.0 ∙ ap (λ z. single_byte false b ++ z) (on_one_line bytes h.1)
+
+pub single_plain : (bytes : List ℕ) → HasNoQuote bytes → flat_map (single_byte false) bytes ≡ bytes
+single_plain [] h = refl
+single_plain (b ∷ bytes) h = rw h.0 (ap (λ z. b ∷ z) (single_plain bytes h.1))
+
+byte_len : (first : Bool) (b : ℕ) → length (single_byte first b) ≤ 4
+byte_len first b = elim (cases_Bool (eqb b single_quote)) [
+  | inl e ↦ rw e (omega arith)
+  | inr e ↦ elim (cases_Bool (first && eqb b caret)) [ inl f ↦ rw (e, f) (omega arith) | inr f ↦ rw (e, f) (omega arith) ]
+]
+
+pub bytes_len : (first : Bool) (bytes : List ℕ) → length (single_text first bytes) ≤ 4 * length bytes
+bytes_len first [] = omega arith
+bytes_len first (b ∷ bytes) = omega (arith, byte_len first b, bytes_len (eqb b newline) bytes, length-append (single_byte first b) (single_text (eqb b newline) bytes))
 
 pub single_len : (name : List ℕ) → length (single_quoted name) ≤ 4 * length name + 3
-single_len name = omega (arith, bytes_len name, length-append (flat_map single_byte name) (single_quote ∷ []))
+single_len name = omega (arith, bytes_len false name, length-append (single_text false name) (single_quote ∷ []))
 
 -- ---- dollar-single-quotes
 

@@ -1,10 +1,11 @@
 -- Whether a path is a batch file's, unit by unit.
-use Rattle.std.proofs.Common.{◌≡◌, ◌≢◌, ℕ, ◌≤◌, Bool, true, false, List, [], ◌∷◌, length, refl, sym, ◌∙◌, subst, arith, inl, inr}
+use Rattle.std.proofs.Common.{◌≡◌, ◌≢◌, ℕ, ◌≤◌, Bool, true, false, ◌||◌, ◌&&◌, List, [], ◌∷◌, length, refl, sym, ◌∙◌, subst, arith, inl, inr}
 use Rattle.std.specs.Prelude.{◌⊎◌, ◌↔◌, IsTrue}
 use Rattle.std.specs.List.{AllByRecursion}
 use Rattle.std.proofs.lemmas.Bool.{true≢false}
-use Rattle.os_command_line.specs.WindowsBatch.{IsLetter, IsBatchExtension, IsVerbatim, EndsAsBatch}
-use Rattle.os_command_line.specs.WindowsBatch.EndsAsBatch.{here, later}
+use Rattle.os_command_line.specs.WindowsBatch.{IsLetter, IsBatchExtension, IsVerbatim, EndsAsBatch, EndsInDots, is_separator}
+use Rattle.os_command_line.specs.WindowsBatch.EndsAsBatch.{here as batch_here, later as batch_later}
+use Rattle.os_command_line.specs.WindowsBatch.EndsInDots.{here, later}
 use Rattle.os_command_line.specs.WindowsSteps.{TakesUnit, BeginsVerbatim}
 
 -- the last three units are these, those before them end as a batch file's or not, and the others come after them
@@ -23,25 +24,25 @@ no_dot_by u e f = omega (arith, e, f)
 
 module _ {D : ℕ → Type 0} where
   no_dot : (u : ℕ) (us : List ℕ) → u ≢ 0x2E → EndsAsBatch D (u ∷ us) → EndsAsBatch D us
-  no_dot _ _ n (here x y z after h d) = absurd (n refl)
-  no_dot _ _ n (later u us e) = e
+  no_dot _ _ n (batch_here x y z after h d) = absurd (n refl)
+  no_dot _ _ n (batch_later u us e) = e
 
   inverted : (dot x y z : ℕ) (after : List ℕ) → EndsAsBatch D (dot ∷ x ∷ y ∷ z ∷ after) → ((dot ≡ 0x2E) × (IsBatchExtension x y z × AllByRecursion D after)) ⊎ EndsAsBatch D (x ∷ y ∷ z ∷ after)
-  inverted _ _ _ _ _ (here x y z after h d) = inl (refl, (h, d))
-  inverted _ _ _ _ _ (later u us e) = inr e
+  inverted _ _ _ _ _ (batch_here x y z after h d) = inl (refl, (h, d))
+  inverted _ _ _ _ _ (batch_later u us e) = inr e
 
   begun : (dot x y z : ℕ) (after : List ℕ) → dot ≡ 0x2E → IsBatchExtension x y z → AllByRecursion D after → EndsAsBatch D (dot ∷ x ∷ y ∷ z ∷ after)
-  begun dot x y z after e h d = subst (λ u. EndsAsBatch D (u ∷ x ∷ y ∷ z ∷ after)) (sym e) (here x y z after h d)
+  begun dot x y z after e h d = subst (λ u. EndsAsBatch D (u ∷ x ∷ y ∷ z ∷ after)) (sym e) (batch_here x y z after h d)
 
   long : (us : List ℕ) → EndsAsBatch D us → 4 ≤ length us
-  long _ (here x y z after h d) = omega arith
-  long _ (later u us e) = omega (arith, long us e)
+  long _ (batch_here x y z after h d) = omega arith
+  long _ (batch_later u us e) = omega (arith, long us e)
 
   too_short : (dot first second : ℕ) → EndsAsBatch D (dot ∷ first ∷ second ∷ []) → ⊥
   too_short dot first second e = omega (arith, long (dot ∷ first ∷ second ∷ []) e)
 
   pub none_read : (all left : List ℕ) → left ≡ all → IsRest D all false 0 0 0 left
-  none_read all left e = subst (λ us. IsRest D us false 0 0 0 left) e (whole, λ h. inr (later 0 _ (later 0 _ (later 0 _ h))))
+  none_read all left e = subst (λ us. IsRest D us false 0 0 0 left) e (whole, λ h. inr (batch_later 0 _ (batch_later 0 _ (batch_later 0 _ h))))
     where
       whole : Rest D false 0 0 0 left → EndsAsBatch D left
       whole (inl h) = absurd (not_true false refl h.0)
@@ -66,7 +67,7 @@ module _ {D : ℕ → Type 0} where
 
       back : Rest D next first second u more → Rest D is_batch dot first second (u ∷ more)
       back (inl h) = let known = is.0 h.0 in inr (begun dot first second u more known.0 known.1 h.1)
-      back (inr h) = inr (later dot _ h)
+      back (inr h) = inr (batch_later dot _ h)
 
       forth : Rest D is_batch dot first second (u ∷ more) → Rest D next first second u more
       forth (inl h) = absurd (n h.1.0)
@@ -92,7 +93,7 @@ module _ {D : ℕ → Type 0} where
 
       back : Rest D is_batch first second u more → Rest D is_batch dot first second (u ∷ more)
       back (inl h) = inl (h.0, (d, h.1))
-      back (inr h) = inr (later dot _ h)
+      back (inr h) = inr (batch_later dot _ h)
 
       forth : Rest D is_batch dot first second (u ∷ more) → Rest D is_batch first second u more
       forth (inl h) = inl (h.0, h.1.1)
@@ -100,6 +101,79 @@ module _ {D : ℕ → Type 0} where
         | inl k ↦ absurd (no_extension k.1.0)
         | inr k ↦ inr k
       ]
+
+-- ---- a last component of dots
+
+-- what is known of the component so far: it has only units that are dropped, and so are those that are left; or the last component is to come
+abbrev pub Left : (ℕ → Type 0) → Bool → Bool → List ℕ → Type 0
+Left D first dots left = (IsTrue dots × AllByRecursion D left) ⊎ EndsInDots D first left
+
+begun_so : (first dots : Bool) → IsTrue dots → IsTrue (first || dots)
+begun_so true dots t = refl
+begun_so false dots t = t
+
+-- which is what the whole path is asked
+abbrev pub IsLeft : (ℕ → Type 0) → List ℕ → Bool → Bool → List ℕ → Type 0
+IsLeft D all first dots left = Left D first dots left ↔ EndsInDots D true all
+
+module _ {D : ℕ → Type 0} where
+  has_one : (first : Bool) (us : List ℕ) → EndsInDots D first us → 1 ≤ length us
+  has_one _ _ (here u us d a) = omega arith
+  has_one _ _ (later first u us e) = omega arith
+
+  no_end : (first : Bool) → EndsInDots D first [] → ⊥
+  no_end first e = omega (arith, has_one first [] e)
+
+  pub none_left : (all left : List ℕ) → left ≡ all → IsLeft D all true false left
+  none_left all left e = subst (λ us. IsLeft D us true false left) e (whole, λ h. inr h)
+    where
+      whole : Left D true false left → EndsInDots D true left
+      whole (inl h) = absurd (not_true false refl h.0)
+      whole (inr h) = h
+
+  pub all_left : (all left : List ℕ) (first dots : Bool) → IsLeft D all first dots left → left ≡ [] → IsTrue dots ↔ EndsInDots D true all
+  all_left all left first dots r e = (λ t. rest.0 (inl (t, tt)), λ h. only (rest.1 h))
+    where
+      rest : IsLeft D all first dots []
+      rest = subst (IsLeft D all first dots) e r
+
+      only : Left D first dots [] → IsTrue dots
+      only (inl h) = h.0
+      only (inr h) = absurd (no_end first h)
+
+  at_end : (first dots : Bool) (u : ℕ) (us : List ℕ) → EndsInDots D first (u ∷ us) → ((IsTrue (first || dots) × (D u × AllByRecursion D us)) ⊎ EndsInDots D (is_separator u) us)
+  at_end _ dots _ _ (here u us d a) = inl (refl, (d, a))
+  at_end _ dots _ _ (later first u us e) = inr e
+
+  so_far : (first dots : Bool) (u : ℕ) (us : List ℕ) → IsTrue (first || dots) → D u → AllByRecursion D us → Left D first dots (u ∷ us)
+  so_far true dots u us t d a = inr (here u us d a)
+  so_far false dots u us t d a = inl (t, (d, a))
+
+  -- one more unit
+  pub unit_left : (all left more : List ℕ) (first dots next : Bool) (u : ℕ) → IsLeft D all first dots left → left ≡ u ∷ more → (IsTrue next ↔ (IsTrue (first || dots) × D u)) → IsLeft D all (is_separator u) next more
+  unit_left all left more first dots next u r e is = (λ h. rest.0 (back h), λ h. forth (rest.1 h))
+    where
+      rest : IsLeft D all first dots (u ∷ more)
+      rest = subst (IsLeft D all first dots) e r
+
+      back : Left D (is_separator u) next more → Left D first dots (u ∷ more)
+      back (inl h) = let known = is.0 h.0 in so_far first dots u more known.0 known.1 h.1
+      back (inr h) = inr (later first u more h)
+
+      forth : Left D first dots (u ∷ more) → Left D (is_separator u) next more
+      forth (inl h) = inl (is.1 (begun_so first dots h.0, h.1.0), h.1.1)
+      forth (inr h) = elim (at_end first dots u more h) [
+        | inl k ↦ inl (is.1 (k.0, k.1.0), k.1.1)
+        | inr k ↦ inr k
+      ]
+
+pub goes_on : {D : Type 0} (so_far dropped : Bool) → (IsTrue dropped ↔ D) → IsTrue (so_far && dropped) ↔ (IsTrue so_far × D)
+goes_on true dropped is = (λ t. (refl, is.0 t), λ h. is.1 h.1)
+goes_on false dropped is = (λ t. absurd (not_true false refl t), λ h. h.0)
+
+pub either : {A B : Type 0} (x y : Bool) → (IsTrue x ↔ A) → (IsTrue y ↔ B) → IsTrue (x || y) ↔ (A ⊎ B)
+either true y f g = (λ t. inl (f.0 refl), λ h. refl)
+either false y f g = (λ t. inr (g.0 t), λ h. elim h [ inl a ↦ absurd (not_true false refl (f.1 a)) | inr b ↦ g.1 b ])
 
 -- ---- verbatim paths
 

@@ -15,7 +15,8 @@ use std::alloc::{AllocError, Allocator};
 
 /// Returns a line of the words of these names ([`quote`](crate::shell::quote)), separated by
 /// spaces. A shell reads these names from it. The line of no names is empty. (The crates shlex and
-/// shell-words have `join` for texts.)
+/// shell-words have `join` for texts.) It is for scripts, `eval` and `sh -c`: a line with control
+/// characters isn't safe to paste at a prompt ([`quoted`](crate::shell::quoted)).
 ///
 /// A shell takes the first word for the command. A name that some shell wouldn't run there, as
 /// `if`, `time` or `select`, is quoted in that position alone. A quoted word is neither a reserved

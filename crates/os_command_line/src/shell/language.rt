@@ -4,8 +4,9 @@
 #[derive(Clone, Copy, Debug, PartialEq, Eq)]
 pub enum Specials {
     /// It is a fault. So each POSIX shell (dash, bash, zsh, ksh93, mksh, busybox, posh, yash) reads
-    /// the same words as arguments, in a script or at a prompt. Nothing in them is expanded or
-    /// taken from a history, and no operator or comment ends them.
+    /// the same words as arguments in a script and, if the line has no control character, at a
+    /// prompt. Nothing in them is expanded or taken from a history, and no operator or comment ends
+    /// them.
     ///
     /// Outside quotes these are `| & ; < > ( ) $ * ? [ { } ~ !`, a grave accent and a carriage
     /// return, and `# = ^` where they are first in a word; in double quotes `$`, a grave accent and
@@ -15,6 +16,9 @@ pub enum Specials {
     ///
     /// It promises nothing in these cases:
     ///
+    /// - A line with control characters at a prompt. A terminal or a line editor acts on these, in
+    ///   quotes too, as on U+0015, which clears what was typed before it. bash takes a `^` after a
+    ///   newline as a substitution in its history.
     /// - A shell in a locale that isn't C or UTF-8.
     /// - Blanks beyond ASCII, as U+3000. They are part of a word here and separate words in yash;
     ///   POSIX 2.3 leaves them to the locale.

@@ -17,7 +17,8 @@ use std::alloc::{AllocError, Allocator};
 /// Returns the word that every POSIX shell reads as this name: the bytes that
 /// [`write_quoted`](crate::shell::write_quoted) writes. (The crates shlex and shell-words have
 /// `quote` for texts.) It makes one allocation, of the word's length.
-/// [`quoted`](crate::shell::quoted) documents the locales and positions in which the word is read.
+/// [`quoted`](crate::shell::quoted) documents the locales and positions in which the word is read. A
+/// word with control characters isn't safe to paste at a prompt: use [`quote_line`] there.
 ///
 /// # Errors
 ///
@@ -80,7 +81,8 @@ pub fn quote_line<A: Allocator>(
 }
 
 /// Appends the word of a name ([`quote`]) to a line. The space that separates words is the
-/// caller's.
+/// caller's. A word with control characters isn't safe to paste at a prompt: use
+/// [`push_word_line`] there.
 ///
 /// On an empty line the word is the first, by which a shell finds what to run: there a reserved
 /// word is quoted, as [`join`](crate::shell::join) quotes it.

@@ -65,6 +65,11 @@ pub struct PowerShellQuoted<'a> {
 /// marks U+2018 to U+201B are doubled too, since PowerShell takes each of them for a single
 /// quotation mark.
 ///
+/// The text must reach PowerShell as UTF-16, as UTF-8 with a byte order mark, or by
+/// `-EncodedCommand`. Windows PowerShell 5.1 reads a script without the mark as Windows-1252
+/// (about_Character_Encoding). Then the second byte of `В` (U+0412) is U+2019 and ends the string, and
+/// the rest of the name may run as a command.
+///
 /// It is always in quotation marks: as an argument a bare word may be read as a parameter, a number
 /// or a list. The rules are those of PowerShell's documentation, and aren't tested with PowerShell
 /// itself.
@@ -102,6 +107,9 @@ pub fn quoted_powershell(name: OsStr<'_, Windows>) -> Result<PowerShellQuoted<'_
 /// truncated if the buffer is too short for it, and returns the length of the whole string. What
 /// the string doesn't reach stays as it is. It doesn't allocate, and with an empty buffer only
 /// counts.
+///
+/// The text must reach PowerShell as UTF-16, as UTF-8 with a byte order mark, or by
+/// `-EncodedCommand`.
 ///
 /// Twice the name's length and two is below 2^64 (test: `name.len() <= usize::MAX / 2 - 1`). The
 /// string is never longer than that.

@@ -15,9 +15,16 @@ use platform_str::{OsStr, Unix};
 /// message. Printing it allocates nothing.
 ///
 /// A name that isn't empty and has only `A-Z a-z 0-9 _ @ + : , . / -` prints unchanged. Any other
-/// prints in single quotes, with a single quote as `'\''`. Nothing in it is expanded, not even by
-/// an interactive shell. A program can still read a name as an option, as `-x`. (POSIX.1-2024,
-/// Shell Command Language, 2.2.2; the crate shlex has `quote` for texts.)
+/// prints in single quotes, with a single quote as `'\''`. Before a `^` after a newline the quotes
+/// end and begin again, `''^`, since an interactive bash takes a `^` that is first on a line as a
+/// substitution in its history, in quotes too. Nothing in the word is expanded. A program can still
+/// read a name as an option, as `-x`. (POSIX.1-2024, Shell Command Language, 2.2.2; the crate shlex
+/// has `quote` for texts.)
+///
+/// **Not for a prompt.** The word is for scripts, `eval` and `sh -c`. It has the control characters
+/// of the name, and a terminal or a line editor acts on these, in quotes too: U+0015 clears the line
+/// that was typed before it, so that the rest of the name may run as a command. Only the word of
+/// [`quoted_line`] is safe to paste at a prompt.
 ///
 /// **Position.** It is read as the name where it is an argument. First on a line a word such as
 /// `if` or `time` is a reserved word: [`join`](crate::shell::join),
@@ -34,8 +41,7 @@ use platform_str::{OsStr, Unix};
 ///
 /// What is printed is text, so a name that isn't UTF-8 is printed as by [`quoted_line`].
 /// [`write_quoted`](crate::shell::write_quoted) and [`quote`](crate::shell::quote) write its bytes.
-/// A newline or an escape character in the name is one in the word, too. For a message or a log
-/// line use [`quoted_line`].
+/// For a message or a log line use [`quoted_line`].
 ///
 /// # Errors
 ///
@@ -78,6 +84,8 @@ pub fn quoted<'a>(name: OsStr<'a, Unix>) -> Result<Quoted<'a>, NulError>
 /// `\'`, `\n`, `\t` and `\r` are written for these characters. Every other byte of a character that
 /// doesn't stay on the line, or of no character, is a backslash and three octal digits. All other
 /// characters are unchanged. dash, posh and yash don't read `$'..'`.
+///
+/// It has no control character, so it may be typed or pasted at a prompt of those shells.
 ///
 /// No backslash comes after a byte from 0x80 on: the quotes end before it and begin again, as in
 /// `$'é'$'\n'`, since in GBK and Shift-JIS the two may be one character. So it is read as the

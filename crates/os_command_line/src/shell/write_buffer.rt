@@ -15,7 +15,8 @@ use platform_str::{OsStr, TruncatedBuffer, Unix};
 /// buffer is too short for it, and returns the length of the whole word. What the word doesn't
 /// reach stays as it is. It doesn't allocate, and with an empty buffer only counts.
 ///
-/// The bytes of a name that isn't UTF-8 are written as they are, in single quotes.
+/// The bytes of a name that isn't UTF-8 are written as they are, in single quotes, and so are
+/// control characters: the word isn't safe to paste at a prompt. Use [`write_quoted_line`] there.
 ///
 /// Four times the name's length and 3 are below 2^64 (test: `name.len() <= usize::MAX / 4 - 1`). A
 /// word is never longer than that.

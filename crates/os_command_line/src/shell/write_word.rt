@@ -1,15 +1,16 @@
 //! Words written to a sink, piece by piece.
-ghost use Rattle.std.specs.Prelude.{◌<◌, ◌∷◌, [], false};
+ghost use Rattle.std.specs.Prelude.{◌≡◌, ◌<◌, ◌∷◌, [], false, true, MatchOption};
 ghost use Rattle.std.specs.List.{AllByRecursion, flat_map};
 ghost use Rattle.platform_str.specs.PlatformWords.{itself};
 ghost use Rattle.platform_str.specs.Sinks.{Takes};
 ghost use Rattle.platform_str.specs.Strings.{bytes};
 ghost use Rattle.os_str_ext.specs.Symbols.{symbols_of};
-ghost use Rattle.os_command_line.specs.ShellSteps.{form_text, AcceptsForm};
-ghost use Rattle.os_command_line.specs.ShellWriting.{single_byte, single_quoted, dollar_quoted, dollar_text, text_after, symbol_text, character_text, letter_for, octal_text, shown_or_octal};
+ghost use Rattle.os_command_line.specs.ShellSteps.{form_text, AcceptsForm, AreUnmarked, IsCutAtMarked, ends_line};
+ghost use Rattle.os_command_line.specs.ShellWriting.{is_marked, single_byte, single_quoted, dollar_quoted, dollar_text, text_after, symbol_text, character_text, letter_for, octal_text, shown_or_octal};
 
-use crate::shell::form::{Form, cut_at_quote};
+use crate::shell::form::Form;
 use crate::shell::octal::{is_escape, is_high, letter_for, octal_digit};
+use memchr::memchr2;
 use os_quote::stays_on_line;
 use os_str_ext::{OsStrBytesExt, Symbol};
 use platform_str::{OsStr, Sink, Unix};
@@ -36,13 +37,50 @@ fn write_single<S: Sink>(bytes: &[u8], sink: &mut S) -> fmt::Result
 {
     sink.take_text("'")?;
     let mut rest = bytes;
-    while let Some((prefix, after)) = cut_at_quote(rest) {
+    while let Some((prefix, byte, after)) = cut_at_marked(rest) {
         sink.take(prefix)?;
-        sink.take_text("'\\''")?;
+        sink.take_text(marked_text(ends_line(prefix), byte))?;
         rest = after;
     }
     sink.take(rest)?;
     sink.take_text("'")
+}
+
+/// What comes before the first single quote or `^`, it, and what comes after it.
+fn cut_at_marked(bytes: &[u8]) -> Option<(&[u8], u8, &[u8])>
+    ensures { MatchOption result (AreUnmarked bytes.now)
+        (λ parts. IsCutAtMarked bytes.now parts.0.now parts.1 parts.2.now) }
+{
+    let Some(at) = memchr2(b'\'', b'^', bytes) else {
+        return None;
+    };
+    Some((&bytes[..at], bytes[at], &bytes[at + 1..]))
+}
+
+/// Whether bytes end with a newline.
+#[tactic(auto, using(crate::proofs::lemmas::ShellWritten::last_on_line))]
+fn ends_line(bytes: &[u8]) -> bool
+    ensures { result ≡ ends_line false bytes.now }
+{
+    match bytes.split_last() {
+        Some((last, _)) => *last == b'\n',
+        None => false,
+    }
+}
+
+/// A single quote or a `^` in single quotes, first on a line or not.
+#[tactic(auto, using(crate::proofs::lemmas::ShellWritten::marked_quote, crate::proofs::lemmas::ShellWritten::marked_caret))]
+fn marked_text(first: bool, byte: u8) -> &'static str
+    requires { is_marked byte ≡ true }
+    ensures { result.now ≡ single_byte first byte }
+{
+    if byte == b'\'' {
+        "'\\''"
+    } else if first {
+        "''^"
+    } else {
+        "^"
+    }
 }
 
 /// Writes a name in dollar-single-quotes.

@@ -36,7 +36,7 @@ impl<'a> Model for Arguments<'a> {
 }
 
 impl<'a> Arguments<'a> {
-    /// The arguments of a command line, as Rust's std and the C runtime of 2015 and later read it
+    /// The arguments of a command line, as Rust's std and the C runtime of 2008 and later read it
     /// (Microsoft, "Parsing C command-line arguments").
     ///
     /// - The program's name goes up to the first space or tab outside quotation marks. A quotation
@@ -46,6 +46,11 @@ impl<'a> Arguments<'a> {
     ///   quoted part; 2n + 1 backslashes and a mark are n backslashes and a mark. Other backslashes
     ///   mean themselves.
     /// - Two quotation marks within a quoted part are one mark, and the part goes on.
+    ///
+    /// `CommandLineToArgvW` differs in two rules: two quotation marks within a quoted part are one mark
+    /// and end the part, so `"a""b c"` has two arguments there and one here. A program's name that
+    /// begins with a quotation mark ends at the next one, and in any other name a mark is part of it.
+    /// It reads the lines of [`command_line`](crate::windows::command_line) as they are read here.
     ///
     /// std gives the running program's path for an empty line; here the name of an empty line is
     /// empty.

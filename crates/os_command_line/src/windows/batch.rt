@@ -1,18 +1,21 @@
 //! Programs that Windows starts cmd.exe for.
-ghost use Rattle.std.specs.Prelude.{◌≡◌, ◌↔◌, ◌⊎◌, ◌≤◌, false, IsTrue};
+ghost use Rattle.std.specs.Prelude.{◌≡◌, ◌↔◌, ◌⊎◌, ◌≤◌, true, false, IsTrue};
 ghost use Rattle.wtf8_core.specs.UnitsOf.{units_of};
 ghost use Rattle.platform_str.specs.Strings.{bytes};
-ghost use Rattle.os_command_line.specs.WindowsBatch.{IsBatchExtension, IsLetter, IsVerbatim, NeedsCmd};
+ghost use Rattle.os_command_line.specs.WindowsBatch.{EndsAsBatch, EndsInDots, IsBatchExtension, IsDropped, IsLetter, IsVerbatim, NeedsCmd, is_separator};
 ghost use Rattle.os_command_line.specs.WindowsSteps.{BeginsVerbatim, TakesUnit};
 
 use platform_str::{OsStr, Platform, WideUnits, Windows};
 
-/// Whether a program is a batch file by its path, so that Windows starts cmd.exe for it. Such a
-/// path ends in `.bat` or `.cmd`, in upper or lower case (std's `Command` on Windows).
+/// Whether a program is or may be a batch file by its path, so that Windows starts cmd.exe for it.
+/// Such a path ends in `.bat` or `.cmd`, in upper or lower case (std's `Command` on Windows).
 ///
 /// Full stops and spaces at the end don't count, since Windows drops them. They count in a verbatim
-/// path, which begins with `\\?\` or `\??\`. std tests the full path, in which `.` and `..` are
-/// already resolved. Pass that path if the last component may be one of them.
+/// path, which begins with `\\?\` or `\??\`.
+///
+/// It is also true if the last component has only full stops and spaces, as in `x.bat\.` and
+/// `x.cmd\d\..`. Windows starts `x.bat` and `x.cmd` for these, and only the full path shows it. std
+/// tests the full path (`GetFullPathNameW`), in which `.` and `..` are already resolved.
 ///
 /// [`command_line`](crate::windows::command_line) isn't for such a program: cmd.exe reads the line
 /// before the batch file does, by rules of its own. It replaces `%NAME%` by the value of a
@@ -27,11 +30,46 @@ use platform_str::{OsStr, Platform, WideUnits, Windows};
 /// assert!(rt; needs_cmd(OsStr::<Windows>::new("build.cmd. .")));
 /// assert!(rt; !needs_cmd(OsStr::<Windows>::new("\\\\?\\C:\\build.cmd.")));
 /// assert!(rt; !needs_cmd(OsStr::<Windows>::new("build.bat.exe")));
+/// assert!(rt; needs_cmd(OsStr::<Windows>::new("C:\\tools\\build.bat\\.")));
 /// ```
 pub fn needs_cmd(program: OsStr<'_, Windows>) -> bool
     ensures { IsTrue result ↔ NeedsCmd (⟦<Windows as Platform>⟧.units (bytes program.entry)) }
 {
     let verbatim = is_verbatim(program);
+    let batch = ends_in_batch(verbatim, program);
+    let dots = ends_in_dots(verbatim, program);
+    batch | dots
+}
+
+/// Whether the last component of a path has only units that are dropped.
+fn ends_in_dots(verbatim: bool, path: OsStr<'_, Windows>) -> bool
+    requires { IsTrue verbatim ↔ IsVerbatim (units_of (bytes path)) }
+    ensures { IsTrue result
+        ↔ EndsInDots (IsDropped (units_of (bytes path.entry))) true (units_of (bytes path.entry)) }
+{
+    let mut first = true;
+    let mut dots = false;
+    for unit in path.encode_wide() {
+        let dropped = is_dropped(verbatim, unit);
+        dots = (first | dots) & dropped;
+        first = is_separator(unit);
+    }
+    dots
+}
+
+/// Whether a unit is `\` or `/`.
+fn is_separator(unit: u16) -> bool
+    ensures { result ≡ is_separator unit }
+{
+    unit == 0x5C || unit == 0x2F
+}
+
+/// Whether a path ends in the extension of a batch file and units that are dropped.
+fn ends_in_batch(verbatim: bool, program: OsStr<'_, Windows>) -> bool
+    requires { IsTrue verbatim ↔ IsVerbatim (units_of (bytes program)) }
+    ensures { IsTrue result
+        ↔ EndsAsBatch (IsDropped (units_of (bytes program.entry))) (units_of (bytes program.entry)) }
+{
     let mut dot = 0;
     let mut first = 0;
     let mut second = 0;

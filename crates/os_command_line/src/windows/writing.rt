@@ -26,6 +26,9 @@ const SPACE: u16 = 0x20;
 /// doubled. The space that separates arguments is the caller's. The line is a vector of units, as
 /// `CreateProcessW` takes it; a program's name has other rules ([`command_line`]).
 ///
+/// A program that is linked with `setargv.obj`, or with MinGW's `_dowildcard`, expands `*` and `?` in
+/// an argument without quotation marks, as `*.txt`.
+///
 /// cmd.exe reads a line by rules of its own, and in it `%NAME%` can't be quoted: nothing here
 /// writes for a batch file.
 ///

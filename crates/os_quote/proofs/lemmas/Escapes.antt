@@ -1,8 +1,9 @@
 -- Escapes, and their strings.
-use Rattle.os_quote.proofs.Common.{text_escape, ◌≡◌, subst, ⊎_elim, inl, inr, ℕ, ◌<◌, ◌^◌, Bool, List, [], ◌∷◌, ◌++◌, map, length, refl, sym, ap, ◌∙◌, arith, append_assoc, append-nil, length-append, AllByRecursion, flat_map, IsUtf8, lt-ltb, le-ltb, cases_lt, recursion_from_All, Chunk, joined, AreChunks, HasNoCharacter, some_chunks, chunks_once, form_bounds, PartLaws, chunks_of, Item, item_texts, IsItem, unit_item, chunk_items, items_of, IsEscapeBy, IsBadEscapeBy, item_bytes, IsChunkOf, flat_map-append, escape_of}
+use Rattle.os_quote.proofs.Common.{text_escape, ◌≡◌, subst, ⊎_elim, inl, inr, ℕ, ◌<◌, ◌^◌, Bool, List, [], ◌∷◌, ◌++◌, map, length, refl, sym, ap, ◌∙◌, arith, append_assoc, append-nil, length-append, AllByRecursion, flat_map, false, IsUtf8, lt-ltb, le-ltb, cases_lt, recursion_from_All, Chunk, joined, AreChunks, HasNoCharacter, some_chunks, chunks_once, form_bounds, PartLaws, chunks_of, Item, item_text, item_texts, IsItem, unit_item, chunk_items, items_of, items_in, IsEscapeBy, IsBadEscapeBy, item_bytes, IsChunkOf, flat_map-append, escape_of, escape_in, shown_by, has_ending, before_ending, ending}
+use Rattle.os_quote.specs.declared.form.Form.{Form}
 use Rattle.wtf8_core.specs.PartUnits.{unit_bytes}
 use Rattle.wtf8_core.proofs.lemmas.characters.AtIndices.{character_fits}
-use Rattle.os_quote.proofs.lemmas.{Items.same_items, Texts.text_items, Texts.text_is_items, FirstUnits.text_and_rest}
+use Rattle.os_quote.proofs.lemmas.{Items.same_items, Texts.text_items, Texts.text_is_items, FirstUnits.text_and_rest, Endings.ending_is_item, Endings.joined_again, Endings.without_ending}
 use Rattle.os_str_ext.proofs.lemmas.FirstChunk.{no_chunks}
 
 pub all-append : {X : Type 0} (P : X → Type 0) (xs ys : List X) → AllByRecursion P xs → AllByRecursion P ys → AllByRecursion P (xs ++ ys)
@@ -46,28 +47,35 @@ module _ (shows : ℕ → Bool) (well_formed : List ℕ → Type 0) (units : Lis
         flat_map-append item_bytes (chunk_items shows units c) (items_of shows units cs) ∙ ap (λ x. x ++ flat_map item_bytes (items_of shows units cs)) i.1 ∙ ap (λ x. (c.0 ++ c.1) ++ x) r.1 ∙ append_assoc c.0 c.1 (joined cs),
       )
 
-  module _ (each : (s : List ℕ) (cs : List Chunk) → well_formed s → AreChunks s cs → AllByRecursion (IsChunkOf well_formed) cs) where
-    -- what an escape's items are
-    pub escape_is_items : (s text : List ℕ) → well_formed s → (e : IsEscapeBy shows units s text) → AllByRecursion (IsItem shows) (items_of shows units e.chunks) × (flat_map item_bytes (items_of shows units e.chunks) ≡ s)
-    escape_is_items s text w e = let k = chunks_are_items e.chunks (each s e.chunks w e.are_chunks) in (k.0, k.1 ∙ e.are_chunks.joins)
+module _ (form : Form) (well_formed : List ℕ → Type 0) (units : List ℕ → List ℕ) (part_units : List ℕ → Type 0) (parts : PartLaws well_formed units part_units)
+    (each : (s : List ℕ) (cs : List Chunk) → well_formed s → AreChunks (before_ending form s) cs → AllByRecursion (IsChunkOf well_formed) cs) where
+  -- what an escape's items are
+  pub escape_is_items : (s text : List ℕ) → well_formed s → (e : IsEscapeBy form units s text) → AllByRecursion (IsItem (shown_by form)) (items_in form units e.chunks s) × (flat_map item_bytes (items_in form units e.chunks s) ≡ s)
+  escape_is_items s text w e =
+      let k = chunks_are_items (shown_by form) well_formed units part_units parts e.chunks (each s e.chunks w e.are_chunks) in
+      let items = items_of (shown_by form) units e.chunks in (
+        all-append (IsItem (shown_by form)) items (ending form s) k.0 (ending_is_item form s),
+        flat_map-append item_bytes items (ending form s) ∙ ap (λ x. x ++ flat_map item_bytes (ending form s)) (k.1 ∙ e.are_chunks.joins) ∙ joined_again form s,
+      )
 
-    -- a text that is read whole is the escape of no string but the one that was read
-    pub one_reading : (text : List ℕ) (items : List Item) (s : List ℕ) → AllByRecursion (IsItem shows) items → text ≡ item_texts items → well_formed s → IsEscapeBy shows units s text → s ≡ flat_map item_bytes items
-    one_reading text items s a t w e =
-        let k = escape_is_items s text w e in
-        let q = same_items shows (items_of shows units e.chunks) items [] [] k.0 a (inl refl) (inl refl) (ap (λ x. x ++ []) (sym e.text_is ∙ t)) in
-        sym k.1 ∙ ap (flat_map item_bytes) q.0
+  -- a text that is read whole is the escape of no string but the one that was read
+  pub one_reading : (text : List ℕ) (items : List Item) (s : List ℕ) → AllByRecursion (IsItem (shown_by form)) items → text ≡ item_texts items → well_formed s → IsEscapeBy form units s text → s ≡ flat_map item_bytes items
+  one_reading text items s a t w e =
+      let k = escape_is_items s text w e in
+      let q = same_items (shown_by form) (items_in form units e.chunks s) items [] [] k.0 a (inl refl) (inl refl) (ap (λ x. x ++ []) (sym e.text_is ∙ t)) in
+      sym k.1 ∙ ap (flat_map item_bytes) q.0
 
-    -- strings with equal escapes are equal
-    pub one_string : (s t text : List ℕ) → well_formed s → well_formed t → IsEscapeBy shows units s text → IsEscapeBy shows units t text → s ≡ t
-    one_string s t text w v e f = let k = escape_is_items t text v f in one_reading text (items_of shows units f.chunks) s k.0 f.text_is w e ∙ k.1
+  -- strings with equal escapes are equal
+  pub one_string : (s t text : List ℕ) → well_formed s → well_formed t → IsEscapeBy form units s text → IsEscapeBy form units t text → s ≡ t
+  one_string s t text w v e f = let k = escape_is_items t text v f in one_reading text (items_in form units f.chunks t) s k.0 f.text_is w e ∙ k.1
 
-    -- an escape is never bad
-    pub never_bad : (s text : List ℕ) (n : ℕ) → well_formed s → IsEscapeBy shows units s text → ¬ (IsBadEscapeBy shows text n)
-    never_bad s text n w e b =
-        let k = escape_is_items s text w e in
-        let q = same_items shows (items_of shows units e.chunks) b.items [] b.rest k.0 b.are (inl refl) (inr b.bad) (append-nil (item_texts (items_of shows units e.chunks)) ∙ sym e.text_is ∙ b.joined) in
-        cc
+  -- an escape is never bad
+  pub never_bad : (s text : List ℕ) (n : ℕ) → well_formed s → IsEscapeBy form units s text → ¬ (IsBadEscapeBy (shown_by form) text n)
+  never_bad s text n w e b =
+      let k = escape_is_items s text w e in
+      let items = items_in form units e.chunks s in
+      let q = same_items (shown_by form) items b.items [] b.rest k.0 b.are (inl refl) (inr b.bad) (append-nil (item_texts items) ∙ sym e.text_is ∙ b.joined) in
+      cc
 
 -- no bytes have no units
 pub no_units_of_none : (well_formed : List ℕ → Type 0) (units : List ℕ → List ℕ) (part_units : List ℕ → Type 0) → PartLaws well_formed units part_units → well_formed [] → units [] ≡ []
@@ -77,17 +85,25 @@ no_units_of_none well_formed units part_units parts w = no_units (units []) (par
     uncovered i j q = let f = character_fits [] i j q in omega arith
 
 -- a string has one escape
-pub one_escape : (shows : ℕ → Bool) (units : List ℕ → List ℕ) (s text other : List ℕ) → IsEscapeBy shows units s text → IsEscapeBy shows units s other → text ≡ other
-one_escape shows units s text other e f = e.text_is ∙ ap (λ x. item_texts (items_of shows units x)) (chunks_once s e.chunks f.chunks e.are_chunks f.are_chunks) ∙ sym f.text_is
+pub one_escape : (form : Form) (units : List ℕ → List ℕ) (s text other : List ℕ) → IsEscapeBy form units s text → IsEscapeBy form units s other → text ≡ other
+one_escape form units s text other e f = e.text_is ∙ ap (λ x. item_texts (items_in form units x s)) (chunks_once (before_ending form s) e.chunks f.chunks e.are_chunks f.are_chunks) ∙ sym f.text_is
 
 -- each string has one
-pub escape_of_is : (shows : ℕ → Bool) (units : List ℕ → List ℕ) (s : List ℕ) → IsEscapeBy shows units s (escape_of shows units s)
-escape_of_is shows units s = record { chunks = chunks_of s; are_chunks = (some_chunks s).1; text_is = refl }
+pub escape_in_is : (form : Form) (units : List ℕ → List ℕ) (s : List ℕ) → IsEscapeBy form units s (escape_in form units s)
+escape_in_is form units s = record {
+  chunks = chunks_of (before_ending form s);
+  are_chunks = (some_chunks (before_ending form s)).1;
+  text_is = sym (flat_map-append item_text (items_of (shown_by form) units (chunks_of (before_ending form s))) (ending form s));
+}
 
--- a text of which each character is unchanged is its own escape
-pub own_escape : (shows : ℕ → Bool) (well_formed : List ℕ → Type 0) (units : List ℕ → List ℕ) (part_units : List ℕ → Type 0) → PartLaws well_formed units part_units → (t : List ℕ) → well_formed [] → IsUtf8 t → text_escape shows t ≡ t → IsEscapeBy shows units t t
-own_escape shows well_formed units part_units parts t w u own = subst (IsEscapeBy shows units t) whole (escape_of_is shows units t)
+-- a text of which each character is unchanged, and which ends in no space that is a token, is its own escape
+pub own_escape : (form : Form) (well_formed : List ℕ → Type 0) (units : List ℕ → List ℕ) (part_units : List ℕ → Type 0) → PartLaws well_formed units part_units → (t : List ℕ) → well_formed [] → IsUtf8 t → text_escape (shown_by form) t ≡ t → has_ending form t ≡ false → IsEscapeBy form units t t
+own_escape form well_formed units part_units parts t w u own none =
+    subst (IsEscapeBy form units t) (ap (λ x. escape_of (shown_by form) units x ++ item_texts (ending form t)) (without_ending form t none).0 ∙ ap (λ x. escape_of (shown_by form) units t ++ item_texts x) (without_ending form t none).1 ∙ append-nil (escape_of (shown_by form) units t) ∙ whole) (escape_in_is form units t)
   where
+    shows : ℕ → Bool
+    shows = shown_by form
+
     whole : escape_of shows units t ≡ t
     whole =
         ap (escape_of shows units) (sym (append-nil t))

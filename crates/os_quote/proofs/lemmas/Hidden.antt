@@ -1,7 +1,7 @@
 -- Characters that are unchanged, between suspects.
 use Rattle.os_quote.proofs.Common.{◌≡◌, ⊎_elim, ℕ, suc, ◌+◌, ◌-◌, ◌<◌, ◌≤◌, true, false, List, [], ◌∷◌, ◌++◌, length, take, drop, get_or, sym, ap, ◌∙◌, subst, arith, append_assoc, take-append-drop, length-append, length-drop, get_or-drop, IsScalar, encode_utf8, AllByRecursion, IsUtf8, IsCharBoundary, chars, all_scalars, encode_utf8_all, and_parts, cases_lt, append_cancel_right, length-take-le, drop_at, take_all, IsCharBoundary-at_seam, IsCharBoundary-end, IsUtf8-between, IsUtf8-take, IsUtf8-drop, IsUtf8-past_char, chars-append, chars_past_char, encodes-chars, scalars-chars, scalar, encode, form_ascii, form_two, form_three, form_past, form_encode, is_suspect, IsUnchanged, AreUnchanged, stays_on_line, AllClear, IsNextSuspect}
 use Rattle.std.proofs.Math.Seq.{take-add}
-use Rattle.os_quote.proofs.lemmas.{Escapes.all-append, SuspectTables.one_occurs, SuspectTables.two_occurs, SuspectTables.three_occurs, SuspectTables.four_occurs, SuspectTables.lead_from}
+use Rattle.os_quote.proofs.lemmas.{Escapes.all-append, Texts.scalar_below, SuspectTables.one_occurs, SuspectTables.two_occurs, SuspectTables.three_occurs, SuspectTables.four_occurs, SuspectTables.lead_from}
 
 -- no byte is a suspect, where others follow
 abbrev ClearIn : List ℕ → List ℕ → Type 0
@@ -26,7 +26,7 @@ character_unchanged c more rest s h =
     (λ (m : 0x800 ≤ c).
     ⊎_elim
     (λ (a : c < 0x1_0000). three_occurs c m a (by (form_three c m a)).0)
-    (λ (n : 0x1_0000 ≤ c). four_occurs c n (by (form_past c n)).0)
+    (λ (n : 0x1_0000 ≤ c). four_occurs c n (scalar_below c s) (by (form_past c n)).0)
     (cases_lt c 0x1_0000))
     (cases_lt c 0x800))
     (cases_lt c 0x80)

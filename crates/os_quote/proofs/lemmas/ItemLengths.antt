@@ -1,5 +1,6 @@
 -- How long the text of an item is, beside the bytes that it means.
-use Rattle.os_quote.proofs.Common.{ℕ, ◌*◌, ◌<◌, ◌≤◌, Bool, List, [], ◌∷◌, length, refl, ap, arith, length-append, encode_utf8, AllByRecursion, flat_map, length-encode, len_utf8_bounds, form_encode, form_bounds, form_past, Item, Character, Backslash, ByteUnit, WideUnit, LongCharacter, long_digits, item_text, item_texts, IsItem, Chunk, AreChunks, some_chunks, PartLaws, IsChunkOf, chunks_of, IsEscapeBy, items_of, escape_of, item_bytes}
+use Rattle.os_quote.proofs.Common.{ℕ, ◌*◌, ◌<◌, ◌≤◌, Bool, List, [], ◌∷◌, length, ap, arith, length-append, encode_utf8, AllByRecursion, flat_map, length-encode, len_utf8_bounds, form_encode, form_bounds, form_past, Item, Character, Backslash, ByteUnit, WideUnit, LongCharacter, long_digits, item_text, item_texts, IsItem, Chunk, AreChunks, PartLaws, IsChunkOf, IsEscapeBy, items_in, before_ending, shown_by, item_bytes}
+use Rattle.os_quote.specs.declared.form.Form.{Form}
 use Rattle.os_quote.proofs.lemmas.{Escapes.escape_is_items, Items.five_digits, Items.six_digits}
 
 -- a text of at most ten bytes, six for each that it means, and none for no byte
@@ -39,12 +40,11 @@ module _ (shows : ℕ → Bool) where
       (omega (arith, first.six, rest.0, t, b), omega (arith, first.some, rest.1, t, b))
 
 -- an escape has at most six bytes for each of the string
-pub escape_is_short : (shows : ℕ → Bool) (well_formed : List ℕ → Type 0) (units : List ℕ → List ℕ) (part_units : List ℕ → Type 0) (parts : PartLaws well_formed units part_units)
-    (each : (s : List ℕ) (cs : List Chunk) → well_formed s → AreChunks s cs → AllByRecursion (IsChunkOf well_formed) cs)
-    (s : List ℕ) → well_formed s → length (escape_of shows units s) ≤ 6 * length s
-escape_is_short shows well_formed units part_units parts each s w =
-    let items = items_of shows units (chunks_of s) in
-    let e : IsEscapeBy shows units s (escape_of shows units s) = record { chunks = chunks_of s; are_chunks = (some_chunks s).1; text_is = refl } in
-    let k = escape_is_items shows well_formed units part_units parts each s (escape_of shows units s) w e in
-    let l : length (escape_of shows units s) ≤ 6 * length (flat_map item_bytes items) = (items_are_short shows items k.0).0 in
-    omega (arith, l, ap length k.1)
+pub escape_is_short : (form : Form) (well_formed : List ℕ → Type 0) (units : List ℕ → List ℕ) (part_units : List ℕ → Type 0) (parts : PartLaws well_formed units part_units)
+    (each : (s : List ℕ) (cs : List Chunk) → well_formed s → AreChunks (before_ending form s) cs → AllByRecursion (IsChunkOf well_formed) cs)
+    (s text : List ℕ) → well_formed s → IsEscapeBy form units s text → length text ≤ 6 * length s
+escape_is_short form well_formed units part_units parts each s text w e =
+    let items = items_in form units e.chunks s in
+    let k = escape_is_items form well_formed units part_units parts each s text w e in
+    let l : length (item_texts items) ≤ 6 * length (flat_map item_bytes items) = (items_are_short (shown_by form) items k.0).0 in
+    omega (arith, l, ap length k.1, ap length e.text_is)

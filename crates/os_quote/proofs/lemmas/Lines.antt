@@ -1,5 +1,6 @@
 -- That an escape on one line stays there.
-use Rattle.os_quote.proofs.Common.{◌≡◌, ◌≢◌, ⊎_elim, Bool, ℕ, ◌<◌, true, List, [], ◌∷◌, ◌++◌, map, length, IsTrue, refl, sym, ap, ◌∙◌, subst, arith, append-nil, length-append, encode_utf8, All, AllByRecursion, IsUtf8, chars, cases_lt, cases_eq, cases_Bool, ne_eqb, lt-ltb, le-ltb, All-from_recursion, chars-append, chars-nil, chars_past_char, chars-IsAscii, IsUtf8-encode, length-encode, len_utf8_bounds, Chunk, AreChunks, upper_hex_digit, PartLaws, Item, Character, backslash, item_text, item_texts, IsItem, unit_item, hidden_item, character_item, stays_on_line, IsUnchanged, IsCutAtToken, chunk_items, items_of, IsLineEscape, IsChunkOf}
+use Rattle.os_quote.proofs.Common.{◌≡◌, ◌≢◌, ⊎_elim, Bool, ℕ, ◌<◌, true, List, [], ◌∷◌, ◌++◌, map, length, IsTrue, refl, sym, ap, ◌∙◌, subst, arith, append-nil, length-append, encode_utf8, All, AllByRecursion, IsUtf8, chars, cases_lt, cases_eq, cases_Bool, ne_eqb, lt-ltb, le-ltb, All-from_recursion, chars-append, chars-nil, chars_past_char, chars-IsAscii, IsUtf8-encode, length-encode, len_utf8_bounds, Chunk, AreChunks, upper_hex_digit, PartLaws, Item, Character, backslash, item_text, item_texts, IsItem, unit_item, hidden_item, character_item, stays_on_line, IsUnchanged, IsCutAtToken, chunk_items, items_of, items_in, before_ending, ending, ends_in_space, IsLineEscape, IsChunkOf}
+use Rattle.os_quote.specs.declared.form.Form.TheVariants.{Line}
 use Rattle.os_quote.proofs.lemmas.{Items.digit_low, Items.digit_high, Shown.ascii_stays, Texts.text_after, Escapes.all-append, Escapes.escape_is_items, Readings.ascii_all, Readings.token_ascii, Readings.token_all, Readings.item_is_text}
 
 -- the characters stay on the line
@@ -52,14 +53,17 @@ texts_stay [] a s = subst AllStay (sym chars-nil) tt
 texts_stay (i ∷ items) a s =
     subst AllStay (sym (chars-append (item_text i) (item_texts items) (item_is_text stays_on_line i a.0))) (all-append (λ c. stays_on_line c ≡ true) (chars (item_text i)) (chars (item_texts items)) (item_stays i a.0 s.0) (texts_stay items a.1 s.1))
 
+ending_stays : (s : List ℕ) → AllByRecursion Stays (ending Line s)
+ending_stays s = ⊎_elim (λ y. rw y (tt, tt)) (λ n. rw n tt) (cases_Bool (ends_in_space s))
+
 -- an escape's characters
 pub escape_is_on_line : (well_formed : List ℕ → Type 0) (units : List ℕ → List ℕ) (part_units : List ℕ → Type 0) (parts : PartLaws well_formed units part_units)
-    (each : (s : List ℕ) (cs : List Chunk) → well_formed s → AreChunks s cs → AllByRecursion (IsChunkOf well_formed) cs)
+    (each : (s : List ℕ) (cs : List Chunk) → well_formed s → AreChunks (before_ending Line s) cs → AllByRecursion (IsChunkOf well_formed) cs)
     (s text : List ℕ) → well_formed s → IsLineEscape units s text → All (λ c. IsTrue (stays_on_line c)) (chars text)
 escape_is_on_line well_formed units part_units parts each s text w e =
-    let items = items_of stays_on_line units e.chunks in
-    let k = escape_is_items stays_on_line well_formed units part_units parts each s text w e in
-    All-from_recursion (λ c. stays_on_line c ≡ true) (chars text) (subst (λ x. AllStay (chars x)) (sym e.text_is) (texts_stay items k.0 (chunks_stay units e.chunks)))
+    let items = items_in Line units e.chunks s in
+    let k = escape_is_items Line well_formed units part_units parts each s text w e in
+    All-from_recursion (λ c. stays_on_line c ≡ true) (chars text) (subst (λ x. AllStay (chars x)) (sym e.text_is) (texts_stay items k.0 (all-append Stays (items_of stays_on_line units e.chunks) (ending Line s) (chunks_stay units e.chunks) (ending_stays s))))
 
 pub cut_is_shorter : (shows : ℕ → Bool) (t prefix : List ℕ) (c : ℕ) (following : List ℕ) → IsCutAtToken shows t prefix c following → length following < length t
 cut_is_shorter shows t prefix c following k =

@@ -1,6 +1,7 @@
 -- How far a text has been read.
-use Rattle.os_quote.proofs.Common.{get_or, take_at, encode_ascii, IsUtf8-take, IsCharBoundary-before_ascii, IsCutAtFirst, ◌≡◌, ⊎_elim, inl, inr, ℕ, zero, suc, Bool, ◌-◌, ◌<◌, ◌/◌, ◌%◌, List, [], ◌∷◌, ◌++◌, length, refl, sym, ap, ◌∙◌, subst, arith, append_assoc, append-nil, length-append, AllByRecursion, flat_map, IsUtf8, IsAscii, cases_lt, IsUtf8-nil, IsUtf8-append, IsUtf8-encode, IsUtf8-from_ascii, Chunk, AreChunks, PartLaws, upper_hex_digit, Item, Character, Backslash, ByteUnit, WideUnit, LongCharacter, backslash, wide_digits, long_digits, item_text, item_texts, IsLong, IsItem, is_any, BeginsNoToken, IsBadEscapeBy, IsEscapeBy, items_of, HasNoBackslash, IsCutAtToken, IsRead, item_bytes, IsChunkOf, flat_map-append}
+use Rattle.os_quote.proofs.Common.{get_or, take_at, encode_ascii, IsUtf8-take, IsCharBoundary-before_ascii, IsCutAtFirst, ◌≡◌, ⊎_elim, inl, inr, ℕ, zero, suc, Bool, ◌-◌, ◌<◌, ◌/◌, ◌%◌, List, [], ◌∷◌, ◌++◌, length, refl, sym, ap, ◌∙◌, subst, arith, append_assoc, append-nil, length-append, AllByRecursion, flat_map, IsUtf8, IsAscii, cases_lt, IsUtf8-nil, IsUtf8-append, IsUtf8-encode, IsUtf8-from_ascii, Chunk, AreChunks, PartLaws, upper_hex_digit, Item, Character, Backslash, ByteUnit, WideUnit, LongCharacter, backslash, wide_digits, long_digits, item_text, item_texts, IsLong, IsItem, is_any, BeginsNoToken, IsBadEscapeBy, IsEscapeBy, items_in, before_ending, shown_by, HasNoBackslash, IsCutAtToken, IsRead, item_bytes, IsChunkOf, flat_map-append}
 use Rattle.std.proofs.Math.Seq.{get_or-append_seam}
+use Rattle.os_quote.specs.declared.form.Form.{Form}
 use Rattle.os_quote.proofs.lemmas.{Items.no_brace, Items.five_digits, Items.six_digits, Items.same_items, Texts.text_items, Texts.text_is_items, Texts.shown_unchanged, Texts.unchanged_text, Texts.text_after, Escapes.all-append, Escapes.one_reading, Escapes.escape_is_items}
 
 -- the first backslash of a text is between two texts, and its first token where each character is shown
@@ -62,13 +63,6 @@ module _ (shows : ℕ → Bool) where
   items_are_text [] h = IsUtf8-nil
   items_are_text (i ∷ items) h = IsUtf8-append (item_text i) (item_texts items) (item_is_text i h.0) (items_are_text items h.1)
 
-  -- an escape is text
-  pub escape_is_text : (well_formed : List ℕ → Type 0) (units : List ℕ → List ℕ) (part_units : List ℕ → Type 0) (parts : PartLaws well_formed units part_units)
-      (each : (s : List ℕ) (cs : List Chunk) → well_formed s → AreChunks s cs → AllByRecursion (IsChunkOf well_formed) cs)
-      (s text : List ℕ) → well_formed s → IsEscapeBy shows units s text → IsUtf8 text
-  escape_is_text well_formed units part_units parts each s text w e =
-      subst IsUtf8 (sym e.text_is) (items_are_text (items_of shows units e.chunks) (escape_is_items shows well_formed units part_units parts each s text w e).0)
-
   -- some items more
   read_items : (text out rest : List ℕ) (items : List Item) (after : List ℕ) → IsRead shows text out rest → AllByRecursion (IsItem shows) items → rest ≡ item_texts items ++ after → IsUtf8 after → IsRead shows text (out ++ flat_map item_bytes items) after
   read_items text out rest items after r a e u = grind (arith, all-append, item_texts, append_assoc, flat_map-append, item_text, item_bytes)
@@ -114,14 +108,22 @@ module _ (shows : ℕ → Bool) where
       let q = same_items shows r.items b.items [] b.rest r.are b.are (inl refl) (inr b.bad) (sym r.joined ∙ b.joined) in
       cc
 
+module _ (form : Form) where
+  -- an escape is text
+  pub escape_is_text : (well_formed : List ℕ → Type 0) (units : List ℕ → List ℕ) (part_units : List ℕ → Type 0) (parts : PartLaws well_formed units part_units)
+      (each : (s : List ℕ) (cs : List Chunk) → well_formed s → AreChunks (before_ending form s) cs → AllByRecursion (IsChunkOf well_formed) cs)
+      (s text : List ℕ) → well_formed s → IsEscapeBy form units s text → IsUtf8 text
+  escape_is_text well_formed units part_units parts each s text w e =
+      subst IsUtf8 (sym e.text_is) (items_are_text (shown_by form) (items_in form units e.chunks s) (escape_is_items form well_formed units part_units parts each s text w e).0)
+
   -- if the bytes that a text means aren't a string with this escape, the text, which has been read whole, is the escape of no string
   pub no_escape : (well_formed : List ℕ → Type 0) (units : List ℕ → List ℕ) (part_units : List ℕ → Type 0) (parts : PartLaws well_formed units part_units)
-      (each : (s : List ℕ) (cs : List Chunk) → well_formed s → AreChunks s cs → AllByRecursion (IsChunkOf well_formed) cs)
-      (text out : List ℕ) → IsRead shows text out [] → (well_formed out → IsEscapeBy shows units out text → ⊥)
-      → ((s : List ℕ) → well_formed s → ¬ (IsEscapeBy shows units s text)) × ((n : ℕ) → ¬ (IsBadEscapeBy shows text n))
+      (each : (s : List ℕ) (cs : List Chunk) → well_formed s → AreChunks (before_ending form s) cs → AllByRecursion (IsChunkOf well_formed) cs)
+      (text out : List ℕ) → IsRead (shown_by form) text out [] → (well_formed out → IsEscapeBy form units out text → ⊥)
+      → ((s : List ℕ) → well_formed s → ¬ (IsEscapeBy form units s text)) × ((n : ℕ) → ¬ (IsBadEscapeBy (shown_by form) text n))
   no_escape well_formed units part_units parts each text out r never = (
     λ s w e.
-        let same : s ≡ out = one_reading shows well_formed units part_units parts each text r.items s r.are (r.joined ∙ append-nil (item_texts r.items)) w e ∙ sym r.bytes_are in
-        never (subst well_formed same w) (subst (λ x. IsEscapeBy shows units x text) same e),
-    λ n. read_no_bad text out n r,
+        let same : s ≡ out = one_reading form well_formed units part_units parts each text r.items s r.are (r.joined ∙ append-nil (item_texts r.items)) w e ∙ sym r.bytes_are in
+        never (subst well_formed same w) (subst (λ x. IsEscapeBy form units x text) same e),
+    λ n. read_no_bad (shown_by form) text out n r,
   )

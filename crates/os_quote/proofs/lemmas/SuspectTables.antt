@@ -29,11 +29,11 @@ abbrev has_four : ℕ → Bool
 has_four c = is_some (suspect_bits (0xF0 + c / 0x4_0000) (0x80 + (c / 0x1000) % 0x40) (0x80 + (c / 0x40) % 0x40))
 
 abbrev has : ℕ → Bool
-has c = if ltb c 0x80 then has_one c else (if ltb c 0x800 then has_two c else (if ltb c 0x1_0000 then has_three c else has_four c))
+has c = if ltb c 0x80 then has_one c else (if ltb c 0x800 then has_two c else (if ltb c 0x1_0000 then has_three c else (if ltb c 0x4_0000 then has_four c else true)))
 
--- all characters of a range, and of ranges
+-- all characters of a range, and of ranges; of those from 4_0000 on the tables have the first byte
 abbrev has_range : ℕ × ℕ → Bool
-has_range r = all_below (λ k. has (r.0 + k)) (suc r.1 - r.0)
+has_range r = if ltb r.0 0x4_0000 then all_below (λ k. has (r.0 + k)) (suc r.1 - r.0) else true
 
 abbrev has_ranges : List (ℕ × ℕ) → Bool
 has_ranges [] = true
@@ -43,7 +43,10 @@ in_range_has : (r : ℕ × ℕ) (c : ℕ) → has_range r ≡ true → is_in_ran
 in_range_has r c e t =
     let i = in_range-true r.0 r.1 c t in
     let same : r.0 + (c - r.0) ≡ c = omega (arith, i.0) in
-    subst (λ x. has x ≡ true) same (each_below (λ k. has (r.0 + k)) (suc r.1 - r.0) (c - r.0) e (omega (arith, i.0, i.1)))
+    ⊎_elim
+    (λ low. subst (λ x. has x ≡ true) same (each_below (λ k. has (r.0 + k)) (suc r.1 - r.0) (c - r.0) (rw (lt-ltb r.0 0x4_0000 low) at e) (omega (arith, i.0, i.1))))
+    (λ past. rw (le-ltb c 0x80 (omega (arith, i.0, past)), le-ltb c 0x800 (omega (arith, i.0, past)), le-ltb c 0x1_0000 (omega (arith, i.0, past)), le-ltb c 0x4_0000 (omega (arith, i.0, past))) refl)
+    (cases_lt r.0 0x4_0000)
 
 in_ranges_has : (rs : List (ℕ × ℕ)) (c : ℕ) → has_ranges rs ≡ true → is_in_ranges rs c ≡ true → has c ≡ true
 in_ranges_has [] c e t = absurd (true≢false (sym t))
@@ -74,12 +77,16 @@ no_bits : (x y z : ℕ) → is_suspect x y z ≡ false → suspect_bits x y z �
 unfolding is_suspect
 no_bits x y z e = eqb-true _ _ (not-false _ e)
 
+-- a byte that is no suspect is of no kind of which any bytes may be the second and the third
+no_ascii_kind : (x y z : ℕ) → y < 256 → z < 256 → is_suspect x y z ≡ false → bit_and (kind_bits x) ascii ≡ 0
+no_ascii_kind x y z v w s =
+    let pair = none_of_all (kind_bits_of_two x y) (third_bits z) ascii (all_of third_bits ascii z refl w) (no_bits x y z s) in
+    ap (bit_and (kind_bits x)) (sym (all_of second_bits ascii y refl v)) ∙ sym (and_assoc ascii (kind_bits x) (second_bits y)) ∙ pair
+
 -- a character is unchanged where its first byte is no suspect
 pub one_occurs : (c y z : ℕ) → c < 0x80 → y < 256 → z < 256 → is_suspect c y z ≡ false → IsUnchanged stays_on_line c
 one_occurs c y z a v w s =
-    let pair = none_of_all (kind_bits_of_two c y) (third_bits z) ascii (all_of third_bits ascii z refl w) (no_bits c y z s) in
-    let lead : bit_and (kind_bits c) ascii ≡ 0 = ap (bit_and (kind_bits c)) (sym (all_of second_bits ascii y refl v)) ∙ sym (and_assoc ascii (kind_bits c) (second_bits y)) ∙ pair in
-    is_unchanged c (rw (lt-ltb c 0x80 a) (ap is_some lead))
+    is_unchanged c (rw (lt-ltb c 0x80 a) (ap is_some (no_ascii_kind c y z v w s)))
 
 pub two_occurs : (c z : ℕ) → 0x80 ≤ c → c < 0x800 → z < 256 → is_suspect (0xC0 + c / 0x40) (0x80 + c % 0x40) z ≡ false → IsUnchanged stays_on_line c
 two_occurs c z l a w s =
@@ -91,10 +98,26 @@ unfolding is_suspect
 three_occurs c l a s =
     is_unchanged c (rw (le-ltb c 0x80 (omega (arith, l)), le-ltb c 0x800 l, lt-ltb c 0x1_0000 a) s)
 
-pub four_occurs : (c : ℕ) → 0x1_0000 ≤ c → is_suspect (0xF0 + c / 0x4_0000) (0x80 + (c / 0x1000) % 0x40) (0x80 + (c / 0x40) % 0x40) ≡ false → IsUnchanged stays_on_line c
+four_occurs_low : (c : ℕ) → 0x1_0000 ≤ c → c < 0x4_0000 → is_suspect (0xF0 + c / 0x4_0000) (0x80 + (c / 0x1000) % 0x40) (0x80 + (c / 0x40) % 0x40) ≡ false → IsUnchanged stays_on_line c
 unfolding is_suspect
-four_occurs c l s =
-    is_unchanged c (rw (le-ltb c 0x80 (omega (arith, l)), le-ltb c 0x800 (omega (arith, l)), le-ltb c 0x1_0000 l) s)
+four_occurs_low c l a s =
+    is_unchanged c (rw (le-ltb c 0x80 (omega (arith, l)), le-ltb c 0x800 (omega (arith, l)), le-ltb c 0x1_0000 l, lt-ltb c 0x4_0000 a) s)
+
+-- each first byte from F1 to F4 is a suspect
+past_leads : all_below (λ k. is_some (bit_and (kind_bits (0xF1 + k)) ascii)) 4 ≡ true
+past_leads = refl
+
+never_past : (c y z : ℕ) → 0x4_0000 ≤ c → c < 0x11_0000 → y < 256 → z < 256 → is_suspect (0xF0 + c / 0x4_0000) y z ≡ false → ⊥
+never_past c y z l a v w s =
+    let lead : 0xF1 + (c / 0x4_0000 - 1) ≡ 0xF0 + c / 0x4_0000 = omega (arith, l) in
+    let kind = subst (λ x. is_some (bit_and (kind_bits x) ascii) ≡ true) lead (each_below (λ k. is_some (bit_and (kind_bits (0xF1 + k)) ascii)) 4 (c / 0x4_0000 - 1) past_leads (omega (arith, l, a))) in
+    true≢false (sym kind ∙ ap is_some (no_ascii_kind (0xF0 + c / 0x4_0000) y z v w s))
+
+pub four_occurs : (c : ℕ) → 0x1_0000 ≤ c → c < 0x11_0000 → is_suspect (0xF0 + c / 0x4_0000) (0x80 + (c / 0x1000) % 0x40) (0x80 + (c / 0x40) % 0x40) ≡ false → IsUnchanged stays_on_line c
+four_occurs c l a s =
+    ⊎_elim (λ low. four_occurs_low c l low s)
+    (λ past. absurd (never_past c (0x80 + (c / 0x1000) % 0x40) (0x80 + (c / 0x40) % 0x40) past a (omega arith) (omega arith) s))
+    (cases_lt c 0x4_0000)
 
 -- no byte that goes on in a character is one
 pub lead_from : (x y z : ℕ) → is_suspect x y z ≡ true → 128 ≤ x → 192 ≤ x

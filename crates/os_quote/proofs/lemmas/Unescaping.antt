@@ -1,5 +1,6 @@
 -- How far a text has been read into a buffer.
-use Rattle.os_quote.proofs.Common.{◌≡◌, ℕ, ◌+◌, ◌-◌, ◌≤◌, Bool, List, [], ◌∷◌, ◌++◌, length, take, take_at, refl, sym, ap, ◌∙◌, subst, arith, append-nil, length-append, AllByRecursion, IsUtf8, IsUtf8-nil, AreUnchanged, Chunk, AreChunks, PartLaws, Item, backslash, item_text, item_texts, IsItem, BeginsNoToken, IsBadEscapeBy, IsEscapeBy, HasNoBackslash, IsCutAtFirst, AreBytesRead, IsRead, item_bytes, IsChunkOf}
+use Rattle.os_quote.proofs.Common.{◌≡◌, ℕ, ◌+◌, ◌-◌, ◌≤◌, Bool, false, List, [], ◌∷◌, ◌++◌, length, take, take_at, refl, sym, ap, ◌∙◌, subst, arith, append-nil, length-append, AllByRecursion, IsUtf8, IsUtf8-nil, AreUnchanged, Chunk, AreChunks, PartLaws, Item, backslash, item_text, item_texts, IsItem, BeginsNoToken, IsBadEscapeBy, IsEscapeBy, HasNoBackslash, IsCutAtFirst, AreBytesRead, IsRead, item_bytes, IsChunkOf, before_ending, has_ending, shown_by}
+use Rattle.os_quote.specs.declared.form.Form.{Form}
 use Rattle.std.proofs.Common.{Result, Ok, Err, IfOk, IfErr, MatchResult}
 use Rattle.wtf8_core.specs.Truncated.{IsTruncated}
 use Rattle.wtf8_core.proofs.lemmas.buffers.Truncated.{whole, none_yet}
@@ -41,40 +42,41 @@ module _ (shows : ℕ → Bool) where
   pub bad_bytes_read : (bytes decoded rest prefix following : List ℕ) → AreBytesRead shows bytes decoded rest → IsCutAtFirst rest prefix following → BeginsNoToken shows (backslash ∷ following) → IsUtf8 bytes → IsBadEscapeBy shows bytes (length bytes - length following - 1)
   bad_bytes_read bytes decoded rest prefix following r cut none u = read_bad shows bytes decoded rest prefix following (r.read u) cut none
 
+module _ (form : Form) where
   module _ (well_formed : List ℕ → Type 0) (units : List ℕ → List ℕ) (part_units : List ℕ → Type 0) (parts : PartLaws well_formed units part_units)
-      (each : (s : List ℕ) (cs : List Chunk) → well_formed s → AreChunks s cs → AllByRecursion (IsChunkOf well_formed) cs) (text old new : List ℕ) (count : ℕ) where
+      (each : (s : List ℕ) (cs : List Chunk) → well_formed s → AreChunks (before_ending form s) cs → AllByRecursion (IsChunkOf well_formed) cs) (text old new : List ℕ) (count : ℕ) where
     -- what was read
-    pub unescaped : (decoded : List ℕ) → IsRead shows text decoded [] → IsTruncated decoded old new count → (count ≤ length old → well_formed decoded × IsEscapeBy shows units decoded text) → IsUnescapedBy shows well_formed units text old new count
+    pub unescaped : (decoded : List ℕ) → IsRead (shown_by form) text decoded [] → IsTruncated decoded old new count → (count ≤ length old → well_formed decoded × IsEscapeBy form units decoded text) → IsUnescapedBy form well_formed units text old new count
     unescaped decoded r t escape = record {
       string = decoded;
       written = t;
-      short = omega (arith, read_is_short text decoded [] r, t.count_is);
+      short = omega (arith, read_is_short (shown_by form) text decoded [] r, t.count_is);
       escape = escape;
-      only = λ s w e. one_reading shows well_formed units part_units parts each text r.items s r.are (r.joined ∙ append-nil (item_texts r.items)) w e ∙ sym r.bytes_are;
-      tokens = λ n. read_no_bad shows text decoded n r;
+      only = λ s w e. one_reading form well_formed units part_units parts each text r.items s r.are (r.joined ∙ append-nil (item_texts r.items)) w e ∙ sym r.bytes_are;
+      tokens = λ n. read_no_bad (shown_by form) text decoded n r;
     }
 
     -- a text of which each character is unchanged, written at the start of the buffer
-    pub own_unescaped : {bytes : List ℕ} → ((t : List ℕ) → IsUtf8 t → well_formed t) → IsUtf8 text → AreUnchanged shows text → bytes ≡ text → ((t buffer : List ℕ) → IsTruncated t buffer old 0 → IsTruncated (t ++ bytes) buffer new count)
-        → IsUnescapedBy shows well_formed units text old new count
-    own_unescaped texts u unchanged e written =
+    pub own_unescaped : {bytes : List ℕ} → ((t : List ℕ) → IsUtf8 t → well_formed t) → IsUtf8 text → AreUnchanged (shown_by form) text → has_ending form text ≡ false → bytes ≡ text → ((t buffer : List ℕ) → IsTruncated t buffer old 0 → IsTruncated (t ++ bytes) buffer new count)
+        → IsUnescapedBy form well_formed units text old new count
+    own_unescaped texts u unchanged none e written =
         let w = texts text u in
-        let own = own_escape shows well_formed units part_units parts text (texts [] IsUtf8-nil) u (unchanged_text shows text u unchanged) in
+        let own = own_escape form well_formed units part_units parts text (texts [] IsUtf8-nil) u (unchanged_text (shown_by form) text u unchanged) none in
         let t = subst (λ x. IsTruncated x old new count) e (written [] old (none_yet old)) in
         record {
           string = text;
           written = t;
           short = omega (arith, t.count_is);
           escape = λ _. (w, own);
-          only = λ s v e. one_string shows well_formed units part_units parts each s text text v w e own;
-          tokens = λ n. never_bad shows well_formed units part_units parts each text text n w own;
+          only = λ s v e. one_string form well_formed units part_units parts each s text text v w e own;
+          tokens = λ n. never_bad form well_formed units part_units parts each text text n w own;
         }
 
 -- a vector in which the text had room, cut after so many bytes, is the string
-pub unescaped_whole : {shows : ℕ → Bool} {well_formed : List ℕ → Type 0} {units : List ℕ → List ℕ} {bytes text old new written : List ℕ} {count len : ℕ} (more : List ℕ) → (IsUtf8 bytes → IsUnescapedBy shows well_formed units bytes old new count) → IsUtf8 text → bytes ≡ text → length text ≤ length old → length old ≡ len → written ≡ take count (take len (new ++ more))
-    → well_formed written × IsEscapeBy shows units written text
-unescaped_whole {shows} {well_formed} {units} {text = text} {old = old} {new = new} {count = count} {len = len} more read is_text same room size is =
-    let u = subst (λ x. IsUnescapedBy shows well_formed units x old new count) same (read (subst IsUtf8 (sym same) is_text)) in
+pub unescaped_whole : {form : Form} {well_formed : List ℕ → Type 0} {units : List ℕ → List ℕ} {bytes text old new written : List ℕ} {count len : ℕ} (more : List ℕ) → (IsUtf8 bytes → IsUnescapedBy form well_formed units bytes old new count) → IsUtf8 text → bytes ≡ text → length text ≤ length old → length old ≡ len → written ≡ take count (take len (new ++ more))
+    → well_formed written × IsEscapeBy form units written text
+unescaped_whole {form} {well_formed} {units} {text = text} {old = old} {new = new} {count = count} {len = len} more read is_text same room size is =
+    let u = subst (λ x. IsUnescapedBy form well_formed units x old new count) same (read (subst IsUtf8 (sym same) is_text)) in
     let fits : count ≤ length new = omega (arith, u.short, room, u.written.same_length) in
     let all : length new ≡ len = omega (arith, size, u.written.same_length) in
-    subst (λ x. well_formed x × IsEscapeBy shows units x text) (sym (is ∙ ap (take count) (take_at new more len all) ∙ whole u.string old new count u.written fits)) (u.escape (omega (arith, u.short, room)))
+    subst (λ x. well_formed x × IsEscapeBy form units x text) (sym (is ∙ ap (take count) (take_at new more len all) ∙ whole u.string old new count u.written fits)) (u.escape (omega (arith, u.short, room)))

@@ -1,4 +1,4 @@
-use Rattle.os_quote.specs.Shown.{is_any}
+use Rattle.os_quote.specs.declared.form.Form.TheVariants.{Text}
 use Rattle.test_uses.proofs.Outcomes.{err_is}
 use Rattle.test_uses.proofs.QuoteFaults.{only_bad_index}
 use Rattle.test_uses.proofs.escapes.bad_index_in.Goals as goal
@@ -10,4 +10,4 @@ returns g c =
     let at = c.args.at in
     err_is c.write_unescaped.result c.write_unescaped.ensures.string c.write_unescaped.ensures.fault c.write_unescaped.ensures.never_memory
     (λ count is. is.tokens at c.requires)
-    (only_bad_index is_any P.well_formed P.units text at (λ m is. c.bad_escapes.ensures.one_index text m at is c.requires) c.requires)
+    (only_bad_index Text P.well_formed P.units text at (λ m is. c.bad_escapes.ensures.one_index text m at is c.requires) c.requires)

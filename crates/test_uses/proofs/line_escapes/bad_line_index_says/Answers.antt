@@ -1,5 +1,5 @@
 use Rattle.test_uses.proofs.Outcomes.{err_and}
-use Rattle.os_quote.specs.Shown.{stays_on_line}
+use Rattle.os_quote.specs.declared.form.Form.TheVariants.{Line}
 use Rattle.test_uses.proofs.QuoteFaults.{bad_index}
 use Rattle.test_uses.proofs.line_escapes.bad_line_index_says.Goals as goal
 
@@ -10,4 +10,4 @@ returns g c =
     let at = c.args.at in
     err_and c.unescape_line.result c.unescape_line.ensures.string c.unescape_line.ensures.fault
     (λ string is. c.line_escapes.ensures.never_bad _ text at string.ok is c.requires)
-    (bad_index stays_on_line P.well_formed P.units text at (λ m is. c.line_escapes.ensures.one_index text m at is c.requires) c.requires)
+    (bad_index Line P.well_formed P.units text at (λ m is. c.line_escapes.ensures.one_index text m at is c.requires) c.requires)

@@ -1,6 +1,6 @@
 use Rattle.std.proofs.Common.{sym, subst}
 use Rattle.wtf8_core.specs.Truncated.{IsTruncated}
-use Rattle.os_quote.specs.Shown.{stays_on_line}
+use Rattle.os_quote.specs.declared.form.Form.TheVariants.{Line}
 use Rattle.platform_str.specs.Strings.{bytes}
 use Rattle.test_uses.proofs.Outcomes.{some_ok_and}
 use Rattle.test_uses.proofs.QuoteFaults.{no_fault}
@@ -13,5 +13,5 @@ returns g c =
     let escape = c.args.known.now in
     let formed = c.args.string.ok in
     some_ok_and _ _ _ _ _ c.write_unescaped_line_bytes.result c.write_unescaped_line_bytes.ensures.read (λ none. none (c.line_escapes.ensures.utf8 s escape formed c.requires))
-    (no_fault stays_on_line P.well_formed P.units s escape formed c.requires (λ n. c.line_escapes.ensures.never_bad s escape n formed c.requires))
+    (no_fault Line P.well_formed P.units s escape formed c.requires (λ n. c.line_escapes.ensures.never_bad s escape n formed c.requires))
     (λ count is. subst (λ x. IsTruncated x c.args.buffer.now c.write_unescaped_line_bytes.new.buffer count) (sym (is.only s formed c.requires)) is.written)

@@ -1,6 +1,6 @@
 use Rattle.std.proofs.Common.{sym, subst}
 use Rattle.wtf8_core.specs.Truncated.{IsTruncated}
-use Rattle.os_quote.specs.Shown.{stays_on_line}
+use Rattle.os_quote.specs.declared.form.Form.TheVariants.{Line}
 use Rattle.platform_str.specs.Strings.{bytes}
 use Rattle.test_uses.proofs.Outcomes.{ok_and}
 use Rattle.test_uses.proofs.QuoteFaults.{no_fault}
@@ -13,5 +13,5 @@ returns g c =
     let text = c.args.known.now in
     let formed = c.args.string.ok in
     ok_and c.write_unescaped_line.result c.write_unescaped_line.ensures.string c.write_unescaped_line.ensures.fault c.write_unescaped_line.ensures.never_memory
-    (no_fault stays_on_line P.well_formed P.units s text formed c.requires (λ n. c.line_escapes.ensures.never_bad s text n formed c.requires))
+    (no_fault Line P.well_formed P.units s text formed c.requires (λ n. c.line_escapes.ensures.never_bad s text n formed c.requires))
     (λ count is. subst (λ x. IsTruncated x c.args.buffer.now c.write_unescaped_line.new.buffer count) (sym (is.only s formed c.requires)) is.written)

@@ -13,12 +13,12 @@ other : (c hidden : ℕ) → stays_on_line hidden ≡ false → IsTrue (stays_on
 other c hidden h t e = true≢false (sym t ∙ ap stays_on_line e ∙ h)
 
 abbrev Seen : ℕ → Type 0
-Seen c = c ≢ 0x0A × (c ≢ 0xAD × (c ≢ 0xA0 × (c ≢ 0x3000 × (c ≢ 0x202E × (c ≢ 0x2800 × (c ≢ 0xFE0F × (c ≢ 0xE_0041)))))))
+Seen c = c ≢ 0x0A × (c ≢ 0xAD × (c ≢ 0xA0 × (c ≢ 0x3000 × (c ≢ 0x202E × (c ≢ 0x2800 × (c ≢ 0xFE0F × (c ≢ 0xE_0041 × (c ≢ 0xE000 × (c ≢ 0xFFFE × (c ≢ 0x1_D159))))))))))
 
 all_seen : (cs : List ℕ) → AllByRecursion (λ c. IsTrue (stays_on_line c)) cs → AllByRecursion Seen cs
 all_seen [] a = tt
 all_seen (c ∷ cs) a =
-    ((other c 0x0A refl a.0, (other c 0xAD refl a.0, (other c 0xA0 refl a.0, (other c 0x3000 refl a.0, (other c 0x202E refl a.0, (other c 0x2800 refl a.0, (other c 0xFE0F refl a.0, other c 0xE_0041 refl a.0))))))), all_seen cs a.1)
+    ((other c 0x0A refl a.0, (other c 0xAD refl a.0, (other c 0xA0 refl a.0, (other c 0x3000 refl a.0, (other c 0x202E refl a.0, (other c 0x2800 refl a.0, (other c 0xFE0F refl a.0, (other c 0xE_0041 refl a.0, (other c 0xE000 refl a.0, (other c 0xFFFE refl a.0, other c 0x1_D159 refl a.0)))))))))), all_seen cs a.1)
 
 pub returns : goal.returns
 returns g c =
