@@ -6,6 +6,7 @@ pub mod Classes
 pub mod Cuts
 pub mod Escaped
 pub mod LineReadings
+pub mod Lasts
 pub mod Nameless
 pub mod OneMeaning
 pub mod OneReading
@@ -14,6 +15,7 @@ pub mod Parts
 pub mod Rests
 pub mod SameFiles
 pub mod Tags
+pub mod SmallLetters
 pub mod Tagged
 pub mod Texts
 pub mod Verdicts

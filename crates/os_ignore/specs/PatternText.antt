@@ -1,5 +1,5 @@
 -- How a pattern is written: parts between slashes, of `*`, `?`, classes and literal bytes (gitignore, "PATTERN FORMAT").
-use Rattle.std.specs.Prelude.{◌≡◌, ℕ, Bool, true, false, not, nat_le, ◌&&◌, List, [], ◌∷◌, ◌++◌, length, Option, Some, None}
+use Rattle.std.specs.Prelude.{◌≡◌, ℕ, Bool, true, false, not, nat_le, ◌&&◌, List, [], ◌∷◌, length, Option, Some, None}
 use Rattle.std.specs.Char.{to_ascii_lowercase}
 use denote.Ref.{Bor}
 use Rattle.wildcards.specs.declared.class.Class.{Class}

@@ -1,27 +1,32 @@
 -- Tags of lines: a line is matched only with paths that have its tag. Only private contracts name this.
-use Rattle.std.specs.Prelude.{◌≡◌, ◌<◌, ◌≤◌, ◌+◌, ◌%◌, ℕ, Bool, true, List, length, slice_index}
+use Rattle.std.specs.Prelude.{◌≡◌, ◌<◌, ◌≤◌, ◌+◌, ◌*◌, ◌%◌, ℕ, Bool, true, map, List, [], ◌∷◌, length, slice_index}
 use Rattle.std.specs.List.{HoldsAt}
-use Rattle.std.specs.Hash.FoldHasher.{initial, write, finish}
+use Rattle.std.specs.Char.{to_ascii_lowercase}
 use Rattle.wildcards.specs.declared.part.Part.{Part}
 use Rattle.wildcards.specs.declared.piece.Piece.{Piece}
 use Rattle.os_ignore.specs.declared.line.Line.{Line}
 use Rattle.os_ignore.specs.Components.{IsPlain, IsCut, IsLastComponent}
 use Rattle.os_ignore.specs.Matching.{IsTarget, MatchesText, LineMatches}
 
--- a byte for a text
-abbrev pub tag_of : List ℕ → ℕ
-tag_of text = finish (write initial text) % 256
+-- a byte for bytes that follow others with this one
+abbrev pub tag_after : ℕ → List ℕ → ℕ
+tag_after tag [] = tag
+tag_after tag (b ∷ bs) = tag_after ((tag * 31 % 256 + b) % 256) bs
 
--- the path has the tag: 0, or that of its last component, of what follows its last dot, or of its first component
+-- a byte for a text, the same for a capital letter of ASCII as for its small one
+abbrev pub tag_of : List ℕ → ℕ
+tag_of text = tag_after 0 (map to_ascii_lowercase text)
+
+-- the path has the tag: 0, or that of its last component, of what follows that one's last dot, or of its first component
 pub data HasTag (path : List ℕ) (tag : ℕ) : Type 0 where
   any : tag ≡ 0 → HasTag path tag
   last : (name : List ℕ) → IsLastComponent path name → tag ≡ tag_of name → HasTag path tag
-  dot : (front back : List ℕ) → IsCut 0x2E path front back → IsPlain 0x2E back → tag ≡ tag_of back → HasTag path tag
+  dot : (front back : List ℕ) → IsCut 0x2E path front back → IsPlain 0x2E back → IsPlain 0x2F back → tag ≡ tag_of back → HasTag path tag
   first : (front back : List ℕ) → IsCut 0x2F path front back → IsPlain 0x2F front → tag ≡ tag_of front → HasTag path tag
 
--- the tag of what follows the path's last dot, if it has one
+-- the tag of what follows the component's last dot, if it has one
 abbrev pub IsDotTag : List ℕ → ℕ → Type 0
-IsDotTag path tag = (front back : List ℕ) → IsCut 0x2E path front back → IsPlain 0x2E back → tag ≡ tag_of back
+IsDotTag name tag = (front back : List ℕ) → IsCut 0x2E name front back → IsPlain 0x2E back → tag ≡ tag_of back
 
 -- the tag of the path's first component, if it has more than one
 abbrev pub IsFirstTag : List ℕ → ℕ → Type 0

@@ -99,8 +99,7 @@ impl<A: Allocator + Copy> Ignore<A> {
     /// capital that a backslash quotes matches nothing, nor does a capital alone in a class: `[A]` has
     /// neither `a` nor `A`, and `[a]` has both. The directory of the file is compared exactly.
     ///
-    /// A letter takes no more memory than with regard to case; a range of a class takes more. Each path is
-    /// tried with each line of such a file.
+    /// A letter takes no more memory than with regard to case. A range of a class takes more.
     ///
     /// # Errors
     ///

@@ -28,7 +28,7 @@ pub struct Line<A: Allocator = Global> {
     pub literal: Vec<u8, A>,
     /// What matches the rest.
     pub pattern: Vec<Piece<Part<A>>, A>,
-    /// A tag that each path has which it matches; 0, which each path has, if it folds.
+    /// A tag that each path has which it matches; 0 is one that each path has.
     pub tag: u8,
 }
 

@@ -200,7 +200,7 @@ fn last_index<A: Allocator>(
         × HoldsAt (λ line. IsLastMatch path.now is_dir lines.now line) lines.now at) }
 {
     let name = last_component(path);
-    let ends = (0, tag_of(name), dot_tag(path));
+    let ends = (0, tag_of(name), dot_tag(name));
     let first = first_tag(path);
     match last_tagged(lines, tags, ends, 0, path, name, is_dir) {
         Some(at) => {

@@ -101,7 +101,7 @@ module _ {A : Type 0} where
   -- the pattern of an escaped name matches that name
   pattern_of : (bs : List ℕ) → IsPlain 0x2F bs → (pattern : List (Piece (Part A))) → IsPattern false (quoted bs) pattern → ((text : List ℕ) → Matches by_slashes pattern text → text ≡ bs) × Matches by_slashes pattern bs
   pattern_of bs p pattern k =
-      let one = one_group (quoted bs) pattern k (λ pieces a h. let t = part_of bs p pieces a h in (t.ends, not_deep bs pieces a t)) in
+      let one = one_group false (quoted bs) pattern k (λ pieces a h. let t = part_of bs p pieces a h in (t.ends, not_deep bs pieces a t)) in
       let own = part_of bs p one.0.pieces.items after.End one.1.0 in (
         λ text m.
             let fit = subst (λ z. Matches by_slashes z text) one.1.1 m in

@@ -1,5 +1,5 @@
 -- The last line that matches, among those that have the tags of a path.
-use Rattle.std.proofs.Common.{◌≡◌, ◌⊎◌, inl, inr, ◌<◌, ◌≤◌, ◌+◌, nat_lt, slice_index, ℕ, Bool, true, false, get_or, Option, Some, None, List, ◌++◌, length, take, drop, refl, sym, ap, ◌∙◌, subst, arith, take-append-drop, length-drop}
+use Rattle.std.proofs.Common.{◌≡◌, ◌⊎◌, inl, inr, ◌<◌, ◌≤◌, ◌+◌, nat_lt, slice_index, ℕ, Bool, true, false, get_or, Option, Some, None, List, ◌∷◌, ◌++◌, length, take, drop, refl, sym, ap, ◌∙◌, subst, arith, take-append-drop, length-drop}
 use Rattle.std.specs.Prelude.{MatchOption}
 use Rattle.std.specs.List.{All, HoldsAt}
 use Rattle.std.proofs.lemmas.Bool.Decides.{nat_tests}
@@ -13,6 +13,7 @@ use Rattle.os_ignore.specs.Tags as tags
 use Rattle.os_ignore.specs.Tags.{HasTag, AreTags, NoneTagged, IsLastTagged, IsDotTag, IsFirstTag, tag_of}
 use Rattle.os_ignore.specs.Verdicts.{NoneMatches, IsLastMatch}
 use Rattle.os_ignore.proofs.lemmas.Rests.{one_last}
+use Rattle.os_ignore.proofs.lemmas.Lasts.{last_ends, plain_more}
 
 one_of_three : (a b c x : ℕ) → (x ≡ a) ⊎ ((x ≡ b) ⊎ (x ≡ c)) → is_byte3 a b c x ≡ true
 one_of_three a b c x (inl e) = grind (arith, nat_tests)
@@ -20,10 +21,13 @@ one_of_three a b c x (inr (inl e)) = grind (arith, nat_tests)
 one_of_three a b c x (inr (inr e)) = grind (arith, nat_tests)
 
 -- each tag of a path is sought
-pub sought : (path name : List ℕ) (end dot first : ℕ) → IsLastComponent path name → end ≡ tag_of name → IsDotTag path dot → IsFirstTag path first → (tag : ℕ) → HasTag path tag → (is_byte3 0 end dot tag ≡ true) ⊎ (is_byte3 first first first tag ≡ true)
+pub sought : (path name : List ℕ) (end dot first : ℕ) → IsLastComponent path name → end ≡ tag_of name → IsDotTag name dot → IsFirstTag path first → (tag : ℕ) → HasTag path tag → (is_byte3 0 end dot tag ≡ true) ⊎ (is_byte3 first first first tag ≡ true)
 sought path name end dot first l le d f tag (tags.any e) = inl (one_of_three 0 end dot tag (inl e))
 sought path name end dot first l le d f tag (tags.last other k e) = inl (one_of_three 0 end dot tag (inr (inl (e ∙ ap tag_of (one_last path other name k l) ∙ sym le))))
-sought path name end dot first l le d f tag (tags.dot front back c p e) = inl (one_of_three 0 end dot tag (inr (inr (e ∙ sym (d front back c p)))))
+sought path name end dot first l le d f tag (tags.dot front back c p q e) =
+    let all : path ≡ front ++ 0x2E ∷ back = c in
+    let own = last_ends path name front (0x2E ∷ back) l all (plain_more 0x2F 0x2E back refl q) in
+    inl (one_of_three 0 end dot tag (inr (inr (e ∙ sym (d own.0 back own.1 p)))))
 sought path name end dot first l le d f tag (tags.first front back c p e) = inr (one_of_three first first first tag (inl (e ∙ sym (f front back c p))))
 
 module _ {A : Type 0} (path : List ℕ) (is_dir : Bool) (lines : List (Line A)) (tags : List ℕ) where
