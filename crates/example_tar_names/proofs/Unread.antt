@@ -4,10 +4,10 @@ use Rattle.std.proofs.Math.Seq.{take-append_seam}
 use Rattle.std.specs.Prelude.{IfSome, ⊤}
 use Rattle.std.specs.Io.KnownBytes.{Appends}
 use Rattle.tar_names.specs.declared.fault.TarFault.{TarFault}
-use Rattle.tar_names.specs.declared.fault.TarFault.TheVariants.{CutOff, Sum, Kind, Size, Padding, Record, GnuRecord, Global, Twice, Prefix, TooLong}
+use Rattle.tar_names.specs.declared.fault.TarFault.TheVariants.{CutOff, End, Sum, Kind, Size, Padding, Unused, Record, GnuRecord, Global, Empty, Twice, Hidden, Prefix, TooLong}
 use Rattle.tar_names.specs.Fields.{after_spaces, digits_of, field}
 use Rattle.tar_names.specs.Member.{BeginsWithHeader, HasPadding, IsCut, IsMember, IsMemberFault, IsSize, block_of, is_known, type_of}
-use Rattle.tar_names.specs.Names.{AreNames, bad_member, bad_prefix, bad_said, ended, entry, said, too_long}
+use Rattle.tar_names.specs.Names.{AreNames, bad_member, bad_name, bad_said, ended, entry, filled, said, too_long}
 use Rattle.example_tar_names.specs.declared.fault.Fault.{Fault}
 use Rattle.example_tar_names.specs.declared.fault.Fault.TheVariants.{Refused, Archive, Stopped}
 use Rattle.example_tar_names.specs.Line.{AreLines, IsReport, more, none}
@@ -20,13 +20,14 @@ HasNoMember size archive = (header content rest : List ℕ) → ¬ (IsMember siz
 -- then it has no names, and the fault of its first header
 unread : {next : Option (List ℕ)} {size : Option ℕ} {extended : Bool} {archive : List ℕ} {names : List (List ℕ)} {end : Option TarFault} → AreNames next size extended archive names end → BeginsWithHeader archive → HasNoMember size archive
     → (names ≡ []) × ((fault : TarFault) × ((end ≡ Some fault) × IsMemberFault size archive fault))
-unread (ended is) begins memberless = absurd (begins.some is.1)
+unread (ended is) begins memberless = absurd (begins.some is.0.1)
 unread (bad_member {fault = fault} is) begins memberless = (refl, (fault, (refl, is)))
 unread (bad_said member is) begins memberless = absurd (memberless _ _ _ member)
-unread (bad_prefix member is prefix) begins memberless = absurd (memberless _ _ _ member)
+unread (bad_name member is wrong) begins memberless = absurd (memberless _ _ _ member)
 unread (too_long name member is named long) begins memberless = absurd (memberless _ _ _ member)
+unread (filled name member is called short slash) begins memberless = absurd (memberless _ _ _ member)
 unread (said member is others) begins memberless = absurd (memberless _ _ _ member)
-unread (entry member is named short others) begins memberless = absurd (memberless _ _ _ member)
+unread (entry member is named short bare others) begins memberless = absurd (memberless _ _ _ member)
 
 -- the header of a member is the first block
 first_block : (size : Option ℕ) (archive header content padding rest : List ℕ) → IsCut size archive header content padding rest → header ≡ block_of archive
@@ -44,14 +45,18 @@ unknown_cut size archive header content padding rest is cut =
 sparse_fault : (archive : List ℕ) (fault : TarFault) → BeginsSparse archive → IsMemberFault None archive fault → fault ≡ Kind
 sparse_fault archive CutOff sparse (inl short) = absurd (omega (arith, short, sparse.0.header.long))
 sparse_fault archive CutOff sparse (inr cut) = absurd (not_known archive sparse.1 cut.0.known)
+sparse_fault archive End sparse is = absurd (sparse.0.header.some is.0.1)
 sparse_fault archive Sum sparse is = absurd (is.1 sparse.0.sum)
 sparse_fault archive Kind sparse is = refl
 sparse_fault archive Size sparse is = absurd (not_known archive sparse.1 is.0.known)
 sparse_fault archive Padding sparse is = absurd (unknown_cut None archive is.header is.content is.padding is.rest sparse.1 is.cut)
+sparse_fault archive Unused sparse is = absurd (unknown_cut None archive is.header is.content is.padding is.rest sparse.1 is.cut)
 sparse_fault archive Record sparse is = absurd is
 sparse_fault archive GnuRecord sparse is = absurd is
 sparse_fault archive Global sparse is = absurd is
+sparse_fault archive Empty sparse is = absurd is
 sparse_fault archive Twice sparse is = absurd is
+sparse_fault archive Hidden sparse is = absurd is
 sparse_fault archive Prefix sparse is = absurd is
 sparse_fault archive TooLong sparse is = absurd is
 
@@ -66,14 +71,18 @@ sizeless_cut archive header content padding rest digit lacks cut =
 sizeless_fault : (archive : List ℕ) (fault : TarFault) → SizesHaveDigits → LacksSize archive → IsMemberFault None archive fault → fault ≡ Size
 sizeless_fault archive CutOff digit lacks (inl short) = absurd (omega (arith, short, lacks.0.sum.header.long))
 sizeless_fault archive CutOff digit lacks (inr cut) = absurd (digit None (block_of archive) cut.1.0 cut.1.1.0 lacks.1)
+sizeless_fault archive End digit lacks is = absurd (lacks.0.sum.header.some is.0.1)
 sizeless_fault archive Sum digit lacks is = absurd (is.1 lacks.0.sum.sum)
 sizeless_fault archive Kind digit lacks is = let never : true ≡ false = sym lacks.0.known ∙ is.1 in cc
 sizeless_fault archive Size digit lacks is = refl
 sizeless_fault archive Padding digit lacks is = absurd (sizeless_cut archive is.header is.content is.padding is.rest digit lacks is.cut)
+sizeless_fault archive Unused digit lacks is = absurd (sizeless_cut archive is.header is.content is.padding is.rest digit lacks is.cut)
 sizeless_fault archive Record digit lacks is = absurd is
 sizeless_fault archive GnuRecord digit lacks is = absurd is
 sizeless_fault archive Global digit lacks is = absurd is
+sizeless_fault archive Empty digit lacks is = absurd is
 sizeless_fault archive Twice digit lacks is = absurd is
+sizeless_fault archive Hidden digit lacks is = absurd is
 sizeless_fault archive Prefix digit lacks is = absurd is
 sizeless_fault archive TooLong digit lacks is = absurd is
 

@@ -3,8 +3,10 @@ use Rattle.std.specs.Prelude.{◌≡◌, ◌⊎◌, ℕ, Bool, true, false, ◌|
 use Rattle.os_quote.specs.Escape.{IsLineEscape}
 use Rattle.path_rules.specs.declared.rules.Style.TheVariants.{Unix}
 use Rattle.path_building.specs.declared.checked.JoinError.{JoinError}
-use Rattle.path_building.specs.declared.checked.JoinError.TheVariants.{BaseNul, Base, Nul, Prefix, Root, Leaves, Stream, Reserved, Memory}
-use Rattle.path_building.specs.Checked.{IsCheckedJoin, IsJoinFault}
+use Rattle.path_building.specs.declared.checked.JoinError.TheVariants.{Base, Name}
+use Rattle.path_building.specs.declared.walk.NameError.TheVariants.{Nul, Prefix, Root, Leaves, Stream, Reserved, Memory}
+use Rattle.path_building.specs.Checked.{IsCheckedJoin}
+use Rattle.path_building.specs.Faults.{IsJoinFault}
 use Rattle.tar_names.specs.declared.fault.TarFault.{TarFault}
 use Rattle.tar_names.specs.Names.{AreNames}
 
@@ -14,15 +16,14 @@ folder = codes "."
 
 -- what follows a name that is refused; on Unix it is for a NUL, its root, or since it leaves the folder
 abbrev pub reason_of : JoinError → List ℕ
-reason_of (BaseNul index) = codes ": refused, the folder has a NUL\n"
-reason_of Base = codes ": refused, the folder is no place of its own\n"
-reason_of (Nul index) = codes ": refused, it has a NUL\n"
-reason_of Prefix = codes ": refused, it has a prefix\n"
-reason_of Root = codes ": refused, it has a root\n"
-reason_of Leaves = codes ": refused, it leaves the folder\n"
-reason_of Stream = codes ": refused, it has a stream\n"
-reason_of Reserved = codes ": refused, it is reserved\n"
-reason_of Memory = codes ": refused\n"
+reason_of (Base error) = codes ": refused, the folder is no base\n"
+reason_of (Name (Nul index)) = codes ": refused, it has a NUL\n"
+reason_of (Name Prefix) = codes ": refused, it has a prefix\n"
+reason_of (Name Root) = codes ": refused, it has a root\n"
+reason_of (Name (Leaves index)) = codes ": refused, it leaves the folder\n"
+reason_of (Name (Stream index)) = codes ": refused, it has a stream\n"
+reason_of (Name (Reserved index)) = codes ": refused, it is reserved\n"
+reason_of (Name Memory) = codes ": refused\n"
 
 -- what follows the name on its line, and whether it is refused: nothing where it stays below the folder
 abbrev pub IsVerdict : List ℕ → List ℕ → Bool → Type 0

@@ -31,20 +31,30 @@ impl fmt::Display for Fault {
         match *self {
             Fault::Refused => f.write_str("a name is refused"),
             Fault::Archive(TarFault::CutOff) => f.write_str("the archive is cut off"),
+            Fault::Archive(TarFault::End) => f.write_str(
+                "one block of zeros does not end an archive",
+            ),
             Fault::Archive(TarFault::Sum) => f.write_str("a checksum is wrong"),
             Fault::Archive(TarFault::Kind) => f.write_str(
                 "the type of a member is unknown or not read",
             ),
-            Fault::Archive(TarFault::Size) => f.write_str("a size is no number that is read"),
+            Fault::Archive(TarFault::Size) => f.write_str(
+                "a size is no number that is read, or one of what holds nothing",
+            ),
             Fault::Archive(TarFault::Padding) => f.write_str(
                 "an extended header is not filled up with zeros",
             ),
+            Fault::Archive(TarFault::Unused) => f.write_str("a header does not end with zeros"),
             Fault::Archive(TarFault::Record) => f.write_str("a record of pax is damaged"),
             Fault::Archive(TarFault::GnuRecord) => f.write_str("a record of pax is one of GNU tar"),
             Fault::Archive(TarFault::Global) => f.write_str(
-                "a global header of pax has a path or a size",
+                "a global header of pax has a path or a size, or comes before an entry that is named",
             ),
+            Fault::Archive(TarFault::Empty) => f.write_str("a long name is empty"),
             Fault::Archive(TarFault::Twice) => f.write_str("two headers name one entry"),
+            Fault::Archive(TarFault::Hidden) => f.write_str(
+                "a header has a name with a root or .. that is not the name stated for it",
+            ),
             Fault::Archive(TarFault::Prefix) => f.write_str(
                 "a header that is not of POSIX has a prefix",
             ),

@@ -1,11 +1,14 @@
 //! The line that is printed for a name.
-ghost use Rattle.std.specs.Prelude.{◌≡◌, ◌++◌, ℕ, List, IfOk};
+ghost use Rattle.std.specs.Prelude.{◌≡◌, ◌++◌, ℕ, List, true, IfOk, IfErr};
 ghost use Rattle.platform_str.specs.Strings.{bytes};
 ghost use Rattle.os_quote.specs.Escape.{IsLineEscape};
 ghost use Rattle.tar_names.specs.Name.{name_bytes};
-ghost use Rattle.example_tar_names.specs.Line.{reason_of, IsVerdict, IsLine};
+ghost use Rattle.path_rules.specs.declared.rules.Style.TheVariants as style;
+ghost use Rattle.path_building.specs.Checked.{IsCheckedJoin};
+ghost use Rattle.path_building.specs.Faults.{IsJoinFault};
+ghost use Rattle.example_tar_names.specs.Line.{folder, reason_of, IsVerdict, IsLine};
 
-use os_path::{JoinError, PathExt};
+use os_path::{JoinError, NameError, PathExt};
 use os_quote::escape_line;
 use platform_str::{OsStr, Path, Unix};
 use std::alloc::{AllocError, Allocator};
@@ -42,6 +45,18 @@ fn write_escape<A: Allocator + Copy>(
     Ok(())
 }
 
+/// Joins a name to the folder, which it must stay below.
+fn joined<A: Allocator + Copy>(alloc: A, name: OsStr<'_, Unix>) -> Result<(), JoinError>
+    ensures ok { IfOk result (λ _. (joined : List ℕ)
+        × IsCheckedJoin style.Unix folder (bytes name.entry) joined) }
+    ensures err { IfErr result (λ error. IsJoinFault style.Unix folder (bytes name.entry) error) }
+{
+    match Path::<Unix>::new(OsStr::new(".")).join_checked(alloc, Path::new(name)) {
+        Ok(_) => Ok(()),
+        Err(error) => Err(error),
+    }
+}
+
 /// Appends what follows a name on its line, and returns whether the name is rejected: it is joined
 /// to the folder, and must stay below it.
 fn write_verdict<A: Allocator + Copy>(
@@ -53,17 +68,28 @@ fn write_verdict<A: Allocator + Copy>(
         × (IsVerdict (bytes name.entry) after refused
         × (output.new.items ≡ output.old.items ++ after))) }
 {
-    match Path::<Unix>::new(OsStr::new(".")).join_checked(alloc, Path::new(name)) {
-        Ok(_) => {
+    match joined(alloc, name) {
+        Ok(()) => {
             output.extend_from_slice(b"\n".as_slice())?;
             Ok(false)
         }
-        Err(JoinError::Memory) => Err(AllocError),
-        Err(error) => {
-            output.extend_from_slice(reason_of(error).as_bytes())?;
-            Ok(true)
-        }
+        Err(error) => write_reason(error, output),
     }
+}
+
+/// Appends why a name is rejected, and returns that it is.
+fn write_reason<A: Allocator + Copy>(
+    error: JoinError,
+    output: &mut Vec<u8, A>,
+) -> Result<bool, AllocError>
+    ensures { IfOk result (λ refused. (refused ≡ true)
+        × (output.new.items ≡ output.old.items ++ reason_of error)) }
+{
+    if matches!(error, JoinError::Name(NameError::Memory)) {
+        return Err(AllocError);
+    }
+    output.extend_from_slice(reason_of(error).as_bytes())?;
+    Ok(true)
 }
 
 /// Why a name is rejected.
@@ -71,14 +97,13 @@ fn reason_of(error: JoinError) -> &'static str
     ensures { result.now ≡ reason_of error }
 {
     match error {
-        JoinError::BaseNul(_) => ": refused, the folder has a NUL\n",
-        JoinError::Base => ": refused, the folder is no place of its own\n",
-        JoinError::Nul(_) => ": refused, it has a NUL\n",
-        JoinError::Prefix => ": refused, it has a prefix\n",
-        JoinError::Root => ": refused, it has a root\n",
-        JoinError::Leaves => ": refused, it leaves the folder\n",
-        JoinError::Stream => ": refused, it has a stream\n",
-        JoinError::Reserved => ": refused, it is reserved\n",
-        JoinError::Memory => ": refused\n",
+        JoinError::Base(_) => ": refused, the folder is no base\n",
+        JoinError::Name(NameError::Nul(_)) => ": refused, it has a NUL\n",
+        JoinError::Name(NameError::Prefix) => ": refused, it has a prefix\n",
+        JoinError::Name(NameError::Root) => ": refused, it has a root\n",
+        JoinError::Name(NameError::Leaves(_)) => ": refused, it leaves the folder\n",
+        JoinError::Name(NameError::Stream(_)) => ": refused, it has a stream\n",
+        JoinError::Name(NameError::Reserved(_)) => ": refused, it is reserved\n",
+        JoinError::Name(NameError::Memory) => ": refused\n",
     }
 }
