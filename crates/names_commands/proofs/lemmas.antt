@@ -7,6 +7,7 @@ pub mod Ignored
 pub mod Picked
 pub mod Picks
 pub mod Words
+pub mod Names
 pub mod WordsBack
 pub mod Decided
 pub mod Pointed

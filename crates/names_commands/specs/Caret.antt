@@ -14,9 +14,9 @@ as_wide c = cond (nat_lt c 0x300) (0x20 ∷ []) (encode_utf8 c)
 abbrev pub spaces_below : List ℕ → List ℕ
 spaces_below text = flat_map as_wide (chars text)
 
--- a text on a line, and on the next one a caret below what comes after its beginning
+-- a text on a line, and on the next one a caret below what comes after its beginning, which is given with a `^` after it: so that line begins with a space less
 abbrev pub caret_text : List ℕ → List ℕ → List ℕ
-caret_text text beginning = codes "\n  " ++ (text ++ (codes "\n  " ++ (spaces_below beginning ++ codes "^")))
+caret_text text marked = codes "\n  " ++ (text ++ (codes "\n " ++ (spaces_below marked ++ codes "^")))
 
 -- the text, or nothing where it is longer than there is room for
 abbrev pub fitting : ℕ → List ℕ → List ℕ
@@ -26,6 +26,7 @@ fitting room text = cond (nat_le (length text) room) text []
 pub record IsPointed (pattern : List ℕ) (index : ℕ) (text : List ℕ) : Type 0 where
   pub escape : List ℕ
   pub escape_is : IsLineEscape unix.ghosts.units pattern escape
-  pub beginning : List ℕ
-  pub beginning_is : IsLineEscape unix.ghosts.units (take index pattern) beginning
-  pub text_is : text ≡ fitting 400 (caret_text escape beginning)
+  -- what precedes the place, and a `^`, so that no space of it is at the end
+  pub marked : List ℕ
+  pub marked_is : IsLineEscape unix.ghosts.units (take index pattern ++ codes "^") marked
+  pub text_is : text ≡ fitting 400 (caret_text escape marked)

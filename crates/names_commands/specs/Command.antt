@@ -8,9 +8,11 @@ use Rattle.os_args.specs.Views.{fault_of}
 use Rattle.os_args.specs.Word.{Value}
 use Rattle.wildcards.specs.declared.separators.Separators.TheVariants.{Slash, SlashAndBackslash}
 use Rattle.program_frame.specs.Arguments.{HasOption, LastValue, operands_of}
+use Rattle.program_frame.specs.ListOptions.{AreStated}
 use Rattle.program_frame.specs.Os.{os_word}
 use Rattle.program_frame.specs.declared.arguments.Given.{Given}
 use Rattle.program_frame.specs.declared.arguments.Given.TheVariants.{Operand, Flag, Valued}
+use Rattle.program_frame.specs.declared.lists.options.ListOptions.{ListOptions}
 use Rattle.program_frame.specs.declared.misuse.Misuse.{Misuse}
 use Rattle.program_frame.specs.declared.misuse.Misuse.TheVariants.{Argument, Missing, Invalid, Misplaced}
 use Rattle.program_frame.specs.declared.os.Os.{Os}
@@ -25,8 +27,8 @@ use Rattle.names_commands.specs.declared.command.Request.{Request}
 use Rattle.names_commands.specs.declared.option.NamesOption.{NamesOption}
 use Rattle.names_commands.specs.declared.option.NamesOption.TheVariants as option
 use Rattle.names_commands.specs.declared.pick.Pick.{Pick}
-use Rattle.names_commands.specs.declared.task.LastLine.{LastLine}
-use Rattle.names_commands.specs.declared.task.LastLine.TheVariants.{MustEnd, MayLackEnd}
+use Rattle.names_commands.specs.declared.task.EmptyLine.{EmptyLine}
+use Rattle.names_commands.specs.declared.task.EmptyLine.TheVariants.{IsRejected as LineIsRejected, IsEmptyName}
 use Rattle.names_commands.specs.declared.task.WordForm.{WordForm}
 use Rattle.names_commands.specs.declared.task.WordForm.TheVariants.{Posix, OneLine}
 
@@ -57,11 +59,13 @@ TakesOption name.Join option.ShLine = Unit {0}
 TakesOption name.Filter option.ShLine = ⊥
 TakesOption name.Why option.ShLine = ⊥
 TakesOption name.Check option.ShLine = ⊥
-TakesOption name.List option.Unterminated = ⊥
-TakesOption name.Join option.Unterminated = Unit {0}
-TakesOption name.Filter option.Unterminated = ⊥
-TakesOption name.Why option.Unterminated = ⊥
-TakesOption name.Check option.Unterminated = ⊥
+TakesOption command option.Lines = Unit {0}
+TakesOption command option.Unterminated = Unit {0}
+TakesOption name.List option.Empty = ⊥
+TakesOption name.Join option.Empty = Unit {0}
+TakesOption name.Filter option.Empty = ⊥
+TakesOption name.Why option.Empty = ⊥
+TakesOption name.Check option.Empty = ⊥
 TakesOption name.List option.Glob = Unit {0}
 TakesOption name.Join option.Glob = ⊥
 TakesOption name.Filter option.Glob = Unit {0}
@@ -131,10 +135,10 @@ IsForm given OneLine = HasOption option.ShLine given
 abbrev pub NoWords : Line → Type 0
 NoWords given = (¬ (HasOption option.Sh given)) × (¬ (HasOption option.ShLine given))
 
--- whether the last line may lack its newline
-abbrev pub IsLast : Line → LastLine → Type 0
-IsLast given MustEnd = ¬ (HasOption option.Unterminated given)
-IsLast given MayLackEnd = HasOption option.Unterminated given
+-- whether an empty line is the escape of the empty name
+abbrev pub IsEmptyLine : Line → EmptyLine → Type 0
+IsEmptyLine given LineIsRejected = ¬ (HasOption option.Empty given)
+IsEmptyLine given IsEmptyName = HasOption option.Empty given
 
 -- the command that these make up
 abbrev pub MakesUp : Line → Command → Type 0
@@ -142,8 +146,8 @@ MakesUp given (ListNames os pick) = (more : List (List ℕ)) × (HasOperands giv
 MakesUp given (ListWords form pick) = (more : List (List ℕ)) × (HasOperands given name.List Unix more × (Fits name.List given × (IsForm given form × IsMaybePick given Unix more pick)))
 MakesUp given (Filter os pick) = (more : List (List ℕ)) × (HasOperands given name.Filter os more × (Fits name.Filter given × IsPick given os more pick))
 MakesUp given (Why os) = HasOperands given name.Why os [] × (Fits name.Why given × (HasOption option.Ignore given × TakesIgnore os))
-MakesUp given (Join os last) = HasOperands given name.Join os [] × (Fits name.Join given × (NoWords given × IsLast given last))
-MakesUp given (JoinWords last) = HasOperands given name.Join Unix [] × (Fits name.Join given × ((¬ (NoWords given)) × IsLast given last))
+MakesUp given (Join os empty) = HasOperands given name.Join os [] × (Fits name.Join given × (NoWords given × IsEmptyLine given empty))
+MakesUp given JoinWords = HasOperands given name.Join Unix [] × (Fits name.Join given × (¬ (NoWords given)))
 MakesUp given (Check os) = HasOperands given name.Check os [] × Fits name.Check given
 MakesUp given Help = ⊥
 MakesUp given Version = ⊥
@@ -160,13 +164,17 @@ IsMax given max =
     (LastValue option.Max given None None × (max ≡ 1048576))
     ⊎ ((number : List ℕ) × (LastValue option.Max given None (Some number) × IsLimit number max))
 
+-- how the list is written: by the options for lines and for a last item without its end, and with that limit
+abbrev pub IsListed : Line → ListOptions → Type 0
+IsListed given list = (max : ℕ) × (IsMax given max × AreStated option.Lines option.Unterminated max given list)
+
 -- these make up the request: help, wherever its option is; the version; or a command
 abbrev pub AsksFor : Line → Request → Type 0
 AsksFor given r =
     (HasOption option.Help given × (r.command ≡ Help))
     ⊎ ((¬ (HasOption option.Help given)) × (
     (HasOption option.Version given × (r.command ≡ Version))
-    ⊎ ((¬ (HasOption option.Version given)) × (IsMax given r.max × MakesUp given r.command))
+    ⊎ ((¬ (HasOption option.Version given)) × (IsListed given r.list × MakesUp given r.command))
     ))
 
 -- what is missing: a command, a platform after it, what picks names, or an ignore file
@@ -191,7 +199,9 @@ IsForPlatform os option.Version = Unit {0}
 IsForPlatform os option.Max = Unit {0}
 IsForPlatform os option.Sh = os ≡ Unix
 IsForPlatform os option.ShLine = os ≡ Unix
+IsForPlatform os option.Lines = Unit {0}
 IsForPlatform os option.Unterminated = Unit {0}
+IsForPlatform os option.Empty = Unit {0}
 IsForPlatform os option.Glob = Unit {0}
 IsForPlatform os option.Name = Unit {0}
 IsForPlatform os option.Ignore = TakesIgnore os

@@ -11,7 +11,7 @@ use Rattle.os_quote.specs.ErrorText.{error_text}
 use Rattle.os_quote.specs.declared.error.QuoteError.TheVariants as quote
 use Rattle.os_str_bytes.specs.FaultText.{fault_text}
 use Rattle.names_commands.specs.declared.fault.Refusal.{Refusal}
-use Rattle.names_commands.specs.declared.fault.Refusal.TheVariants.{NoString, BadEscape, NotCanonical, HasNul, BadWords}
+use Rattle.names_commands.specs.declared.fault.Refusal.TheVariants.{NoString, BadEscape, NotCanonical, HasNul, HasNewline, EndsInReturn, EmptyLine, BadWords}
 use Rattle.names_commands.specs.declared.fault.CommandFault.{CommandFault}
 use Rattle.names_commands.specs.declared.fault.CommandFault.TheVariants.{Unreadable, Misuse, Pattern, NoFile, Unread}
 
@@ -21,6 +21,9 @@ refusal_text (NoString error) = fault_text error
 refusal_text (BadEscape index) = error_text (quote.BadEscape index)
 refusal_text NotCanonical = error_text quote.NotCanonical
 refusal_text HasNul = codes "the name has a NUL"
+refusal_text HasNewline = codes "the name has a newline"
+refusal_text EndsInReturn = codes "the line ends in a carriage return"
+refusal_text EmptyLine = codes "the line is empty; --empty reads it as an empty name"
 refusal_text (BadWords fault) = words.fault_text fault
 
 -- what the program prints of the reason why its arguments are rejected

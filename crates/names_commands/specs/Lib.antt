@@ -1,3 +1,4 @@
+pub mod Names
 pub mod Task
 pub mod Ignoring
 pub mod Matching

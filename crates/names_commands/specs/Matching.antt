@@ -16,12 +16,15 @@ use Rattle.glob_text.specs.declared.fault.PatternFault.{PatternFault}
 use Rattle.wildcards.specs.Sets.{IsHit}
 use Rattle.os_ignore.specs.declared.file.File.{File}
 use Rattle.program_frame.specs.Items.{Lacks}
+use Rattle.program_frame.specs.ListOptions.{MayLack, byte_of}
 use Rattle.program_frame.specs.Rules.{ListRules}
+use Rattle.program_frame.specs.declared.lists.options.ItemEnd.{ItemEnd}
+use Rattle.program_frame.specs.declared.lists.options.ListOptions.{ListOptions}
 use Rattle.names_commands.specs.declared.fault.Refusal.{Refusal}
-use Rattle.names_commands.specs.declared.fault.Refusal.TheVariants.{NoString, BadEscape, NotCanonical, HasNul, BadWords}
 use Rattle.names_commands.specs.declared.matching.Form.{Form}
 use Rattle.names_commands.specs.declared.matching.Form.TheVariants.{Line, Name, Word}
 use Rattle.names_commands.specs.Ignoring.{IsIgnored}
+use Rattle.names_commands.specs.Names.{IsNameRefusal}
 use Rattle.names_commands.specs.Task.{IsLine}
 use Rattle.names_commands.specs.Words.{IsWordLine}
 
@@ -32,39 +35,25 @@ IsPicked true Chosen files name = ¬ (Chosen name × (¬ (IsIgnored files name))
 
 -- on a platform that states this of its strings:
 module _ {E : Type 0} (p : Ghosts E) where
-  -- the name in this form: its escape on a line, itself with NUL, or its word on a line
-  abbrev pub IsInForm : Form → List ℕ → List ℕ → Type 0
-  IsInForm Line name text = IsLine p name text
-  IsInForm Name name text = text ≡ name ++ 0 ∷ []
-  IsInForm (Word form) name text = IsWordLine form name text
+  -- the name in this form: its escape on a line, itself with its end, or its word on a line
+  abbrev pub IsInForm : Form → ItemEnd → List ℕ → List ℕ → Type 0
+  IsInForm Line end name text = IsLine p name text
+  IsInForm Name end name text = text ≡ name ++ byte_of end ∷ []
+  IsInForm (Word form) end name text = IsWordLine form name text
 
   -- this is written for a name: the name in this form, if it is picked, and else nothing
-  abbrev pub IsTextOfPicked : Form → (List ℕ → Type 0) → List ℕ → List ℕ → Type 0
-  IsTextOfPicked form Picked name text = p.well_formed name × ((Picked name × IsInForm form name text) ⊎ ((¬ (Picked name)) × (text ≡ [])))
+  abbrev pub IsTextOfPicked : Form → ItemEnd → (List ℕ → Type 0) → List ℕ → List ℕ → Type 0
+  IsTextOfPicked form end Picked name text = p.well_formed name × (Lacks 0 name × ((Picked name × IsInForm form end name text) ⊎ ((¬ (Picked name)) × (text ≡ []))))
 
-  -- a name has a NUL, and is to be a word
-  abbrev pub HasNulIn : Form → List ℕ → Type 0
-  HasNulIn Line name = ⊥
-  HasNulIn Name name = ⊥
-  HasNulIn (Word form) name = ¬ (Lacks 0 name)
-
-  -- why a name is rejected: it isn't a string, or it has a NUL
-  abbrev pub IsNoName : Form → List ℕ → Refusal → Type 0
-  IsNoName form name (NoString error) = p.first_fault name error
-  IsNoName form name (BadEscape index) = ⊥
-  IsNoName form name NotCanonical = ⊥
-  IsNoName form name HasNul = HasNulIn form name
-  IsNoName form name (BadWords fault) = ⊥
-
-  -- what is done with each name, where some are picked
-  abbrev pub picking : Form → ℕ → (List ℕ → Type 0) → ListRules Refusal
-  picking form max Picked = record {
-    end = 0;
-    takes_unended = Unit {0};
-    max = max;
-    longest = max;
-    is_text = IsTextOfPicked form Picked;
-    refuses = IsNoName form;
+  -- what is done with each name of a list that is written so, where some are picked
+  abbrev pub picking : Form → ListOptions → (List ℕ → Type 0) → ListRules Refusal
+  picking form list Picked = record {
+    end = byte_of list.end;
+    takes_unended = MayLack list.last;
+    max = list.max;
+    longest = list.max;
+    is_text = IsTextOfPicked form list.end Picked;
+    refuses = IsNameRefusal p;
     is_of_long = λ name. ⊥;
   }
 
@@ -116,8 +105,8 @@ module _ {E : Type 0} (p : Ghosts E) where
   IsPickedBy inverted globs files = IsPicked inverted (IsChosenBy globs) files
 
   -- what is written then, and what is done with each name
-  abbrev pub IsTextOfMatched : {A : Type 0} → Form → Bool → Option (Bor (GlobSet E A)) → List (File A) → List ℕ → List ℕ → Type 0
-  IsTextOfMatched form inverted globs files = IsTextOfPicked form (IsPickedBy inverted globs files)
+  abbrev pub IsTextOfMatched : {A : Type 0} → Form → ItemEnd → Bool → Option (Bor (GlobSet E A)) → List (File A) → List ℕ → List ℕ → Type 0
+  IsTextOfMatched form end inverted globs files = IsTextOfPicked form end (IsPickedBy inverted globs files)
 
-  abbrev pub matching : {A : Type 0} → Form → ℕ → Bool → Option (Bor (GlobSet E A)) → List (File A) → ListRules Refusal
-  matching form max inverted globs files = picking form max (IsPickedBy inverted globs files)
+  abbrev pub matching : {A : Type 0} → Form → ListOptions → Bool → Option (Bor (GlobSet E A)) → List (File A) → ListRules Refusal
+  matching form list inverted globs files = picking form list (IsPickedBy inverted globs files)

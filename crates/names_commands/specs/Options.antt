@@ -2,7 +2,7 @@
 use Rattle.std.specs.Prelude.{◌≡◌, ℕ, Bool, true, false, List, codes}
 use Rattle.os_args.specs.Word.{Kind, Long, LongBytes, Short, ShortBytes, Value}
 use Rattle.names_commands.specs.declared.option.NamesOption.{NamesOption}
-use Rattle.names_commands.specs.declared.option.NamesOption.TheVariants.{Help, Version, Max, Sh, ShLine, Unterminated, Glob, Name, Ignore, Invert}
+use Rattle.names_commands.specs.declared.option.NamesOption.TheVariants.{Help, Version, Max, Sh, ShLine, Lines, Unterminated, Empty, Glob, Name, Ignore, Invert}
 
 -- the name of the option after `--`
 abbrev pub name_of : NamesOption → List ℕ
@@ -11,7 +11,9 @@ name_of Version = codes "version"
 name_of Max = codes "max"
 name_of Sh = codes "sh"
 name_of ShLine = codes "sh-line"
+name_of Lines = codes "lines"
 name_of Unterminated = codes "unterminated"
+name_of Empty = codes "empty"
 name_of Glob = codes "glob"
 name_of Name = codes "name"
 name_of Ignore = codes "ignore"
@@ -24,7 +26,9 @@ word_of Version = codes "--version"
 word_of Max = codes "--max"
 word_of Sh = codes "--sh"
 word_of ShLine = codes "--sh-line"
+word_of Lines = codes "--lines"
 word_of Unterminated = codes "--unterminated"
+word_of Empty = codes "--empty"
 word_of Glob = codes "--glob"
 word_of Name = codes "--name"
 word_of Ignore = codes "--ignore"
@@ -37,7 +41,9 @@ IsFlagOf Version c = c ≡ 0x56
 IsFlagOf Max c = ⊥
 IsFlagOf Sh c = ⊥
 IsFlagOf ShLine c = ⊥
+IsFlagOf Lines c = ⊥
 IsFlagOf Unterminated c = ⊥
+IsFlagOf Empty c = ⊥
 IsFlagOf Glob c = ⊥
 IsFlagOf Name c = ⊥
 IsFlagOf Ignore c = ⊥
@@ -58,7 +64,9 @@ has_value Version = false
 has_value Max = true
 has_value Sh = false
 has_value ShLine = false
+has_value Lines = false
 has_value Unterminated = false
+has_value Empty = false
 has_value Glob = true
 has_value Name = true
 has_value Ignore = true

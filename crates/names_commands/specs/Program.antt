@@ -25,6 +25,7 @@ use Rattle.program_frame.specs.Written.{WritesText}
 use Rattle.program_frame.specs.ListRun.{Runs}
 use Rattle.program_frame.specs.declared.fault.Failure.TheVariants.{Memory, Write}
 use Rattle.program_frame.specs.declared.lists.fault.ListFault.TheVariants.{Run}
+use Rattle.program_frame.specs.declared.lists.options.ListOptions.{ListOptions}
 use Rattle.names_commands.specs.declared.command.Command.{Command}
 use Rattle.program_frame.specs.declared.lists.program_fault.Fault as program_fault
 use Rattle.program_frame.specs.declared.lists.program_fault.Fault.TheVariants.{List as OfList, Words}
@@ -100,17 +101,17 @@ module _ (known : KnownFiles) (A : Type 0) where
   abbrev pub IsFaultOf : List (List ℕ) → Fault → Type 0
   IsFaultOf names fault = (fault ≡ OfList (Run Memory)) ⊎ ((why : CommandFault) × IsFileFault names why × (fault ≡ Words why))
 
-  -- the run ends with the first ignore file that can't be read. Or it writes these names, but for those that the files ignore, or, inverted, the others, on a platform that states this of its strings, where a name may have `max` bytes
-  abbrev pub RunsBut : {E : Type 0} → Ghosts E → Form → ℕ → Bool → (List ℕ → Type 0) → List (List ℕ) → Doing
-  RunsBut p shape max inverted Chosen names input left old new answer =
+  -- the run ends with the first ignore file that can't be read. Or it writes these names, but for those that the files ignore, or, inverted, the others, on a platform that states this of its strings, from a list that is written so
+  abbrev pub RunsBut : {E : Type 0} → Ghosts E → Form → ListOptions → Bool → (List ℕ → Type 0) → List (List ℕ) → Doing
+  RunsBut p shape list inverted Chosen names input left old new answer =
       ((why : CommandFault) × IsFileFault names why × EndsAtOnce (Words why) input left old new answer)
-      ⊎ ((files : List (File A)) × AreRead known names files × Runs (picking p shape max (IsPicked inverted Chosen files)) OfList input left old new answer)
+      ⊎ ((files : List (File A)) × AreRead known names files × Runs (picking p shape list (IsPicked inverted Chosen files)) OfList input left old new answer)
 
-  -- the run ends with the first ignore file that can't be read. Or it writes the lines of the files that decide names, and these names, on a platform that states this of its strings, where a name may have `max` bytes
-  abbrev pub RunsReasons : {E : Type 0} → Ghosts E → ℕ → List (List ℕ) → Doing
-  RunsReasons p max values input left old new answer =
+  -- the run ends with the first ignore file that can't be read. Or it writes the lines of the files that decide names, and these names, on a platform that states this of its strings, from a list that is written so
+  abbrev pub RunsReasons : {E : Type 0} → Ghosts E → ListOptions → List (List ℕ) → Doing
+  RunsReasons p list values input left old new answer =
       ((why : CommandFault) × IsFileFault values why × EndsAtOnce (Words why) input left old new answer)
-      ⊎ ((files : List (File A)) × AreRead known values files × Runs (deciding p max values files) OfList input left old new answer)
+      ⊎ ((files : List (File A)) × AreRead known values files × Runs (deciding p list values files) OfList input left old new answer)
 
   -- on such a platform, where a plan states what is done, and the first `plain` patterns come before those of `--name`:
   module _ {E : Type 0} (p : Ghosts E) (plan : Plan) (plain : ℕ) where
@@ -118,7 +119,7 @@ module _ (known : KnownFiles) (A : Type 0) where
     abbrev pub RunsPatterns : List (List ℕ) → List (List ℕ) → Doing
     RunsPatterns globs names input left old new answer =
         ((index : ℕ) × (fault : PatternFault) × (first : IsFirstFault p (options_of plan.os) globs index fault) × (why : Fault) × IsOfPattern (added_before plain index) (index + 1) first.text fault why × EndsAtOnce why input left old new answer)
-        ⊎ ((written : List (List (List Mark))) × AreWrittenOut p (options_of plan.os) globs written × RunsBut p plan.form plan.max plan.pick.inverted (IsChosen p (options_of plan.os) written) names input left old new answer)
+        ⊎ ((written : List (List (List Mark))) × AreWrittenOut p (options_of plan.os) globs written × RunsBut p plan.form plan.list plan.pick.inverted (IsChosen p (options_of plan.os) written) names input left old new answer)
 
   -- where these options and operands are given:
   module _ (given : Line) where
@@ -135,27 +136,27 @@ module _ (known : KnownFiles) (A : Type 0) where
     RunsPlan plan input left old new answer = RunsPick (strings plan.os) plan input left old new answer
 
     -- the result for the ignore files that decide names, on a platform that states this of its strings
-    abbrev pub RunsWhyOn : {E : Type 0} → Ghosts E → ℕ → Doing
-    RunsWhyOn p max input left old new answer = (values : List (List ℕ)) × AreValues Ignore given values × RunsReasons p max values input left old new answer
+    abbrev pub RunsWhyOn : {E : Type 0} → Ghosts E → ListOptions → Doing
+    RunsWhyOn p list input left old new answer = (values : List (List ℕ)) × AreValues Ignore given values × RunsReasons p list values input left old new answer
 
     -- on this platform, unless an allocation fails first
-    abbrev pub RunsWhy : Os → ℕ → Doing
-    RunsWhy os max input left old new answer = UnlessOutOfMemory (RunsWhyOn (strings os) max) input left old new answer
+    abbrev pub RunsWhy : Os → ListOptions → Doing
+    RunsWhy os list input left old new answer = UnlessOutOfMemory (RunsWhyOn (strings os) list) input left old new answer
 
-    -- what is done with a list of names, on a platform that states this of its strings, where a name may have `max` bytes
-    abbrev pub RunsWork : {E : Type 0} → Ghosts E → ℕ → Work → Doing
-    RunsWork p max (Each what) input left old new answer = Runs (rules_of p (record { task = what; max = max })) OfList input left old new answer
-    RunsWork p max (Picked os shape pick) input left old new answer = RunsPick p (record { os = os; form = shape; pick = pick; max = max }) input left old new answer
-    RunsWork p max Why input left old new answer = UnlessOutOfMemory (RunsWhyOn p max) input left old new answer
+    -- what is done with a list of names that is written so, on a platform that states this of its strings
+    abbrev pub RunsWork : {E : Type 0} → Ghosts E → ListOptions → Work → Doing
+    RunsWork p list (Each what) input left old new answer = Runs (rules_of p (record { task = what; list = list })) OfList input left old new answer
+    RunsWork p list (Picked os shape pick) input left old new answer = RunsPick p (record { os = os; form = shape; pick = pick; list = list }) input left old new answer
+    RunsWork p list Why input left old new answer = UnlessOutOfMemory (RunsWhyOn p list) input left old new answer
 
     -- a work on the names of a platform, or none
-    abbrev pub DoesWork : ℕ → Option (Os × Work) → Doing
-    DoesWork max None input left old new answer = WritesSomeText input left old new answer
-    DoesWork max (Some of) input left old new answer = RunsWork (strings of.0) max of.1 input left old new answer
+    abbrev pub DoesWork : ListOptions → Option (Os × Work) → Doing
+    DoesWork list None input left old new answer = WritesSomeText input left old new answer
+    DoesWork list (Some of) input left old new answer = RunsWork (strings of.0) list of.1 input left old new answer
 
-    -- what the command does where a name may have `max` bytes
-    abbrev pub Does : Command → ℕ → Doing
-    Does command max input left old new answer = DoesWork max (work_of command) input left old new answer
+    -- what a request for this command does with a list that is written so
+    abbrev pub Does : Command → ListOptions → Doing
+    Does command list input left old new answer = DoesWork list (work_of command) input left old new answer
 
   -- the options and operands make up no request, and the run ends at once with what is wrong
   abbrev pub RejectsLine : Line → Doing
@@ -165,7 +166,7 @@ module _ (known : KnownFiles) (A : Type 0) where
   abbrev pub RunsLine : Line → Doing
   RunsLine given input left old new answer =
       RejectsLine given input left old new answer
-      ⊎ ((request : Request) × (AsksFor given request × Does given request.command request.max input left old new answer))
+      ⊎ ((request : Request) × (AsksFor given request × Does given request.command request.list input left old new answer))
 
   -- the arguments have a fault, and the run ends at once with the first
   abbrev pub RejectsWords : List (List ℕ) → Doing

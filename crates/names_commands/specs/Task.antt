@@ -1,55 +1,69 @@
 -- What is written for an item, and why it is refused.
-use Rattle.std.specs.Prelude.{◌≡◌, ℕ, ◌+◌, ◌*◌, ◌≤◌, ◌<◌, List, [], ◌∷◌, ◌++◌, length, Err}
+use Rattle.std.specs.Prelude.{◌≡◌, ◌≢◌, ℕ, ◌+◌, ◌*◌, ◌≤◌, ◌<◌, List, [], ◌∷◌, ◌++◌, length}
 use Rattle.std.specs.Str.{IsUtf8}
 use Rattle.os_str_bytes.specs.EncodingError.{EncodingError}
 use Rattle.os_str_bytes.specs.Platform.{Ghosts}
 use Rattle.os_str_bytes.specs.WasmLaws.{IsTextFault}
-use Rattle.os_quote.specs.Escape.{IsLineEscape, IsLineFault}
+use Rattle.os_quote.specs.Escape as escape
+use Rattle.os_quote.specs.Escape.{IsLineEscape}
 use Rattle.os_quote.specs.declared.error.QuoteError.{QuoteError}
 use Rattle.os_quote.specs.declared.error.QuoteError.TheVariants as quote
 use Rattle.program_frame.specs.Items.{Lacks}
+use Rattle.program_frame.specs.ListOptions.{MayLack, byte_of}
 use Rattle.program_frame.specs.Rules.{ListRules}
+use Rattle.program_frame.specs.declared.lists.fault.ItemFault.{ItemFault}
+use Rattle.program_frame.specs.declared.lists.fault.ItemFault.TheVariants.{Refused, TooLong, Memory}
+use Rattle.program_frame.specs.declared.lists.options.ItemEnd.{ItemEnd}
+use Rattle.program_frame.specs.declared.lists.options.ItemEnd.TheVariants.{Nul, Newline}
+use Rattle.program_frame.specs.declared.lists.options.LastItem.TheVariants.{MustEnd}
+use Rattle.program_frame.specs.declared.lists.options.ListOptions.{ListOptions}
 use Rattle.names_commands.specs.declared.fault.Refusal.{Refusal}
 use Rattle.names_commands.specs.declared.fault.Refusal.TheVariants as refusal
 use Rattle.names_commands.specs.declared.task.Task.{Task}
-use Rattle.names_commands.specs.declared.task.LastLine.{LastLine}
-use Rattle.names_commands.specs.declared.task.LastLine.TheVariants.{MustEnd, MayLackEnd}
+use Rattle.names_commands.specs.declared.task.EmptyLine.{EmptyLine}
+use Rattle.names_commands.specs.declared.task.EmptyLine.TheVariants.{IsRejected, IsEmptyName}
 use Rattle.names_commands.specs.declared.task.Task.TheVariants.{ListAll, ListWords, Check, Join, JoinWords}
-use Rattle.names_commands.specs.Words.{IsWordLine, AreNamesOf, IsAfterNames, HasNulWord, HasLongWord}
-use Rattle.os_command_line.specs.declared.shell.fault.WordsFault.{WordsFault}
+use Rattle.names_commands.specs.Names.{EndsInReturn, IsFit, IsNameRefusal, IsUnfit}
+use Rattle.names_commands.specs.Words.{IsWordLine, AreNamesOf, IsLineFault}
 use Rattle.names_commands.specs.declared.task.Settings.{Settings}
 
--- the byte that ends an item
-abbrev pub end_of : Task → ℕ
-end_of ListAll = 0
-end_of (ListWords form) = 0
-end_of Check = 0
-end_of (Join last) = 0x0A
-end_of (JoinWords last) = 0x0A
+-- the byte that ends an item, where this one ends a name: a newline ends a line
+abbrev pub end_of : Task → ItemEnd → ItemEnd
+end_of ListAll end = end
+end_of (ListWords form) end = end
+end_of Check end = end
+end_of (Join empty) end = Newline
+end_of JoinWords end = Newline
 
--- the last line may lack its newline
-abbrev pub MayLack : LastLine → Type 0
-MayLack MustEnd = ⊥
-MayLack MayLackEnd = Unit {0}
+-- this task, for names of at most `max` bytes, each ended by NUL
+abbrev pub with_limit : Task → ℕ → Settings
+with_limit task max = record { task = task; list = record { end = Nul; last = MustEnd; max = max } }
 
--- the last item may lack the byte that ends it: a name may, and a line where the settings allow it
-abbrev pub TakesUnended : Task → Type 0
-TakesUnended ListAll = Unit {0}
-TakesUnended (ListWords form) = Unit {0}
-TakesUnended Check = Unit {0}
-TakesUnended (Join last) = MayLack last
-TakesUnended (JoinWords last) = MayLack last
+-- a line is the escape of a name: the empty line is that of the empty name where the settings take it
+abbrev pub IsTaken : EmptyLine → List ℕ → Type 0
+IsTaken IsRejected line = line ≢ []
+IsTaken IsEmptyName line = Unit {0}
+
+-- an empty line is rejected
+abbrev pub IsEmpty : EmptyLine → List ℕ → Type 0
+IsEmpty empty line = (empty ≡ IsRejected) × (line ≡ [])
+
+-- why nothing is written for a line that isn't an escape for this reason; an allocation may fail
+abbrev pub quote_fault : QuoteError → ItemFault Refusal
+quote_fault (quote.BadEscape index) = Refused (refusal.BadEscape index)
+quote_fault quote.NotCanonical = Refused refusal.NotCanonical
+quote_fault quote.Memory = Memory
 
 -- how long an item may be where a name may have `max` bytes: for each of them an escape has at most six, and a word four and three more
 abbrev pub longest : Task → ℕ → ℕ
 longest ListAll max = max
 longest (ListWords form) max = max
 longest Check max = max
-longest (Join last) max = 6 * max
-longest (JoinWords last) max = 4 * max + 3
+longest (Join empty) max = 6 * max
+longest JoinWords max = 4 * max + 3
 
 abbrev pub longest_item : Settings → ℕ
-longest_item s = longest s.task s.max
+longest_item s = longest s.task s.list.max
 
 -- on a platform that states this of its strings:
 module _ {E : Type 0} (p : Ghosts E) where
@@ -63,70 +77,64 @@ module _ {E : Type 0} (p : Ghosts E) where
     pub escape : IsLineEscape p.units name line
     pub short : length name ≤ max
 
+  -- the text is the name that a line is the escape of, and its end
+  abbrev pub IsEscapeOf : ListOptions → List ℕ → List ℕ → Type 0
+  IsEscapeOf list line text = (name : List ℕ) × IsNameOf list.max line name × (IsFit list.end name × (text ≡ name ++ byte_of list.end ∷ []))
+
   -- this is written for an item that isn't refused
-  abbrev pub IsText : Task → ℕ → List ℕ → List ℕ → Type 0
-  IsText ListAll max name text = p.well_formed name × IsLine name text
-  IsText (ListWords form) max name text = p.well_formed name × IsWordLine form name text
-  IsText Check max name text = p.well_formed name × (text ≡ [])
-  IsText (Join last) max line text = (name : List ℕ) × IsNameOf max line name × (Lacks 0 name × (text ≡ name ++ 0 ∷ []))
-  IsText (JoinWords last) max line text = AreNamesOf max line text
+  abbrev pub IsText : Task → ListOptions → List ℕ → List ℕ → Type 0
+  IsText ListAll list name text = p.well_formed name × (Lacks 0 name × IsLine name text)
+  IsText (ListWords form) list name text = p.well_formed name × (Lacks 0 name × IsWordLine form name text)
+  IsText Check list name text = p.well_formed name × (Lacks 0 name × (text ≡ []))
+  IsText (Join empty) list line text = IsTaken empty line × IsEscapeOf list line text
+  IsText JoinWords list line text = AreNamesOf list line text
 
-  -- the first fault of a name that isn't a string, or of a line that isn't UTF-8
-  abbrev pub HasFault : Task → List ℕ → EncodingError → Type 0
-  HasFault ListAll name error = p.first_fault name error
-  HasFault (ListWords form) name error = p.first_fault name error
-  HasFault Check name error = p.first_fault name error
-  HasFault (Join last) line error = IsTextFault line error
-  HasFault (JoinWords last) line error = ⊥
+  -- why a line that doesn't end in a carriage return isn't UTF-8, or isn't the escape of any string
+  abbrev pub HasFault : List ℕ → EncodingError → Type 0
+  HasFault line error = (¬ (EndsInReturn line)) × IsTextFault line error
 
-  -- why a line isn't the escape of any string
-  abbrev pub HasBadQuote : Task → List ℕ → QuoteError → Type 0
-  HasBadQuote ListAll name error = ⊥
-  HasBadQuote (ListWords form) name error = ⊥
-  HasBadQuote Check name error = ⊥
-  HasBadQuote (Join last) line error = IsUtf8 line × IsLineFault p.well_formed p.units line error
-  HasBadQuote (JoinWords last) line error = ⊥
+  abbrev pub HasBadQuote : List ℕ → QuoteError → Type 0
+  HasBadQuote line error = (¬ (EndsInReturn line)) × (IsUtf8 line × escape.IsLineFault p.well_formed p.units line error)
 
-  -- a line is the escape of a name with a NUL
-  abbrev pub IsOfNul : Task → ℕ → List ℕ → Type 0
-  IsOfNul ListAll max name = ⊥
-  IsOfNul (ListWords form) max name = ¬ (Lacks 0 name)
-  IsOfNul Check max name = ⊥
-  IsOfNul (Join last) max line = (name : List ℕ) × IsNameOf max line name × (¬ (Lacks 0 name))
-  IsOfNul (JoinWords last) max line = HasNulWord max line
+  -- a line is the escape of a name that can't be written, for this reason
+  abbrev pub IsOfUnfit : ListOptions → List ℕ → Refusal → Type 0
+  IsOfUnfit list line why = (name : List ℕ) × IsNameOf list.max line name × IsUnfit list.end name why
 
   -- a line is the escape of a name of more than `max` bytes
-  abbrev pub IsOfLong : Task → ℕ → List ℕ → Type 0
-  IsOfLong ListAll max name = ⊥
-  IsOfLong (ListWords form) max name = ⊥
-  IsOfLong Check max name = ⊥
-  IsOfLong (Join last) max line = (name : List ℕ) × p.well_formed name × (IsLineEscape p.units name line × (max < length name))
-  IsOfLong (JoinWords last) max line = HasLongWord max line
+  abbrev pub IsOfLong : Task → ListOptions → List ℕ → Type 0
+  IsOfLong ListAll list name = ⊥
+  IsOfLong (ListWords form) list name = ⊥
+  IsOfLong Check list name = ⊥
+  IsOfLong (Join empty) list line = (name : List ℕ) × p.well_formed name × (IsLineEscape p.units name line × (list.max < length name))
+  IsOfLong JoinWords list line = IsLineFault list line TooLong
 
-  -- a line isn't words: the fault that comes after its names
-  abbrev pub HasBadWords : Task → ℕ → List ℕ → WordsFault → Type 0
-  HasBadWords ListAll max name fault = ⊥
-  HasBadWords (ListWords form) max name fault = ⊥
-  HasBadWords Check max name fault = ⊥
-  HasBadWords (Join last) max line fault = ⊥
-  HasBadWords (JoinWords last) max line fault = IsAfterNames max line (Err fault)
+  -- why a line isn't the escape of a name; one that ends in a carriage return is refused for that
+  abbrev pub IsJoinRefusal : EmptyLine → ListOptions → List ℕ → Refusal → Type 0
+  IsJoinRefusal empty list line (refusal.NoString error) = HasFault line error
+  IsJoinRefusal empty list line (refusal.BadEscape index) = HasBadQuote line (quote.BadEscape index)
+  IsJoinRefusal empty list line refusal.NotCanonical = HasBadQuote line quote.NotCanonical
+  IsJoinRefusal empty list line refusal.HasNul = IsOfUnfit list line refusal.HasNul
+  IsJoinRefusal empty list line refusal.HasNewline = IsOfUnfit list line refusal.HasNewline
+  IsJoinRefusal empty list line refusal.EndsInReturn = EndsInReturn line
+  IsJoinRefusal empty list line refusal.EmptyLine = IsEmpty empty line
+  IsJoinRefusal empty list line (refusal.BadWords fault) = ⊥
 
   -- why an item is refused
-  abbrev pub IsRefusal : Task → ℕ → List ℕ → Refusal → Type 0
-  IsRefusal task max item (refusal.NoString error) = HasFault task item error
-  IsRefusal task max item (refusal.BadEscape index) = HasBadQuote task item (quote.BadEscape index)
-  IsRefusal task max item refusal.NotCanonical = HasBadQuote task item quote.NotCanonical
-  IsRefusal task max item refusal.HasNul = IsOfNul task max item
-  IsRefusal task max item (refusal.BadWords fault) = HasBadWords task max item fault
+  abbrev pub IsRefusal : Task → ListOptions → List ℕ → Refusal → Type 0
+  IsRefusal ListAll list name why = IsNameRefusal p name why
+  IsRefusal (ListWords form) list name why = IsNameRefusal p name why
+  IsRefusal Check list name why = IsNameRefusal p name why
+  IsRefusal (Join empty) list line why = IsJoinRefusal empty list line why
+  IsRefusal JoinWords list line why = IsLineFault list line (Refused why)
 
   -- what is done with each item
   abbrev pub rules_of : Settings → ListRules Refusal
   rules_of s = record {
-    end = end_of s.task;
-    takes_unended = TakesUnended s.task;
-    max = s.max;
+    end = byte_of (end_of s.task s.list.end);
+    takes_unended = MayLack s.list.last;
+    max = s.list.max;
     longest = longest_item s;
-    is_text = IsText s.task s.max;
-    refuses = IsRefusal s.task s.max;
-    is_of_long = IsOfLong s.task s.max;
+    is_text = IsText s.task s.list;
+    refuses = IsRefusal s.task s.list;
+    is_of_long = IsOfLong s.task s.list;
   }

@@ -7,11 +7,14 @@ use Rattle.os_ignore.specs.declared.verdict.Verdict.{Verdict}
 use Rattle.os_ignore.specs.declared.verdict.Verdict.TheVariants.{Neither, Ignored, TakenIn}
 use Rattle.os_quote.specs.Escape.{IsLineEscape}
 use Rattle.os_str_bytes.specs.Platform.{Ghosts}
+use Rattle.os_str_bytes.specs.UnixPlatform.TheImpl as unix
+use Rattle.program_frame.specs.Items.{Lacks}
+use Rattle.program_frame.specs.ListOptions.{MayLack, byte_of}
 use Rattle.program_frame.specs.Rules.{ListRules}
+use Rattle.program_frame.specs.declared.lists.options.ListOptions.{ListOptions}
 use Rattle.names_commands.specs.Ignoring.{IsFileIn, IsPath, without_dot}
-use Rattle.names_commands.specs.Matching.{IsNoName}
+use Rattle.names_commands.specs.Names.{IsNameRefusal}
 use Rattle.names_commands.specs.declared.fault.Refusal.{Refusal}
-use Rattle.names_commands.specs.declared.matching.Form.TheVariants as form
 
 -- the file and the line of a verdict, by their numbers
 abbrev pub numbers_of : Verdict → Option (ℕ × ℕ)
@@ -27,7 +30,7 @@ pub record IsNameAt (values : List (List ℕ)) (index : ℕ) (name : List ℕ) :
   pub directory : List ℕ
   pub states : IsFileIn value directory name
 
--- a line of a file: the name of the file, a colon, the number of the line, a colon, its text, and a tab
+-- a line of a file: the escape of the file's name, a colon, the number of the line, a colon, the escape of its text, and a tab
 abbrev pub place_text : List ℕ → ℕ → List ℕ → List ℕ
 place_text file line pattern = (file ++ 0x3A ∷ []) ++ ((decimal line ++ 0x3A ∷ []) ++ (pattern ++ 0x09 ∷ []))
 
@@ -47,15 +50,19 @@ module _ {A : Type 0} where
 
 -- on a platform that states this of its strings:
 module _ {E : Type 0} (p : Ghosts E) {A : Type 0} where
-  -- the text is the line of the file, each by its number, with the line unchanged, and the escape of the name on the same line
+  -- the text is the line of the file, each by its number, as the escapes of the bytes of both, and the escape of the name on the same line. So the first tab comes after the line
   pub record IsReason (values : List (List ℕ)) (files : List (File A)) (name : List ℕ) (file line : ℕ) (text : List ℕ) : Type 0 where
     pub file_name : List ℕ
     pub file_is : IsNameAt values file file_name
+    pub file_escape : List ℕ
+    pub file_shown : IsLineEscape unix.ghosts.units file_name file_escape
     pub pattern : List ℕ
     pub pattern_is : HasText files file line pattern
+    pub pattern_escape : List ℕ
+    pub pattern_shown : IsLineEscape unix.ghosts.units pattern pattern_escape
     pub escape : List ℕ
     pub escape_is : IsLineEscape p.units name escape
-    pub text_is : text ≡ place_text file_name line pattern ++ (escape ++ 0x0A ∷ [])
+    pub text_is : text ≡ place_text file_escape line pattern_escape ++ (escape ++ 0x0A ∷ [])
 
   -- that text, or nothing where no line decides the name
   abbrev pub IsTextOfNumbers : List (List ℕ) → List (File A) → List ℕ → Option (ℕ × ℕ) → List ℕ → Type 0
@@ -70,16 +77,16 @@ module _ {E : Type 0} (p : Ghosts E) {A : Type 0} where
 
   -- this is written for a name
   abbrev pub IsTextOfDecided : List (List ℕ) → List (File A) → List ℕ → List ℕ → Type 0
-  IsTextOfDecided values files name text = p.well_formed name × IsDecidedText values files name text
+  IsTextOfDecided values files name text = p.well_formed name × (Lacks 0 name × IsDecidedText values files name text)
 
-  -- what is done with each name, where lines of ignore files decide names
-  abbrev pub deciding : ℕ → List (List ℕ) → List (File A) → ListRules Refusal
-  deciding max values files = record {
-    end = 0;
-    takes_unended = Unit {0};
-    max = max;
-    longest = max;
+  -- what is done with each name of a list that is written so, where lines of ignore files decide names
+  abbrev pub deciding : ListOptions → List (List ℕ) → List (File A) → ListRules Refusal
+  deciding list values files = record {
+    end = byte_of list.end;
+    takes_unended = MayLack list.last;
+    max = list.max;
+    longest = list.max;
     is_text = IsTextOfDecided values files;
-    refuses = IsNoName p form.Line;
+    refuses = IsNameRefusal p;
     is_of_long = λ name. ⊥;
   }

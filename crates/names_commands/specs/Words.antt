@@ -4,10 +4,13 @@ use Rattle.os_command_line.specs.Shell.{IsRead, language}
 use Rattle.os_command_line.specs.ShellWriting.{IsLineWord, quoted_word}
 use Rattle.os_command_line.specs.declared.shell.fault.WordsFault.{WordsFault}
 use Rattle.program_frame.specs.Items.{Lacks}
+use Rattle.program_frame.specs.ListOptions.{byte_of}
+use Rattle.program_frame.specs.declared.lists.options.ListOptions.{ListOptions}
 use Rattle.program_frame.specs.declared.lists.fault.ItemFault.{ItemFault}
 use Rattle.program_frame.specs.declared.lists.fault.ItemFault.TheVariants as item_fault
 use Rattle.names_commands.specs.declared.fault.Refusal.{Refusal}
-use Rattle.names_commands.specs.declared.fault.Refusal.TheVariants.{HasNul, BadWords}
+use Rattle.names_commands.specs.declared.fault.Refusal.TheVariants.{NoString, BadEscape, NotCanonical, HasNul, HasNewline, EndsInReturn as InReturn, EmptyLine, BadWords}
+use Rattle.names_commands.specs.Names.{EndsInReturn, IsFit, IsUnfit}
 use Rattle.names_commands.specs.declared.task.WordForm.{WordForm}
 use Rattle.names_commands.specs.declared.task.WordForm.TheVariants.{Posix, OneLine}
 
@@ -20,52 +23,56 @@ IsWord OneLine name text = IsLineWord name text
 abbrev pub IsWordLine : WordForm → List ℕ → List ℕ → Type 0
 IsWordLine form name text = (word : List ℕ) × IsWord form name word × (text ≡ word ++ 0x0A ∷ [])
 
--- a word that is a name: it has no NUL and at most `max` bytes
-pub record IsName (max : ℕ) (word : List ℕ) : Type 0 where
-  pub whole : Lacks 0 word
-  pub short : length word ≤ max
+-- a word that is a name: it can be written with its end, and has at most `max` bytes
+pub record IsName (list : ListOptions) (word : List ℕ) : Type 0 where
+  pub fit : IsFit list.end word
+  pub short : length word ≤ list.max
 
--- all these words of a line are names, and the text is each of them with NUL
-abbrev pub AreNames : ℕ → List (Result (List ℕ) WordsFault) → List ℕ → Type 0
-AreNames max [] text = text ≡ []
-AreNames max (Ok word ∷ items) text = IsName max word × ((more : List ℕ) × AreNames max items more × (text ≡ (word ++ 0 ∷ []) ++ more))
-AreNames max (Err fault ∷ items) text = ⊥
+-- how the list is written:
+module _ (list : ListOptions) where
+  -- all these words of a line are names, and the text is each of them with its end
+  abbrev pub AreNames : List (Result (List ℕ) WordsFault) → List ℕ → Type 0
+  AreNames [] text = text ≡ []
+  AreNames (Ok word ∷ items) text = IsName list word × ((more : List ℕ) × AreNames items more × (text ≡ (word ++ byte_of list.end ∷ []) ++ more))
+  AreNames (Err fault ∷ items) text = ⊥
 
--- after words of a line that are names this comes
-abbrev pub Comes : ℕ → List (Result (List ℕ) WordsFault) → Result (List ℕ) WordsFault → Type 0
-Comes max [] item = ⊥
-Comes max (Ok word ∷ items) item = (Ok word ≡ item) ⊎ (IsName max word × Comes max items item)
-Comes max (Err fault ∷ items) item = Err fault ≡ item
+  -- after words of a line that are names this comes
+  abbrev pub Comes : List (Result (List ℕ) WordsFault) → Result (List ℕ) WordsFault → Type 0
+  Comes [] item = ⊥
+  Comes (Ok word ∷ items) item = (Ok word ≡ item) ⊎ (IsName list word × Comes items item)
+  Comes (Err fault ∷ items) item = Err fault ≡ item
 
--- the line as a shell reads it, where what some shell expands is rejected and `$'..'` is read: all its words are names, and the text is each name with NUL
-abbrev pub AreNamesOf : ℕ → List ℕ → List ℕ → Type 0
-AreNamesOf max line text = (items : List (Result (List ℕ) WordsFault)) × IsRead (language true true) line items × AreNames max items text
+  -- the line, which doesn't end in a carriage return, as a shell reads it, where what some shell expands is rejected and `$'..'` is read: all its words are names, and the text is each name with its end
+  abbrev pub AreNamesOf : List ℕ → List ℕ → Type 0
+  AreNamesOf line text = (¬ (EndsInReturn line)) × ((items : List (Result (List ℕ) WordsFault)) × IsRead (language true true) line items × AreNames items text)
 
--- the same, and this comes after words that are names
-abbrev pub IsAfterNames : ℕ → List ℕ → Result (List ℕ) WordsFault → Type 0
-IsAfterNames max line item = (items : List (Result (List ℕ) WordsFault)) × IsRead (language true true) line items × Comes max items item
+  -- of such a line this comes after words that are names
+  abbrev pub IsAfterNames : List ℕ → Result (List ℕ) WordsFault → Type 0
+  IsAfterNames line item = (¬ (EndsInReturn line)) × ((items : List (Result (List ℕ) WordsFault)) × IsRead (language true true) line items × Comes items item)
 
--- why nothing is written for a name: it has a NUL; memory may be refused
-abbrev pub IsNulFault : List ℕ → ItemFault Refusal → Type 0
-IsNulFault name (item_fault.Refused why) = (why ≡ HasNul) × (¬ (Lacks 0 name))
-IsNulFault name item_fault.TooLong = ⊥
-IsNulFault name item_fault.Memory = Unit {0}
+  -- a word can't be written, for this reason
+  abbrev pub HasUnfitWord : List ℕ → Refusal → Type 0
+  HasUnfitWord line why = (word : List ℕ) × IsAfterNames line (Ok word) × IsUnfit list.end word why
 
--- why a word of a line is no name
-abbrev pub IsWordFault : ℕ → List ℕ → ItemFault Refusal → Type 0
-IsWordFault max word (item_fault.Refused why) = (why ≡ HasNul) × (¬ (Lacks 0 word))
-IsWordFault max word item_fault.TooLong = max < length word
-IsWordFault max word item_fault.Memory = Unit {0}
+  -- why a line isn't words that are names: it ends in a carriage return, a word can't be written, or the words have a fault
+  abbrev pub IsWordsRefusal : List ℕ → Refusal → Type 0
+  IsWordsRefusal line (NoString error) = ⊥
+  IsWordsRefusal line (BadEscape index) = ⊥
+  IsWordsRefusal line NotCanonical = ⊥
+  IsWordsRefusal line HasNul = HasUnfitWord line HasNul
+  IsWordsRefusal line HasNewline = HasUnfitWord line HasNewline
+  IsWordsRefusal line InReturn = EndsInReturn line
+  IsWordsRefusal line EmptyLine = ⊥
+  IsWordsRefusal line (BadWords fault) = IsAfterNames line (Err fault)
 
--- a word of the line has a NUL, or too many bytes, after words that are names
-abbrev pub HasNulWord : ℕ → List ℕ → Type 0
-HasNulWord max line = (word : List ℕ) × IsAfterNames max line (Ok word) × (¬ (Lacks 0 word))
+  -- why nothing is written for a line of words; an allocation may fail
+  abbrev pub IsLineFault : List ℕ → ItemFault Refusal → Type 0
+  IsLineFault line (item_fault.Refused why) = IsWordsRefusal line why
+  IsLineFault line item_fault.TooLong = (word : List ℕ) × IsAfterNames line (Ok word) × (list.max < length word)
+  IsLineFault line item_fault.Memory = Unit {0}
 
-abbrev pub HasLongWord : ℕ → List ℕ → Type 0
-HasLongWord max line = (word : List ℕ) × IsAfterNames max line (Ok word) × (max < length word)
-
--- why nothing is written for a line of words
-abbrev pub IsLineFault : ℕ → List ℕ → ItemFault Refusal → Type 0
-IsLineFault max line (item_fault.Refused why) = ((why ≡ HasNul) × HasNulWord max line) ⊎ ((fault : WordsFault) × (why ≡ BadWords fault) × IsAfterNames max line (Err fault))
-IsLineFault max line item_fault.TooLong = HasLongWord max line
-IsLineFault max line item_fault.Memory = Unit {0}
+  -- why a word of a line isn't a name
+  abbrev pub IsWordFault : List ℕ → ItemFault Refusal → Type 0
+  IsWordFault word (item_fault.Refused why) = IsUnfit list.end word why
+  IsWordFault word item_fault.TooLong = list.max < length word
+  IsWordFault word item_fault.Memory = Unit {0}

@@ -1,5 +1,5 @@
 //! Where the fault of a pattern is.
-ghost use Rattle.std.specs.Prelude.{◌≡◌, ◌++◌, take, string_bytes, IfOk, OnOk};
+ghost use Rattle.std.specs.Prelude.{◌≡◌, ◌++◌, take, codes, string_bytes, IfOk, OnOk};
 ghost use Rattle.std.specs.Fmt.InlineText.{inline_text};
 ghost use Rattle.os_quote.specs.Escape.{IsLineEscape};
 ghost use Rattle.os_str_bytes.specs.UnixPlatform.TheImpl.{ghosts as unix};
@@ -21,9 +21,19 @@ pub(crate) fn pointed<A: Allocator + Copy>(
     ensures { IfOk result (λ text. IsPointed pattern.now index (inline_text text)) }
 {
     let escape = line_of(alloc, pattern)?;
-    let beginning = line_of(alloc, front(pattern, index))?;
-    let lines = with_caret(alloc, escape.as_str(), beginning.as_str())?;
+    let marked = marked_line(alloc, front(pattern, index))?;
+    let lines = with_caret(alloc, escape.as_str(), marked.as_str())?;
     Ok(fitting(lines.as_str()))
+}
+
+/// The escape on one line of bytes and a `^`, in which a space before the `^` isn't at the end.
+fn marked_line<A: Allocator + Copy>(alloc: A, bytes: &[u8]) -> Result<String<A>, AllocError>
+    ensures { IfOk result (λ line. IsLineEscape unix.units (bytes.now ++ codes "^") (string_bytes line)) }
+{
+    let mut marked = Vec::new(alloc);
+    marked.extend_from_slice(bytes)?;
+    marked.push(b'^')?;
+    line_of(alloc, marked.as_slice())
 }
 
 /// The escape of bytes on one line.
@@ -33,14 +43,15 @@ fn line_of<A: Allocator>(alloc: A, bytes: &[u8]) -> Result<String<A>, AllocError
     escape_line(alloc, OsStr::<Unix>::from_encoded_bytes_unchecked(bytes))
 }
 
-/// A text on a line, and on the next one a caret below what comes after its beginning.
-fn with_caret<A: Allocator>(alloc: A, text: &str, beginning: &str) -> Result<String<A>, AllocError>
-    ensures { IfOk result (λ lines. string_bytes lines ≡ caret_text text.now beginning.now) }
+/// A text on a line, and on the next one a caret below what comes after its beginning, which is
+/// given with a `^` after it: so that line begins with a space less.
+fn with_caret<A: Allocator>(alloc: A, text: &str, marked: &str) -> Result<String<A>, AllocError>
+    ensures { IfOk result (λ lines. string_bytes lines ≡ caret_text text.now marked.now) }
 {
     let mut lines = String::from_str(alloc, "\n  ")?;
     lines.push_str(text)?;
-    lines.push_str("\n  ")?;
-    push_spaces(beginning, &mut lines)?;
+    lines.push_str("\n ")?;
+    push_spaces(marked, &mut lines)?;
     lines.push_str("^")?;
     Ok(lines)
 }

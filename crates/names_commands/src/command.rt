@@ -6,24 +6,26 @@ ghost use Rattle.names_commands.specs.declared.command.Name.{Name as DeclaredNam
 ghost use Rattle.names_commands.specs.declared.command.Name.TheVariants.{Filter as FilterName, Join as JoinName, List as ListName, Why as WhyName};
 
 use crate::fitting::{fits, ignores, no_operand, words};
-use crate::given::{LONGEST_NAME, form_of, last_line, limit, maybe_pick};
+use crate::given::{LONGEST_NAME, empty_line, form_of, listed, maybe_pick};
 use crate::option::NamesOption;
 use crate::pick::Pick;
-use crate::task::{LastLine, WordForm};
+use crate::task::{EmptyLine, WordForm};
 use program_frame::arguments::{Given, has, next_operand};
+use program_frame::lists::options::ListOptions;
 use program_frame::misuse::Misuse;
 use program_frame::os::Os;
 
 /// Options and operands, as they were given.
 pub type Line<'s, 'a> = &'s [Given<'a, NamesOption>];
 
-/// What the program does, and how long a name may be.
+/// What the program does, and how the list of names is written.
 #[derive(Clone, Copy, PartialEq, Eq)]
 pub struct Request<'a> {
     /// What the program does.
     pub command: Command<'a>,
-    /// How many bytes a name may have.
-    pub max: usize,
+    /// How the list is written: the byte that ends a name, whether the last item of the input may lack
+    /// its end, and how many bytes a name may have.
+    pub list: ListOptions,
 }
 
 impl<'a> Request<'a> {
@@ -31,7 +33,8 @@ impl<'a> Request<'a> {
     ///
     /// `--help` and `--version` are requests wherever they stand. Otherwise the operands are a
     /// command, a platform and, for `list` and `filter`, a pattern. Options stand anywhere. The last
-    /// `--max` counts, and without one a name may have 1,048,576 bytes.
+    /// `--max` counts, and without one a name may have 1,048,576 bytes. Without `--lines` each name is
+    /// ended by NUL, and without `--unterminated` the last item has its end, too.
     ///
     /// # Errors
     ///
@@ -42,12 +45,14 @@ impl<'a> Request<'a> {
     /// use names_commands::command::{Command, Request};
     /// use names_commands::option::NamesOption;
     /// use program_frame::arguments::Given;
+    /// use program_frame::lists::options::ListOptions;
     /// use program_frame::os::Os;
     ///
     /// let max = Given::Valued(NamesOption::Max, "255");
     /// let given = [Given::Operand("check"), Given::Operand("wasm"), max];
     /// let Ok(request) = Request::parse(&given) else { return Ok(()) };
-    /// assert!(rt; request.command == Command::Check(Os::Wasm) && request.max == 255);
+    /// assert!(rt; request.command == Command::Check(Os::Wasm));
+    /// assert!(rt; request.list == ListOptions::new(255));
     /// let Err(error) = Request::parse(&given[..1]) else { return Ok(()) };
     /// let text = "missing platform (unix, windows or wasm)";
     /// assert_eq!(rt; format!(in alloc; "{error}")?.as_str(), text);
@@ -57,19 +62,19 @@ impl<'a> Request<'a> {
         ensures misuse { IfErr result (λ misuse. IsRejected given.entry.now misuse) }
     {
         if has(given, NamesOption::Help) {
-            let (command, max) = (Command::Help, LONGEST_NAME);
-            return Ok(Request { command, max });
+            let (command, list) = (Command::Help, ListOptions::new(LONGEST_NAME));
+            return Ok(Request { command, list });
         }
         if has(given, NamesOption::Version) {
-            let (command, max) = (Command::Version, LONGEST_NAME);
-            return Ok(Request { command, max });
+            let (command, list) = (Command::Version, ListOptions::new(LONGEST_NAME));
+            return Ok(Request { command, list });
         }
-        let max = match limit(given) {
-            Ok(max) => max,
+        let list = match listed(given) {
+            Ok(list) => list,
             Err(misuse) => return Err(misuse),
         };
         match Command::parse(given) {
-            Ok(command) => Ok(Request { command, max }),
+            Ok(command) => Ok(Request { command, list }),
             Err(misuse) => Err(misuse),
         }
     }
@@ -124,12 +129,16 @@ impl Name {
         ensures { IsTrue result ↔ TakesOption self option }
     {
         match option {
-            NamesOption::Help | NamesOption::Version | NamesOption::Max => true,
+            NamesOption::Help
+            | NamesOption::Version
+            | NamesOption::Max
+            | NamesOption::Lines
+            | NamesOption::Unterminated => true,
             NamesOption::Sh | NamesOption::ShLine => match self {
                 Name::List | Name::Join => true,
                 Name::Filter | Name::Why | Name::Check => false,
             },
-            NamesOption::Unterminated => match self {
+            NamesOption::Empty => match self {
                 Name::Join => true,
                 Name::List | Name::Filter | Name::Why | Name::Check => false,
             },
@@ -148,24 +157,23 @@ impl Name {
 /// What the program does.
 #[derive(Clone, Copy, PartialEq, Eq)]
 pub enum Command<'a> {
-    /// `list`: reads names, each ended by NUL, and writes the escape of each on a line, or of those
-    /// that are picked.
+    /// `list`: reads names, and writes the escape of each on a line, or of those that are picked.
     ListNames(Os, Option<Pick<'a>>),
-    /// `list --sh` or `list --sh-line`: reads names of Unix, each ended by NUL, and writes the word of
-    /// each on a line, as a shell reads it, or of those that are picked.
+    /// `list --sh` or `list --sh-line`: reads names of Unix, and writes the word of each on a line, as a
+    /// shell reads it, or of those that are picked.
     ListWords(WordForm, Option<Pick<'a>>),
-    /// `filter`: reads names, each ended by NUL, and writes those that are picked, each ended by NUL.
+    /// `filter`: reads names, and writes those that are picked, each with its end.
     Filter(Os, Pick<'a>),
-    /// `why`: reads names, each ended by NUL, and writes the line of an ignore file that decides each,
-    /// with the escape of the name. The names that no line decides are left out.
+    /// `why`: reads names, and writes the line of an ignore file that decides each, with the escape of
+    /// the name. The names that no line decides are left out.
     Why(Os),
-    /// `join`: reads what `list` writes, and writes the names, each ended by NUL. With
-    /// `--unterminated` the last line may lack its newline.
-    Join(Os, LastLine),
+    /// `join`: reads what `list` writes, and writes the names, each with its end. With `--empty` an
+    /// empty line is the escape of the empty name.
+    Join(Os, EmptyLine),
     /// `join --sh` or `join --sh-line`: reads lines of words, as `list --sh-line` writes them, and
-    /// writes the names of Unix that they are, each ended by NUL.
-    JoinWords(LastLine),
-    /// `check`: reads names, each ended by NUL, and writes nothing.
+    /// writes the names of Unix that they are, each with its end.
+    JoinWords,
+    /// `check`: reads names, and writes nothing.
     Check(Os),
     /// `--help`: writes what the commands are.
     Help,
@@ -288,12 +296,11 @@ impl<'a> Command<'a> {
             Ok(()) => {}
             Err(misuse) => return Err(misuse),
         }
-        let last = last_line(given);
         let Some((_, option)) = form_of(given) else {
-            return Ok(Command::Join(os, last));
+            return Ok(Command::Join(os, empty_line(given)));
         };
         match words(given, os, option) {
-            Ok(()) => Ok(Command::JoinWords(last)),
+            Ok(()) => Ok(Command::JoinWords),
             Err(misuse) => Err(misuse),
         }
     }

@@ -25,8 +25,14 @@ pub enum Refusal {
     BadEscape(usize),
     /// The line isn't an escape: it can be read as a string whose escape is another.
     NotCanonical,
-    /// The line, or a word of it, is read as a string with a NUL, which would end the name.
+    /// The name, or the line or a word of it as it is read, has a NUL, which no file's name has.
     HasNul,
+    /// The line, or a word of it, is read as a name with a newline, which would end it.
+    HasNewline,
+    /// The line ends in a carriage return.
+    EndsInReturn,
+    /// The line is empty.
+    EmptyLine,
     /// The line isn't words of a shell: its fault.
     BadWords(WordsFault),
 }
@@ -89,6 +95,11 @@ impl ItemRefusal for Refusal {
             Refusal::BadEscape(index) => QuoteError::BadEscape(index).fmt(f),
             Refusal::NotCanonical => QuoteError::NotCanonical.fmt(f),
             Refusal::HasNul => f.write_str("the name has a NUL"),
+            Refusal::HasNewline => f.write_str("the name has a newline"),
+            Refusal::EndsInReturn => f.write_str("the line ends in a carriage return"),
+            Refusal::EmptyLine => f.write_str(
+                "the line is empty; --empty reads it as an empty name",
+            ),
             Refusal::BadWords(fault) => fault.fmt(f),
         }
     }

@@ -1,7 +1,7 @@
 //! What options and operands state: a limit, what picks names, and how they are written.
 ghost use Rattle.std.specs.Prelude.{◌≡◌, ◌↔◌, [], IfOk, IfErr, IsTrue, MatchOption};
 ghost use Rattle.program_frame.specs.Arguments.{HasOption, operands_of};
-ghost use Rattle.names_commands.specs.Command.{HasOperands, IsForm, IsLast, IsMax, IsMaybePick, IsMisuse, IsWordOption, NoWords, OptionsPick, TakesOption, options_of};
+ghost use Rattle.names_commands.specs.Command.{HasOperands, IsEmptyLine, IsForm, IsListed, IsMax, IsMaybePick, IsMisuse, IsWordOption, NoWords, OptionsPick, TakesOption, options_of};
 ghost use Rattle.names_commands.specs.Pick.{TakesIgnore};
 ghost use Rattle.names_commands.specs.declared.option.NamesOption.TheVariants.{Glob, Ignore};
 
@@ -9,17 +9,32 @@ use crate::command::{Line, Name};
 use crate::fitting::{ignores, surplus};
 use crate::option::NamesOption;
 use crate::pick::Pick;
-use crate::task::{LastLine, WordForm};
+use crate::task::{EmptyLine, WordForm};
 use glob_patterns::{GlobOptions, Separators};
 use program_frame::arguments::{has, last_value, next_operand};
+use program_frame::lists::options::ListOptions;
 use program_frame::misuse::Misuse;
 use program_frame::os::Os;
 
 /// How many bytes a name may have where the arguments state no limit.
 pub(crate) const LONGEST_NAME: usize = 0x10_0000;
 
+/// How options state that the list is written.
+pub(crate) fn listed<'a>(given: Line<'_, 'a>) -> Result<ListOptions, Misuse<'a>>
+    ensures list { IfOk result (λ list. IsListed given.entry.now list) }
+    ensures misuse { IfErr result (λ misuse. IsMisuse given.entry.now misuse) }
+{
+    match limit(given) {
+        Ok(max) => {
+            let (lines, unterminated) = (NamesOption::Lines, NamesOption::Unterminated);
+            Ok(ListOptions::stated(given, lines, unterminated, max))
+        }
+        Err(misuse) => Err(misuse),
+    }
+}
+
 /// The limit that options state.
-pub(crate) fn limit<'a>(given: Line<'_, 'a>) -> Result<usize, Misuse<'a>>
+fn limit<'a>(given: Line<'_, 'a>) -> Result<usize, Misuse<'a>>
     ensures limit { IfOk result (λ max. IsMax given.entry.now max) }
     ensures misuse { IfErr result (λ misuse. IsMisuse given.entry.now misuse) }
 {
@@ -111,14 +126,14 @@ pub(crate) fn form_of(given: Line<'_, '_>) -> Option<(WordForm, NamesOption)>
     None
 }
 
-/// Whether the last line may lack its newline.
-pub(crate) fn last_line(given: Line<'_, '_>) -> LastLine
-    ensures { IsLast given.entry.now result }
+/// Whether an empty line is the escape of the empty name.
+pub(crate) fn empty_line(given: Line<'_, '_>) -> EmptyLine
+    ensures { IsEmptyLine given.entry.now result }
 {
-    if has(given, NamesOption::Unterminated) {
-        LastLine::MayLackEnd
+    if has(given, NamesOption::Empty) {
+        EmptyLine::IsEmptyName
     } else {
-        LastLine::MustEnd
+        EmptyLine::IsRejected
     }
 }
 

@@ -1,7 +1,7 @@
 //! What the program prints of itself.
 
 /// What `names --version` writes.
-pub const VERSION: &str = "names 0.2.0\n";
+pub const VERSION: &str = "names 0.3.0\n";
 
 /// What `names --help` writes.
 pub const HELP: &str = "\
@@ -13,7 +13,7 @@ names: lists of file names, one on each line, and back
 
 names list   PLATFORM [GLOB] [OPTION..]   reads names ended by NUL; writes the escape of each on a line
 names filter PLATFORM [GLOB] [OPTION..]   reads names ended by NUL; writes those that are picked, ended by NUL
-names why    PLATFORM --ignore FILE..     reads names ended by NUL; writes FILE:LINE:PATTERN, a tab and the escape
+names why    PLATFORM --ignore FILE..     reads names ended by NUL; writes FILE:LINE:PATTERN, a tab and the name, escaped
 names join   PLATFORM [OPTION..]          reads lines that list wrote; writes the names, ended by NUL
 names check  PLATFORM [OPTION..]          reads names ended by NUL; writes nothing
 
@@ -27,15 +27,19 @@ PLATFORM is unix, windows or wasm. Options may stand anywhere; -- ends them.
   -v, --invert     list, filter: pick the others
   --sh             list, join: words that every POSIX shell reads as the names (unix)
   --sh-line        list, join: words on one line, for bash, zsh, ksh93, mksh and busybox (unix)
-  --unterminated   join: the last line may lack its newline
+  --lines          a newline ends each name that is read or written, and not NUL; names with a newline are rejected
+  --unterminated   the last name, or the last line, may lack its end
+  --empty          join: an empty line is an empty name
   --max N          a name may have N bytes, not 1048576
   -h, --help       this text
   -V, --version    the version
 
-The last name may lack its NUL. A last line without its newline is rejected, since a list that was cut off ends
-with one. A line has at most six times as many bytes as a name, and a line of words four times and three more.
+The last name without its NUL, or the last line without its newline, is rejected: a list that was cut off ends with one,
+and so does one that isn't of such items. join also rejects an empty line, and one that ends in a carriage return.
+A line has at most six times as many bytes as a name, and a line of words four times and three more.
 With --sh a name with a newline has two lines, which join can't read; with --sh-line it has one. join rejects what
-some shell would expand. The shell that reads the words must be in a C or UTF-8 locale.
+some shell would expand. The shell that reads the words must be in a C or UTF-8 locale. Paste only words of --sh-line
+at a prompt: a terminal acts on control characters within the quotes of --sh.
 
 GLOB matches a whole name, ./ and folders too, component by component: * is any run of symbols, ? one symbol,
 [a-z] one of these and [!a-z] one of the others, none of them a separator; ** as a whole component is any number

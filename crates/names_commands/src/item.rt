@@ -1,23 +1,26 @@
 //! What is written for one item.
-ghost use Rattle.std.specs.Prelude.{◌≡◌, ◌≤◌, ◌*◌, ◌++◌, ◌∷◌, [], length, ℕ, List, OnOk, OnErr, IfOk, IfErr};
+ghost use Rattle.std.specs.Prelude.{◌≡◌, ◌↔◌, ◌≤◌, ◌*◌, ◌++◌, ◌∷◌, [], length, false, ℕ, List, OnOk, OnErr, IfOk, IfErr, IsTrue, MatchOption};
 ghost use Rattle.os_quote.specs.Escape.{IsLineEscape};
 ghost use Rattle.os_str_bytes.specs.Strings.{bytes};
-ghost use Rattle.os_str_bytes.specs.EncodingError.{EncodingError};
+ghost use Rattle.program_frame.specs.Items.{Lacks};
+ghost use Rattle.program_frame.specs.ListOptions.{byte_of};
 ghost use Rattle.program_frame.specs.Rules.{IsItemFault};
 ghost use Rattle.program_frame.specs.declared.lists.fault.ItemFault.TheVariants.{Refused, Memory};
-ghost use Rattle.names_commands.specs.declared.fault.Refusal.TheVariants.{NoString};
+ghost use Rattle.names_commands.specs.declared.task.EmptyLine.{EmptyLine as DeclaredEmptyLine};
 ghost use Rattle.names_commands.specs.declared.task.Task.TheVariants.{Join};
-ghost use Rattle.names_commands.specs.declared.task.LastLine.{LastLine};
-ghost use Rattle.names_commands.specs.Task.{longest_item, rules_of, IsText};
+ghost use Rattle.names_commands.specs.Names.{EndsInReturn, IsFit, IsNameRefusal, IsUnfit};
+ghost use Rattle.names_commands.specs.declared.fault.Refusal.{Refusal as RefusalOf};
+ghost use Rattle.names_commands.specs.Task.{longest_item, rules_of, IsEmpty, IsEscapeOf, IsTaken, IsText, quote_fault};
 
 use crate::fault::Refusal;
-use crate::task::{Settings, Task};
+use crate::task::{EmptyLine, Settings, Task};
 use crate::words::{write_names, write_word};
 use os_quote::{QuoteError, unescape_line};
 use os_str_bytes::{OsStr, Platform, Wasm};
 use program_frame::lists::fault::ItemFault;
 use program_frame::lists::items::{push_ended, split_at_end};
 use program_frame::lists::lines::{is_plain, push_line};
+use program_frame::lists::options::{ItemEnd, ListOptions};
 use std::alloc::Allocator;
 
 /// Appends what is written for an item.
@@ -29,7 +32,7 @@ pub fn write_item<E: Platform, A: Allocator + Copy>(
 ) -> Result<(), ItemFault<Refusal>>
     requires { length item.now ≤ longest_item settings }
     ensures ok { OnOk result ((text : List ℕ)
-        × (IsText ⟦<E as Platform>⟧ settings.task settings.max item.now text
+        × (IsText ⟦<E as Platform>⟧ settings.task settings.list item.now text
         × (output.new.items ≡ output.old.items ++ text))) }
     ensures fault { IfErr result (λ fault.
         IsItemFault (rules_of ⟦<E as Platform>⟧ settings) item.now fault) }
@@ -44,26 +47,56 @@ pub fn write_item<E: Platform, A: Allocator + Copy>(
             Ok(_) => Ok(()),
             Err(fault) => Err(fault),
         },
-        Task::Join(_) => write_name::<E, A>(alloc, settings.max, item, output),
+        Task::Join(empty) => write_name::<E, A>(alloc, empty, settings.list, item, output),
         Task::ListWords(form) => match named::<E>(item) {
             Ok(_) => write_word(alloc, form, item, output),
             Err(fault) => Err(fault),
         },
-        Task::JoinWords(_) => write_names(alloc, settings.max, item, output),
+        Task::JoinWords => write_names(alloc, settings.list, item, output),
     }
 }
 
 /// The name that an item is.
+#[tactic(auto, using(program_frame::proofs::lemmas::lists::Items::has_end))]
 pub(crate) fn named<'a, E: Platform>(item: &'a [u8]) -> Result<OsStr<'a, E>, ItemFault<Refusal>>
     ensures bytes { IfOk result (λ name. bytes name ≡ item.now) }
     ensures formed { OnOk result (E.well_formed item.now) }
-    ensures fault { IfErr result (λ fault. (error : EncodingError)
-        × ((fault ≡ Refused (NoString error)) × E.first_fault item.now error)) }
+    ensures whole { OnOk result (Lacks 0 item.now) }
+    ensures fault { IfErr result (λ fault. (why : RefusalOf)
+        × ((fault ≡ Refused why) × IsNameRefusal ⟦<E as Platform>⟧ item.now why)) }
 {
-    match OsStr::checked(item) {
-        Ok(name) => Ok(name),
-        Err(error) => Err(ItemFault::Refused(Refusal::NoString(error))),
+    let name = match OsStr::checked(item) {
+        Ok(name) => name,
+        Err(error) => return Err(ItemFault::Refused(Refusal::NoString(error))),
+    };
+    match split_at_end(0, item) {
+        None => Ok(name),
+        Some(_) => Err(ItemFault::Refused(Refusal::HasNul)),
     }
+}
+
+/// Why a name can't be written with this end: it has a NUL, or the newline that ends it.
+#[tactic(auto, using(program_frame::proofs::lemmas::lists::Items::has_end))]
+pub(crate) fn unfit(name: &[u8], end: ItemEnd) -> Option<Refusal>
+    ensures { MatchOption result (IsFit end name.now) (λ why. IsUnfit end name.now why) }
+{
+    if let Some(_) = split_at_end(0, name) {
+        return Some(Refusal::HasNul);
+    }
+    match end {
+        ItemEnd::Nul => None,
+        ItemEnd::Newline => match split_at_end(b'\n', name) {
+            Some(_) => Some(Refusal::HasNewline),
+            None => None,
+        },
+    }
+}
+
+/// Whether a line ends in a carriage return, as each line of a file does whose lines end as on Windows.
+pub(crate) fn ends_in_return(line: &[u8]) -> bool
+    ensures { IsTrue result ↔ EndsInReturn line.now }
+{
+    matches!(line.split_last(), Some((b'\r', _)))
 }
 
 /// Appends the escape of a name and a newline.
@@ -83,56 +116,101 @@ pub(crate) fn write_line<E: Platform, A: Allocator>(
     }
 }
 
-/// Appends a name and NUL.
+/// Appends a name and the byte that ends it.
 pub(crate) fn push_name<A: Allocator>(
     name: &[u8],
+    end: ItemEnd,
     output: &mut Vec<u8, A>,
 ) -> Result<(), ItemFault<Refusal>>
-    ensures ok { OnOk result (output.new.items ≡ output.old.items ++ (name.now ++ 0 ∷ [])) }
+    ensures ok { OnOk result
+        (output.new.items ≡ output.old.items ++ (name.now ++ byte_of end ∷ [])) }
     ensures fault { IfErr result (λ fault. fault ≡ Memory) }
     ensures unchanged { OnErr result (output.new.items ≡ output.old.items) }
 {
-    match push_ended(name, 0, output) {
+    match push_ended(name, end.byte(), output) {
         Ok(()) => Ok(()),
         Err(_) => Err(ItemFault::Memory),
     }
 }
 
-/// Appends the name that a line is the escape of, and NUL.
+/// Appends the name that a line is the escape of, and its end.
 fn write_name<E: Platform, A: Allocator + Copy>(
     alloc: A,
-    max: usize,
+    empty: EmptyLine,
+    list: ListOptions,
     line: &[u8],
     output: &mut Vec<u8, A>,
 ) -> Result<(), ItemFault<Refusal>>
-    requires { length line.now ≤ 6 * max }
+    requires { length line.now ≤ 6 * list.max }
     ensures ok { OnOk result ((text : List ℕ)
-        × (((last : LastLine) → IsText ⟦<E as Platform>⟧ (Join last) max line.now text)
+        × (IsText ⟦<E as Platform>⟧ (Join empty) list line.now text
         × (output.new.items ≡ output.old.items ++ text))) }
-    ensures fault { IfErr result (λ fault. (last : LastLine) → IsItemFault
-        (rules_of ⟦<E as Platform>⟧ (record { task = Join last; max = max })) line.now fault) }
+    ensures fault { IfErr result (λ fault. IsItemFault
+        (rules_of ⟦<E as Platform>⟧ (record { task = Join empty; list = list })) line.now fault) }
     ensures unchanged { OnErr result (output.new.items ≡ output.old.items) }
 {
-    if line.len() <= max && is_plain(line) {
-        return push_name(line, output);
+    if is_rejected(line, empty) {
+        return Err(ItemFault::Refused(Refusal::EmptyLine));
     }
+    if line.len() <= list.max && is_plain(line) {
+        return push_name(line, list.end, output);
+    }
+    if ends_in_return(line) {
+        return Err(ItemFault::Refused(Refusal::EndsInReturn));
+    }
+    write_escaped::<E, A>(alloc, list, line, output)
+}
+
+/// Whether a line is rejected since it is empty.
+fn is_rejected(line: &[u8], empty: EmptyLine) -> bool
+    ensures rejected { IsTrue result → IsEmpty empty line.now }
+    ensures taken { result ≡ false → IsTaken empty line.now }
+{
+    match empty {
+        EmptyLine::IsRejected => line.is_empty(),
+        EmptyLine::IsEmptyName => false,
+    }
+}
+
+/// Appends the name that a line is the escape of, and its end, where the line isn't plain.
+fn write_escaped<E: Platform, A: Allocator + Copy>(
+    alloc: A,
+    list: ListOptions,
+    line: &[u8],
+    output: &mut Vec<u8, A>,
+) -> Result<(), ItemFault<Refusal>>
+    requires { ¬ (EndsInReturn line.now) }
+    ensures ok { OnOk result ((text : List ℕ)
+        × (IsEscapeOf ⟦<E as Platform>⟧ list line.now text
+        × (output.new.items ≡ output.old.items ++ text))) }
+    ensures fault { (empty : DeclaredEmptyLine) → IfErr result (λ fault. IsItemFault
+        (rules_of ⟦<E as Platform>⟧ (record { task = Join empty; list = list })) line.now fault) }
+    ensures unchanged { OnErr result (output.new.items ≡ output.old.items) }
+{
     if let Err(error) = Wasm::check(line) {
         return Err(ItemFault::Refused(Refusal::NoString(error)));
     }
     let text = unsafe { str::from_utf8_unchecked(line) };
     let name = match unescape_line::<E, A>(alloc, text) {
         Ok(string) => string.into_encoded_bytes(),
-        Err(QuoteError::BadEscape(index)) => {
-            return Err(ItemFault::Refused(Refusal::BadEscape(index)));
-        }
-        Err(QuoteError::NotCanonical) => return Err(ItemFault::Refused(Refusal::NotCanonical)),
-        Err(QuoteError::Memory) => return Err(ItemFault::Memory),
+        Err(error) => return Err(quote_fault_of(error)),
     };
-    if name.len() > max {
+    if name.len() > list.max {
         return Err(ItemFault::TooLong);
     }
-    if let Some(_) = split_at_end(0, &name) {
-        return Err(ItemFault::Refused(Refusal::HasNul));
+    if let Some(why) = unfit(&name, list.end) {
+        return Err(ItemFault::Refused(why));
     }
-    push_name(&name, output)
+    push_name(&name, list.end, output)
+}
+
+/// Why nothing is written for a line that isn't an escape for this reason.
+fn quote_fault_of(error: QuoteError) -> ItemFault<Refusal>
+    ensures { result ≡ quote_fault error }
+{
+    match error {
+        QuoteError::BadEscape(index) => ItemFault::Refused(Refusal::BadEscape(index)),
+        QuoteError::NotCanonical => ItemFault::Refused(Refusal::NotCanonical),
+        QuoteError::Memory => ItemFault::Memory,
+    }
 }

@@ -1,10 +1,11 @@
 //! What the program `names` does, over ends of any kind: it reads and writes lists of names item by
 //! item.
 //!
-//! An item is a name, ended by NUL, or a line. A line is the escape of a name
-//! ([`os_quote::escape_line`]) or has words of a shell ([`os_command_line::shell::Words`]). An item
-//! may be empty. The last name may lack its end, and a last line where the settings allow it
-//! ([`task::LastLine`]).
+//! An item is a name, ended by NUL or a newline, or a line. A line is the escape of a name
+//! ([`os_quote::escape_line`]) or has words of a shell ([`os_command_line::shell::Words`]). The last
+//! item has its end, too, unless the options permit that it lacks it
+//! ([`program_frame::lists::options::ListOptions`]). An empty line is rejected unless the settings take
+//! it ([`task::EmptyLine`]).
 //!
 //! The arguments make up a request ([`Request::parse`](command::Request::parse)). A run reads a block
 //! at a time, and writes what the items that end in it become ([`program_frame::lists::run::run`]).

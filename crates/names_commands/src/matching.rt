@@ -1,9 +1,9 @@
 //! Names that are picked.
 ghost use Rattle.std.specs.Prelude.{◌≡◌, ◌↔◌, ◌++◌, ℕ, List, cond, false, not, IfErr, IfOk, IsTrue, OnErr, OnOk};
-ghost use Rattle.program_frame.specs.Rules.{IsItemFault};
 ghost use Rattle.os_ignore.specs.Ignores.{files_of};
 ghost use Rattle.os_ignore.specs.Walks.{files_of_walk};
 ghost use Rattle.os_str_bytes.specs.Strings.{bytes};
+ghost use Rattle.names_commands.specs.Names.{IsNoName};
 ghost use Rattle.names_commands.specs.Matching.{IsChosenBy, IsPickedBy, IsTextOfMatched, matching};
 
 use crate::fault::Refusal;
@@ -15,6 +15,7 @@ use glob_patterns::GlobSet;
 use os_ignore::{Ignore, Walk};
 use os_str_bytes::{OsStr, Platform};
 use program_frame::lists::fault::ItemFault;
+use program_frame::lists::options::{ItemEnd, ListOptions};
 use program_frame::lists::task::ListTask;
 use std::alloc::{AllocError, Allocator, Global};
 
@@ -23,7 +24,7 @@ use std::alloc::{AllocError, Allocator, Global};
 pub enum Form {
     /// Its escape on a line.
     Line,
-    /// The name itself and NUL.
+    /// The name itself and its end.
     Name,
     /// Its word of a shell, and a newline.
     Word(WordForm),
@@ -113,11 +114,11 @@ pub struct Matching<'g, E: Platform, A: Allocator = Global> {
     alloc: A,
     picker: Picker<'g, E, A>,
     form: Form,
-    max: usize,
+    list: ListOptions,
 }
 
 impl<'g, E: Platform, A: Allocator> Matching<'g, E, A> {
-    /// The names that are picked, in this form, where a name may have `max` bytes. The memory for the
+    /// The names that are picked, in this form, of a list that is written so. The memory for the
     /// directories above a name is of this allocator.
     ///
     /// ```
@@ -125,13 +126,14 @@ impl<'g, E: Platform, A: Allocator> Matching<'g, E, A> {
     /// use names_commands::matching::{Form, Matching, Picker};
     /// use os_ignore::Ignore;
     /// use os_str_bytes::{OsStr, Unix};
+    /// use program_frame::lists::options::ListOptions;
     /// use program_frame::lists::task::ListTask;
     ///
     /// let patterns = [OsStr::<Unix>::new("*.c"), OsStr::new("*.h")];
     /// let globs = GlobSet::new(alloc, GlobOptions::new(Separators::Slash), &patterns)?;
     /// let ignore = Ignore::new(alloc, b"b.*\n")?;
     /// let picker = Picker { globs: Some(&globs), ignore: &ignore, inverted: false };
-    /// let names = Matching::new(alloc, picker, Form::Line, 255);
+    /// let names = Matching::new(alloc, picker, Form::Line, ListOptions::new(255));
     /// let (mut memory, mut output) = (names.memory(), Vec::new(alloc));
     /// for name in ["a.c", "a.o", "a.h", "b.h"] {
     ///     let answer = names.write_item(alloc, &mut memory, name.as_bytes(), &mut output);
@@ -139,16 +141,21 @@ impl<'g, E: Platform, A: Allocator> Matching<'g, E, A> {
     /// }
     /// assert_eq!(rt; output.as_slice(), b"a.c\na.h\n".as_slice());
     /// ```
-    pub fn new(alloc: A, picker: Picker<'g, E, A>, form: Form, max: usize) -> Matching<'g, E, A>
+    pub fn new(
+        alloc: A,
+        picker: Picker<'g, E, A>,
+        form: Form,
+        list: ListOptions,
+    ) -> Matching<'g, E, A>
         ensures picker { result.picker ≡ picker.entry }
         ensures form { result.form ≡ form }
-        ensures max { result.max ≡ max }
+        ensures list { result.list ≡ list }
     {
         Matching {
             alloc,
             picker,
             form,
-            max,
+            list,
         }
     }
 }
@@ -158,25 +165,25 @@ impl<'g, E: Platform, B: Allocator + Copy> ListTask for Matching<'g, E, B> {
 
     type Memory = Walk<'g, B>;
 
-    ghost rules = { λ m. matching ⟦<E as Platform>⟧ m.form m.max m.picker.inverted
+    ghost rules = { λ m. matching ⟦<E as Platform>⟧ m.form m.list m.picker.inverted
         m.picker.globs (files_of m.picker.ignore.now) };
 
     ghost remembers = { λ m walk. files_of_walk walk ≡ files_of m.picker.ignore.now };
 
-    fn end(&self) -> u8 {
-        0
+    fn end(&self) -> ItemEnd {
+        self.list.end
     }
 
     fn takes_unended(&self) -> bool {
-        true
+        self.list.last.may_lack_end()
     }
 
     fn max(&self) -> usize {
-        self.max
+        self.list.max
     }
 
     fn longest_item(&self) -> usize {
-        self.max
+        self.list.max
     }
 
     fn memory(&self) -> Walk<'g, B> {
@@ -190,7 +197,15 @@ impl<'g, E: Platform, B: Allocator + Copy> ListTask for Matching<'g, E, B> {
         item: &[u8],
         output: &mut Vec<u8, A>,
     ) -> Result<(), ItemFault<Refusal>> {
-        write_matching::<E, A, B>(alloc, &self.picker, memory, self.form, item, output)
+        write_matching::<E, A, B>(
+            alloc,
+            &self.picker,
+            memory,
+            self.form,
+            self.list.end,
+            item,
+            output,
+        )
     }
 }
 
@@ -200,18 +215,16 @@ fn write_matching<E: Platform, A: Allocator, B: Allocator + Copy>(
     picker: &Picker<'_, E, B>,
     walk: &mut Walk<'_, B>,
     form: Form,
+    end: ItemEnd,
     item: &[u8],
     output: &mut Vec<u8, A>,
 ) -> Result<(), ItemFault<Refusal>>
     requires { files_of_walk walk.old ≡ files_of picker.now.ignore.now }
     ensures ok { OnOk result ((text : List ℕ)
-        × (IsTextOfMatched ⟦<E as Platform>⟧ form picker.now.inverted picker.now.globs
+        × (IsTextOfMatched ⟦<E as Platform>⟧ form end picker.now.inverted picker.now.globs
         (files_of picker.now.ignore.now)
         item.now text × (output.new.items ≡ output.old.items ++ text))) }
-    ensures fault { (max : ℕ) → IfErr result (λ fault. IsItemFault
-        (matching ⟦<E as Platform>⟧ form max picker.now.inverted picker.now.globs
-        (files_of picker.now.ignore.now)) item.now
-        fault) }
+    ensures fault { IfErr result (λ fault. IsNoName ⟦<E as Platform>⟧ item.now fault) }
     ensures unchanged { OnErr result (output.new.items ≡ output.old.items) }
     ensures files { files_of_walk walk.new ≡ files_of_walk walk.old }
 {
@@ -223,7 +236,7 @@ fn write_matching<E: Platform, A: Allocator, B: Allocator + Copy>(
                 }
                 match form {
                     Form::Line => write_line::<E, A>(alloc, name, output),
-                    Form::Name => push_name(item, output),
+                    Form::Name => push_name(item, end, output),
                     Form::Word(form) => write_word(alloc, form, item, output),
                 }
             }

@@ -21,8 +21,12 @@ pub enum NamesOption {
     Sh,
     /// `--sh-line`: words of a shell, each on one line.
     ShLine,
-    /// `--unterminated`: the last line may lack its newline.
+    /// `--lines`: a newline ends each name, and not NUL.
+    Lines,
+    /// `--unterminated`: the last name, or the last line, may lack its end.
     Unterminated,
+    /// `--empty`: an empty line is the escape of the empty name.
+    Empty,
     /// `--glob GLOB`: picks the names that a pattern matches.
     Glob,
     /// `--name GLOB`: picks the names whose last component a pattern matches, as `--glob '**/GLOB'`.
@@ -50,7 +54,9 @@ impl NamesOption {
             NamesOption::Max => "--max",
             NamesOption::Sh => "--sh",
             NamesOption::ShLine => "--sh-line",
+            NamesOption::Lines => "--lines",
             NamesOption::Unterminated => "--unterminated",
+            NamesOption::Empty => "--empty",
             NamesOption::Glob => "--glob",
             NamesOption::Name => "--name",
             NamesOption::Ignore => "--ignore",
@@ -81,7 +87,9 @@ impl ProgramOption for NamesOption {
             | NamesOption::Version
             | NamesOption::Sh
             | NamesOption::ShLine
+            | NamesOption::Lines
             | NamesOption::Unterminated
+            | NamesOption::Empty
             | NamesOption::Invert => false,
         }
     }
@@ -102,7 +110,9 @@ fn long_option(name: &str) -> Option<NamesOption>
         "max" => Some(NamesOption::Max),
         "sh" => Some(NamesOption::Sh),
         "sh-line" => Some(NamesOption::ShLine),
+        "lines" => Some(NamesOption::Lines),
         "unterminated" => Some(NamesOption::Unterminated),
+        "empty" => Some(NamesOption::Empty),
         "glob" => Some(NamesOption::Glob),
         "name" => Some(NamesOption::Name),
         "ignore" => Some(NamesOption::Ignore),

@@ -91,7 +91,7 @@ fn run_patterns<E: Platform, F: Files, A: Allocator + Copy, R: Read, W: Write>(
         ignore: &ignore,
         inverted: plan.pick.inverted,
     };
-    let matching = Matching::new(alloc, picker, plan.form, plan.max);
+    let matching = Matching::new(alloc, picker, plan.form, plan.list);
     run_list(alloc, &matching, reader, writer)
 }
 

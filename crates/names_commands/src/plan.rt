@@ -6,6 +6,7 @@ use crate::command::Command;
 use crate::matching::Form;
 use crate::pick::Pick;
 use crate::task::Task;
+use program_frame::lists::options::ListOptions;
 use program_frame::os::Os;
 
 /// Names that are picked, and how they are written.
@@ -17,8 +18,8 @@ pub struct Plan<'a> {
     pub form: Form,
     /// What picks names.
     pub pick: Pick<'a>,
-    /// How many bytes a name may have.
-    pub max: usize,
+    /// How the list is written.
+    pub list: ListOptions,
 }
 
 /// What is done with a list.
@@ -48,8 +49,8 @@ impl<'a> Work<'a> {
             }
             Command::Filter(os, pick) => Some((os, Work::Picked(os, Form::Name, pick))),
             Command::Why(os) => Some((os, Work::Why)),
-            Command::Join(os, last) => Some((os, Work::Each(Task::Join(last)))),
-            Command::JoinWords(last) => Some((Os::Unix, Work::Each(Task::JoinWords(last)))),
+            Command::Join(os, empty) => Some((os, Work::Each(Task::Join(empty)))),
+            Command::JoinWords => Some((Os::Unix, Work::Each(Task::JoinWords))),
             Command::Check(os) => Some((os, Work::Each(Task::Check))),
             Command::Help | Command::Version => None,
         }

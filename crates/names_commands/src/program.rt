@@ -18,6 +18,7 @@ use program_frame::fault::Failure;
 use program_frame::files::Files;
 use program_frame::lists::answers::{run_list, write_help};
 use program_frame::lists::fault::ListFault;
+use program_frame::lists::options::ListOptions;
 use program_frame::lists::program::ListProgram;
 use program_frame::marked::Marked;
 use program_frame::misuse::Misuse;
@@ -110,7 +111,7 @@ fn run_line<F: Files, A: Allocator + Copy, R: Read, W: Write>(
                 files,
                 given,
                 request.command,
-                request.max,
+                request.list,
                 reader,
                 writer,
             )
@@ -125,14 +126,14 @@ fn run_command<'a, F: Files, A: Allocator + Copy, R: Read, W: Write>(
     files: &F,
     given: Line<'_, 'a>,
     command: Command<'a>,
-    max: usize,
+    list: ListOptions,
     reader: &mut Marked<R>,
     writer: &mut Marked<W>,
 ) -> Result<(), Fault>
     requires reader_unmarked { has_failed reader.old ≡ false }
     requires writer_unmarked { has_failed writer.old ≡ false }
     ensures run { Did R.remaining W.contents
-        (Does (F.known files.now) A given.now command.entry max)
+        (Does (F.known files.now) A given.now command.entry list)
         reader.old reader.new writer.old writer.new result }
     ensures ends { BlamesEnds result (has_failed reader.new) (has_failed writer.new) }
 {
@@ -146,13 +147,13 @@ fn run_command<'a, F: Files, A: Allocator + Copy, R: Read, W: Write>(
         }
         Some((os, work)) => match os {
             Os::Unix => {
-                run_work::<Unix, F, A, R, W>(alloc, files, given, work, max, reader, writer)
+                run_work::<Unix, F, A, R, W>(alloc, files, given, work, list, reader, writer)
             }
             Os::Windows => {
-                run_work::<Windows, F, A, R, W>(alloc, files, given, work, max, reader, writer)
+                run_work::<Windows, F, A, R, W>(alloc, files, given, work, list, reader, writer)
             }
             Os::Wasm => {
-                run_work::<Wasm, F, A, R, W>(alloc, files, given, work, max, reader, writer)
+                run_work::<Wasm, F, A, R, W>(alloc, files, given, work, list, reader, writer)
             }
         },
     }
@@ -164,20 +165,20 @@ fn run_work<'a, E: Platform + 'a, F: Files, A: Allocator + Copy, R: Read, W: Wri
     files: &F,
     given: Line<'_, 'a>,
     work: Work<'a>,
-    max: usize,
+    list: ListOptions,
     reader: &mut Marked<R>,
     writer: &mut Marked<W>,
 ) -> Result<(), Fault>
     requires reader_unmarked { has_failed reader.old ≡ false }
     requires writer_unmarked { has_failed writer.old ≡ false }
     ensures run { Did R.remaining W.contents
-        (RunsWork (F.known files.now) A given.now ⟦<E as Platform>⟧ max work.entry)
+        (RunsWork (F.known files.now) A given.now ⟦<E as Platform>⟧ list work.entry)
         reader.old reader.new writer.old writer.new result }
     ensures ends { BlamesEnds result (has_failed reader.new) (has_failed writer.new) }
 {
     match work {
         Work::Each(task) => {
-            let each = OnPlatform::<E>::new(Settings { task, max });
+            let each = OnPlatform::<E>::new(Settings { task, list });
             run_list(alloc, &each, reader, writer)
         }
         Work::Picked(os, form, pick) => {
@@ -185,10 +186,10 @@ fn run_work<'a, E: Platform + 'a, F: Files, A: Allocator + Copy, R: Read, W: Wri
                 os,
                 form,
                 pick,
-                max,
+                list,
             };
             run_picked::<E, F, A, R, W>(alloc, files, given, plan, reader, writer)
         }
-        Work::Why => run_why::<E, F, A, R, W>(alloc, files, given, max, reader, writer),
+        Work::Why => run_why::<E, F, A, R, W>(alloc, files, given, list, reader, writer),
     }
 }

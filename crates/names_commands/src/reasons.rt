@@ -15,6 +15,7 @@ use program_frame::fault::Failure;
 use program_frame::files::Files;
 use program_frame::lists::answers::run_list;
 use program_frame::lists::fault::ListFault;
+use program_frame::lists::options::ListOptions;
 use program_frame::marked::Marked;
 use std::alloc::Allocator;
 use std::io::{Read, Write};
@@ -25,14 +26,14 @@ pub(crate) fn run_why<E: Platform, F: Files, A: Allocator + Copy, R: Read, W: Wr
     alloc: A,
     files: &F,
     given: Line<'_, '_>,
-    max: usize,
+    list: ListOptions,
     reader: &mut Marked<R>,
     writer: &mut Marked<W>,
 ) -> Result<(), Fault>
     requires reader_unmarked { has_failed reader.old ≡ false }
     requires writer_unmarked { has_failed writer.old ≡ false }
     ensures run { Did R.remaining W.contents (UnlessOutOfMemory
-        (RunsWhyOn (F.known files.now) A given.now ⟦<E as Platform>⟧ max))
+        (RunsWhyOn (F.known files.now) A given.now ⟦<E as Platform>⟧ list))
         reader.old reader.new writer.old writer.new result }
     ensures ends { BlamesEnds result (has_failed reader.new) (has_failed writer.new) }
 {
@@ -45,7 +46,7 @@ pub(crate) fn run_why<E: Platform, F: Files, A: Allocator + Copy, R: Read, W: Wr
             let reasons = Reasons {
                 values,
                 ignore: &ignore,
-                max,
+                list,
                 platform: PhantomData::<E>,
             };
             run_list(alloc, &reasons, reader, writer)

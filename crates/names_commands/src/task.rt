@@ -1,34 +1,23 @@
 //! What is done with the items of the input.
-ghost use Rattle.std.specs.Prelude.{◌≡◌, ◌↔◌, ◌-◌, ◌^◌, IsTrue, min};
-ghost use Rattle.names_commands.specs.Task.{MayLack, TakesUnended, end_of, longest_item, rules_of};
+ghost use Rattle.std.specs.Prelude.{◌≡◌, ◌-◌, ◌^◌, min};
+ghost use Rattle.names_commands.specs.Task.{end_of, longest_item, rules_of, with_limit};
 
 use crate::fault::Refusal;
 use crate::item::write_item;
 use os_str_bytes::Platform;
 use program_frame::lists::fault::ItemFault;
+use program_frame::lists::options::{ItemEnd, ListOptions};
 use program_frame::lists::task::ListTask;
 use std::alloc::Allocator;
 use std::marker::PhantomData;
 
-/// Whether the last line of the input may lack its newline.
+/// Whether an empty line is the escape of the empty name.
 #[derive(Clone, Copy, PartialEq, Eq)]
-pub enum LastLine {
-    /// A last line without its newline is rejected: a list that was cut off ends with such a line.
-    MustEnd,
+pub enum EmptyLine {
+    /// It is rejected. No file has an empty name, and a list that was edited may have an empty line.
+    IsRejected,
     /// It is read as any other line.
-    MayLackEnd,
-}
-
-impl LastLine {
-    /// Whether a last line without its newline is read.
-    fn may_lack_end(self) -> bool
-        ensures { IsTrue result ↔ MayLack self }
-    {
-        match self {
-            LastLine::MustEnd => false,
-            LastLine::MayLackEnd => true,
-        }
-    }
+    IsEmptyName,
 }
 
 /// How a name is written as a word of a shell.
@@ -51,77 +40,80 @@ pub enum Task {
     ListWords(WordForm),
     /// Nothing is written.
     Check,
-    /// Each line, the escape of a name, is written as that name and NUL.
-    Join(LastLine),
-    /// Each word of each line, as a shell reads it, is written with NUL. Words in `$'..'` are read, too,
-    /// and what some shell would expand is rejected.
-    JoinWords(LastLine),
+    /// Each line, the escape of a name, is written as that name and its end.
+    Join(EmptyLine),
+    /// Each word of each line, as a shell reads it, is written with its end. Words in `$'..'` are read,
+    /// too, and what some shell would expand is rejected.
+    JoinWords,
 }
 
-/// What is done with each item, and how long a name may be.
+/// What is done with each item, and how the list of names is written.
 #[derive(Clone, Copy)]
 pub struct Settings {
     /// What is done with each item.
     pub task: Task,
-    /// How many bytes a name may have.
-    pub max: usize,
+    /// How the names are written, and whether the last item of the input may lack its end.
+    pub list: ListOptions,
 }
 
 impl Settings {
+    /// This task, with names of at most `max` bytes that are each ended by NUL, and with an input whose
+    /// last item has its end.
+    ///
+    /// ```
+    /// use names_commands::task::{Settings, Task};
+    ///
+    /// assert_eq!(rt; Settings::new(Task::Check, 255).list.max, 255);
+    /// ```
+    pub fn new(task: Task, max: usize) -> Settings
+        ensures { result ≡ with_limit task max }
+    {
+        Settings {
+            task,
+            list: ListOptions::new(max),
+        }
+    }
+
     /// How many bytes an item may have, or `usize::MAX` where that is less. A name may have `max`
     /// bytes. A line may have six times as many, since an escape has at most six for each byte of a
     /// name. A line of words may have four times as many and three, since the word of a name has no
     /// more.
     ///
     /// ```
-    /// use names_commands::task::{LastLine, Settings, Task};
+    /// use names_commands::task::{EmptyLine, Settings, Task};
     ///
-    /// let names = Settings { task: Task::Check, max: 255 };
-    /// let lines = Settings { task: Task::Join(LastLine::MustEnd), max: 255 };
+    /// let names = Settings::new(Task::Check, 255);
+    /// let lines = Settings::new(Task::Join(EmptyLine::IsRejected), 255);
     /// assert!(rt; names.longest_item() == 255 && lines.longest_item() == 1530);
     /// ```
     pub fn longest_item(self) -> usize
         ensures { result ≡ min (longest_item self) (2 ^ 64 - 1) }
     {
         match self.task {
-            Task::ListAll | Task::ListWords(_) | Task::Check => self.max,
-            Task::Join(_) => self.max.saturating_mul(6),
-            Task::JoinWords(_) => self.max.saturating_mul(4).saturating_add(3),
+            Task::ListAll | Task::ListWords(_) | Task::Check => self.list.max,
+            Task::Join(_) => self.list.max.saturating_mul(6),
+            Task::JoinWords => self.list.max.saturating_mul(4).saturating_add(3),
         }
     }
 }
 
 impl Task {
-    /// The byte that ends an item: NUL after a name, a newline after a line.
+    /// The byte that ends an item of the input, where this one ends a name: that, or a newline after a
+    /// line.
     ///
     /// ```
-    /// use names_commands::task::{LastLine, Task};
+    /// use names_commands::task::Task;
+    /// use program_frame::lists::options::ItemEnd;
     ///
-    /// assert!(rt; Task::Check.end() == 0 && Task::Join(LastLine::MustEnd).end() == b'\n');
+    /// assert!(rt; Task::Check.end(ItemEnd::Nul) == ItemEnd::Nul);
+    /// assert!(rt; Task::JoinWords.end(ItemEnd::Nul) == ItemEnd::Newline);
     /// ```
-    pub fn end(self) -> u8
-        ensures { result ≡ end_of self }
+    pub fn end(self, name: ItemEnd) -> ItemEnd
+        ensures { result ≡ end_of self name }
     {
         match self {
-            Task::ListAll | Task::ListWords(_) | Task::Check => 0,
-            Task::Join(_) | Task::JoinWords(_) => b'\n',
-        }
-    }
-
-    /// Whether the last item may lack the byte that ends it: a name may, and a line where
-    /// [`LastLine`] allows it.
-    ///
-    /// ```
-    /// use names_commands::task::{LastLine, Task};
-    ///
-    /// assert!(rt; Task::ListAll.takes_unended() && !Task::Join(LastLine::MustEnd).takes_unended());
-    /// ```
-    pub fn takes_unended(self) -> bool
-        ensures { IsTrue result ↔ TakesUnended self }
-    {
-        match self {
-            Task::ListAll | Task::ListWords(_) | Task::Check => true,
-            Task::Join(last) | Task::JoinWords(last) => last.may_lack_end(),
+            Task::ListAll | Task::ListWords(_) | Task::Check => name,
+            Task::Join(_) | Task::JoinWords => ItemEnd::Newline,
         }
     }
 }
@@ -129,7 +121,7 @@ impl Task {
 /// What is done with each name of a list of a platform.
 #[derive(Clone, Copy)]
 pub struct OnPlatform<E> {
-    /// What is done with each item, and how long a name may be.
+    /// What is done with each item, and how the list is written.
     pub settings: Settings,
     platform: PhantomData<E>,
 }
@@ -141,8 +133,8 @@ impl<E> OnPlatform<E> {
     /// use names_commands::task::{OnPlatform, Settings, Task};
     /// use os_str_bytes::Unix;
     ///
-    /// let settings = Settings { task: Task::ListAll, max: 255 };
-    /// assert_eq!(rt; OnPlatform::<Unix>::new(settings).settings.max, 255);
+    /// let settings = Settings::new(Task::ListAll, 255);
+    /// assert_eq!(rt; OnPlatform::<Unix>::new(settings).settings.list.max, 255);
     /// ```
     pub fn new(settings: Settings) -> OnPlatform<E>
         ensures { result.settings ≡ settings }
@@ -163,16 +155,16 @@ impl<E: Platform> ListTask for OnPlatform<E> {
 
     ghost remembers = { λ _ _. Unit {0} };
 
-    fn end(&self) -> u8 {
-        self.settings.task.end()
+    fn end(&self) -> ItemEnd {
+        self.settings.task.end(self.settings.list.end)
     }
 
     fn takes_unended(&self) -> bool {
-        self.settings.task.takes_unended()
+        self.settings.list.last.may_lack_end()
     }
 
     fn max(&self) -> usize {
-        self.settings.max
+        self.settings.list.max
     }
 
     fn longest_item(&self) -> usize {

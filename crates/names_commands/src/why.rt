@@ -1,19 +1,22 @@
 //! The lines of ignore files that decide names.
-ghost use Rattle.std.specs.Prelude.{◌≡◌, ◌++◌, ◌<◌, ℕ, List, map, length, IfErr, IfOk, OnErr, OnOk};
+ghost use Rattle.std.specs.Prelude.{◌≡◌, ◌∷◌, ◌++◌, ◌<◌, [], ℕ, List, map, length, IfErr, IfOk, OnErr, OnOk};
 ghost use Rattle.os_ignore.specs.Ignores.{HasNoText, HasText, files_of};
+ghost use Rattle.os_quote.specs.Escape.{IsLineEscape};
 ghost use Rattle.os_str_bytes.specs.Strings.{bytes};
-ghost use Rattle.program_frame.specs.Rules.{IsItemFault};
+ghost use Rattle.os_str_bytes.specs.UnixPlatform.TheImpl.{ghosts as unix};
 ghost use Rattle.names_commands.specs.Ignoring.{text_of};
+ghost use Rattle.names_commands.specs.Names.{IsNoName};
 ghost use Rattle.names_commands.specs.Why.{IsDecidedText, IsNameAt, IsReason, IsTextOfDecided, LinesAreKnown, deciding, place_text};
 
 use crate::fault::Refusal;
 use crate::ignoring::{decider, file_in, value_of};
 use crate::item::named;
 use os_ignore::Ignore;
-use os_str_bytes::{OsStr, Platform};
+use os_str_bytes::{OsStr, Platform, Unix};
 use program_frame::lists::fault::ItemFault;
 use program_frame::lists::items::push_ended;
-use program_frame::lists::lines::push_line;
+use program_frame::lists::lines::{push_escape, push_line};
+use program_frame::lists::options::{ItemEnd, ListOptions};
 use program_frame::lists::task::ListTask;
 use std::alloc::{AllocError, Allocator, Global};
 use std::marker::PhantomData;
@@ -25,8 +28,8 @@ pub struct Reasons<'g, E, A: Allocator = Global> {
     pub values: &'g [&'g str],
     /// The lines of the files.
     pub ignore: &'g Ignore<A>,
-    /// How many bytes a name may have.
-    pub max: usize,
+    /// How the list is written.
+    pub list: ListOptions,
     /// The platform whose strings the names are.
     pub platform: PhantomData<E>,
     ghost known: { LinesAreKnown (length values.now) (files_of ignore.now) },
@@ -37,25 +40,25 @@ impl<'g, E: Platform, B: Allocator + Copy> ListTask for Reasons<'g, E, B> {
 
     type Memory = ();
 
-    ghost rules = { λ r. deciding ⟦<E as Platform>⟧ r.max (map text_of r.values.now)
+    ghost rules = { λ r. deciding ⟦<E as Platform>⟧ r.list (map text_of r.values.now)
         (files_of r.ignore.now) };
 
     ghost remembers = { λ _ _. Unit {0} };
 
-    fn end(&self) -> u8 {
-        0
+    fn end(&self) -> ItemEnd {
+        self.list.end
     }
 
     fn takes_unended(&self) -> bool {
-        true
+        self.list.last.may_lack_end()
     }
 
     fn max(&self) -> usize {
-        self.max
+        self.list.max
     }
 
     fn longest_item(&self) -> usize {
-        self.max
+        self.list.max
     }
 
     fn memory(&self) {}
@@ -83,8 +86,7 @@ fn write_decided<E: Platform, A: Allocator + Copy, B: Allocator + Copy>(
     ensures ok { OnOk result ((text : List ℕ)
         × (IsTextOfDecided ⟦<E as Platform>⟧ (map text_of values.now) (files_of ignore.now) item.now
         text × (output.new.items ≡ output.old.items ++ text))) }
-    ensures fault { (max : ℕ) → IfErr result (λ fault. IsItemFault (deciding ⟦<E as Platform>⟧ max
-        (map text_of values.now) (files_of ignore.now)) item.now fault) }
+    ensures fault { IfErr result (λ fault. IsNoName ⟦<E as Platform>⟧ item.now fault) }
     ensures unchanged { OnErr result (output.new.items ≡ output.old.items) }
 {
     let name = match named::<E>(item) {
@@ -138,21 +140,42 @@ fn reason_of<E: Platform, A: Allocator + Copy, B: Allocator + Copy>(
     Ok(reason)
 }
 
-/// The name of a file, the number of a line and its text.
+/// The name of a file, the number of a line and its text, the first and the last as their escapes.
 fn place_of<A: Allocator + Copy>(
     alloc: A,
     file: &[u8],
     line: usize,
     pattern: &[u8],
 ) -> Result<Vec<u8, A>, AllocError>
-    ensures { IfOk result (λ place. place.items ≡ place_text file.now line pattern.now) }
+    ensures { IfOk result (λ place. (shown_file : List ℕ) × (shown_pattern : List ℕ)
+        × ((IsLineEscape unix.units file.now shown_file
+        × IsLineEscape unix.units pattern.now shown_pattern)
+        × (place.items ≡ place_text shown_file line shown_pattern))) }
 {
     let number = line.to_string(alloc)?;
     let mut place = Vec::new(alloc);
-    push_ended(file, b':', &mut place)?;
+    push_shown(alloc, file, b':', &mut place)?;
     push_ended(number.as_bytes(), b':', &mut place)?;
-    push_ended(pattern, b'\t', &mut place)?;
+    push_shown(alloc, pattern, b'\t', &mut place)?;
     Ok(place)
+}
+
+/// Appends the escape of any bytes on one line, and this byte.
+fn push_shown<A: Allocator>(
+    alloc: A,
+    bytes: &[u8],
+    end: u8,
+    output: &mut Vec<u8, A>,
+) -> Result<(), AllocError>
+    ensures { OnOk result ((text : List ℕ) × (IsLineEscape unix.units bytes.now text
+        × (output.new.items ≡ output.old.items ++ (text ++ end ∷ [])))) }
+{
+    push_escape(
+        alloc,
+        OsStr::<Unix>::from_encoded_bytes_unchecked(bytes),
+        end,
+        output,
+    )
 }
 
 /// The name of the file that the value at `index` states.

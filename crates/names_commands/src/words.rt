@@ -3,14 +3,20 @@ ghost use Rattle.std.specs.Prelude.{◌≡◌, ◌++◌, ◌∷◌, [], ℕ, Lis
 ghost use Rattle.os_command_line.specs.ShellViews.{word_bytes};
 ghost use Rattle.os_command_line.specs.ShellWriting.{IsNameFault};
 ghost use Rattle.os_str_bytes.specs.Strings.{bytes, string_vec_of};
-ghost use Rattle.names_commands.specs.Words.{IsWord, IsWordLine, IsName, AreNamesOf, IsNulFault, IsWordFault, IsLineFault};
+ghost use Rattle.program_frame.specs.Items.{Lacks};
+ghost use Rattle.program_frame.specs.ListOptions.{byte_of};
+ghost use Rattle.program_frame.specs.declared.lists.fault.ItemFault.TheVariants.{Memory};
+ghost use Rattle.names_commands.specs.Names.{EndsInReturn};
+ghost use Rattle.names_commands.specs.Words.{IsWord, IsWordLine, IsName, AreNamesOf, IsWordFault, IsLineFault};
 
 use crate::fault::Refusal;
+use crate::item::{ends_in_return, push_name, unfit};
 use crate::task::WordForm;
 use os_command_line::shell::{ShellError, Specials, Word, Words, quote, quote_line};
 use os_str_bytes::{OsStr, OsString, Unix};
 use program_frame::lists::fault::ItemFault;
-use program_frame::lists::items::{push_ended, split_at_end};
+use program_frame::lists::items::push_ended;
+use program_frame::lists::options::ListOptions;
 use std::alloc::Allocator;
 
 /// Appends the word of a name, and a newline.
@@ -21,9 +27,10 @@ pub(crate) fn write_word<A: Allocator>(
     name: &[u8],
     output: &mut Vec<u8, A>,
 ) -> Result<(), ItemFault<Refusal>>
+    requires { Lacks 0 name.now }
     ensures line { OnOk result ((text : List ℕ) × (IsWordLine form name.now text
         × (output.new.items ≡ output.old.items ++ text))) }
-    ensures fault { IfErr result (λ fault. IsNulFault name.now fault) }
+    ensures fault { IfErr result (λ fault. fault ≡ Memory) }
     ensures unchanged { OnErr result (output.new.items ≡ output.old.items) }
 {
     match word_of(alloc, form, OsStr::from_encoded_bytes_unchecked(name)) {
@@ -31,7 +38,7 @@ pub(crate) fn write_word<A: Allocator>(
             Ok(()) => Ok(()),
             Err(_) => Err(ItemFault::Memory),
         },
-        Err(ShellError::Nul(_)) => Err(ItemFault::Refused(Refusal::HasNul)),
+        Err(ShellError::Nul(_)) => unreachable!(),
         Err(ShellError::Memory) => Err(ItemFault::Memory),
     }
 }
@@ -52,20 +59,23 @@ fn word_of<A: Allocator>(
     }
 }
 
-/// Appends each word of a line, and NUL after it.
+/// Appends each word of a line, and its end after it.
 pub(crate) fn write_names<A: Allocator + Copy>(
     alloc: A,
-    max: usize,
+    list: ListOptions,
     line: &[u8],
     output: &mut Vec<u8, A>,
 ) -> Result<(), ItemFault<Refusal>>
-    ensures ok { OnOk result ((text : List ℕ) × (AreNamesOf max line.now text
+    ensures ok { OnOk result ((text : List ℕ) × (AreNamesOf list line.now text
         × (output.new.items ≡ output.old.items ++ text))) }
-    ensures fault { IfErr result (λ fault. IsLineFault max line.now fault) }
+    ensures fault { IfErr result (λ fault. IsLineFault list line.now fault) }
     ensures unchanged { OnErr result (output.new.items ≡ output.old.items) }
 {
+    if ends_in_return(line) {
+        return Err(ItemFault::Refused(Refusal::EndsInReturn));
+    }
     let mut names = Vec::new(alloc);
-    push_names(alloc, max, line, &mut names)?;
+    push_names(alloc, list, line, &mut names)?;
     match output.extend_from_slice(&names) {
         Ok(()) => Ok(()),
         Err(_) => Err(ItemFault::Memory),
@@ -76,18 +86,19 @@ pub(crate) fn write_names<A: Allocator + Copy>(
 /// have some of them afterwards.
 fn push_names<A: Allocator + Copy>(
     alloc: A,
-    max: usize,
+    list: ListOptions,
     line: &[u8],
     names: &mut Vec<u8, A>,
 ) -> Result<(), ItemFault<Refusal>>
-    ensures ok { OnOk result ((text : List ℕ) × (AreNamesOf max line.now text
+    requires { ¬ (EndsInReturn line.now) }
+    ensures ok { OnOk result ((text : List ℕ) × (AreNamesOf list line.now text
         × (names.new.items ≡ names.old.items ++ text))) }
-    ensures fault { IfErr result (λ fault. IsLineFault max line.now fault) }
+    ensures fault { IfErr result (λ fault. IsLineFault list line.now fault) }
 {
     let line = OsStr::from_encoded_bytes_unchecked(line);
     for word in Words::with_dollar_quotes(line, Specials::Refused) {
         match word {
-            Ok(word) => match push_name(alloc, max, word, names) {
+            Ok(word) => match push_word(alloc, list, word, names) {
                 Ok(()) => {}
                 Err(fault) => return Err(fault),
             },
@@ -97,31 +108,27 @@ fn push_names<A: Allocator + Copy>(
     Ok(())
 }
 
-/// Appends a word and NUL.
-#[tactic(auto, using(program_frame::proofs::lemmas::lists::Items::has_end))]
-fn push_name<A: Allocator + Copy>(
+/// Appends a word and its end.
+fn push_word<A: Allocator + Copy>(
     alloc: A,
-    max: usize,
+    list: ListOptions,
     word: Word<'_>,
     names: &mut Vec<u8, A>,
 ) -> Result<(), ItemFault<Refusal>>
-    ensures name { OnOk result (IsName max (word_bytes word.entry)) }
+    ensures name { OnOk result (IsName list (word_bytes word.entry)) }
     ensures ok { OnOk result (names.new.items
-        ≡ names.old.items ++ (word_bytes word.entry ++ 0 ∷ [])) }
-    ensures fault { IfErr result (λ fault. IsWordFault max (word_bytes word.entry) fault) }
+        ≡ names.old.items ++ (word_bytes word.entry ++ byte_of list.end ∷ [])) }
+    ensures fault { IfErr result (λ fault. IsWordFault list (word_bytes word.entry) fault) }
 {
     let name = match word.to_owned(alloc) {
         Ok(name) => name.into_encoded_bytes(),
         Err(_) => return Err(ItemFault::Memory),
     };
-    if name.len() > max {
+    if name.len() > list.max {
         return Err(ItemFault::TooLong);
     }
-    if let Some(_) = split_at_end(0, &name) {
-        return Err(ItemFault::Refused(Refusal::HasNul));
+    if let Some(why) = unfit(&name, list.end) {
+        return Err(ItemFault::Refused(why));
     }
-    match push_ended(&name, 0, names) {
-        Ok(()) => Ok(()),
-        Err(_) => Err(ItemFault::Memory),
-    }
+    push_name(&name, list.end, names)
 }

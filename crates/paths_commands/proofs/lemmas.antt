@@ -1,9 +1,8 @@
 pub mod After
 pub mod Answers
-pub mod AtFault
-pub mod Few
 pub mod Lines
 pub mod NeverBoth
+pub mod Platforms
 pub mod ReadOnce
 pub mod Refusals
 pub mod Requests

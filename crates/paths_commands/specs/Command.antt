@@ -9,7 +9,13 @@ use Rattle.program_frame.specs.declared.arguments.Given.{Given}
 use Rattle.program_frame.specs.declared.misuse.Misuse.{Misuse}
 use Rattle.program_frame.specs.declared.misuse.Misuse.TheVariants.{Argument, Missing, Invalid, Misplaced}
 use Rattle.program_frame.specs.declared.os.Os.{Os}
+use Rattle.path_building.specs.BaseViews.{base_style}
+use Rattle.path_building.specs.Faults.{IsBaseFault}
+use Rattle.path_building.specs.declared.base.BaseError.{BaseError}
+use Rattle.path_building.specs.declared.base.BaseError.TheVariants as base_error
+use Rattle.path_rules.specs.declared.rules.Style.{Style}
 use Rattle.paths_commands.specs.Options.{has_value, spelled}
+use Rattle.paths_commands.specs.Styles.{style_of}
 use Rattle.paths_commands.specs.Task.{IsChecked, name_of, name_word, operands_of_task}
 use Rattle.paths_commands.specs.declared.command.Command.{Command}
 use Rattle.paths_commands.specs.declared.command.Command.TheVariants.{Ask, Help, Version}
@@ -18,6 +24,7 @@ use Rattle.paths_commands.specs.declared.command.Name.TheVariants as task_name
 use Rattle.paths_commands.specs.declared.option.PathsOption.{PathsOption}
 use Rattle.paths_commands.specs.declared.option.PathsOption.TheVariants as option
 use Rattle.paths_commands.specs.declared.task.Task.{Task}
+use Rattle.paths_commands.specs.declared.task.Task.TheVariants.{Components, Parent, Name as LastName, Stem, Extension, Normalize, Clean, Join, JoinChecked, Relative, Convert}
 
 -- options and operands, as they were given
 abbrev pub Line : Type 0
@@ -31,9 +38,23 @@ IsOfPaths given = (¬ (HasOption option.Help given)) × (¬ (HasOption option.Ve
 abbrev pub HasOperands : Line → Name → Os → List (List ℕ) → Type 0
 HasOperands given name os more = operands_of given ≡ name_word name ∷ os_word os ∷ more
 
--- the task has this name, is checked where that is requested, and has these operands
-abbrev pub IsTaskOf : Name → Bool → List (List ℕ) → Task → Type 0
-IsTaskOf name is_checked operands task = (name_of task ≡ name) × ((IsChecked task ↔ (is_checked ≡ true)) × (operands ≡ operands_of_task task))
+-- the base of the task, if it has one that was tested, follows these rules
+abbrev pub HasStyle : Style → Task → Type 0
+HasStyle style Components = Unit {0}
+HasStyle style Parent = Unit {0}
+HasStyle style LastName = Unit {0}
+HasStyle style Stem = Unit {0}
+HasStyle style Extension = Unit {0}
+HasStyle style Normalize = Unit {0}
+HasStyle style Clean = Unit {0}
+HasStyle style (Join base) = Unit {0}
+HasStyle style (JoinChecked base) = base_style base ≡ style
+HasStyle style (Relative base) = Unit {0}
+HasStyle style (Convert to) = Unit {0}
+
+-- the task has this name, is checked where that is requested, and has these operands; a base that was tested is one on this platform
+abbrev pub IsTaskOf : Name → Bool → Os → List (List ℕ) → Task → Type 0
+IsTaskOf name is_checked os operands task = (name_of task ≡ name) × ((IsChecked task ↔ (is_checked ≡ true)) × (HasStyle (style_of os) task × (operands ≡ operands_of_task task)))
 
 -- the task of this name needs an operand, which is called this
 abbrev pub Needs : Name → List ℕ → Type 0
@@ -55,13 +76,25 @@ IsMissing given what =
     ⊎ (((what ≡ codes "platform (unix, windows or wasm)") × ((word : List ℕ) × (operands_of given ≡ word ∷ [])))
     ⊎ ((name : Name) × ((os : Os) × (HasOperands given name os [] × Needs name what))))
 
--- which word is no command or no platform
+-- the description of a base, with the reason why one is invalid
+abbrev pub base_word : BaseError → List ℕ
+base_word (base_error.Nul index) = codes "BASE (NUL)"
+base_word base_error.Incomplete = codes "BASE (incomplete prefix)"
+base_word base_error.Reserved = codes "BASE (reserved name)"
+
+-- the word is no base on the platform, for this reason, and `join --checked` wants one
+abbrev pub IsNoBase : Line → List ℕ → List ℕ → Type 0
+IsNoBase given what word = (error : BaseError) × ((what ≡ base_word error) × (HasOption option.Checked given
+    × ((os : Os) × (HasOperands given task_name.Join os (word ∷ []) × IsBaseFault (style_of os) word error))))
+
+-- which word is no command, no platform or no base
 abbrev pub IsInvalid : Line → List ℕ → List ℕ → Type 0
 IsInvalid given what word =
     ((what ≡ codes "command") × (((name : Name) → word ≢ name_word name) × ((more : List (List ℕ)) × (operands_of given ≡ word ∷ more))))
-    ⊎ ((what ≡ codes "platform") × (((os : Os) → word ≢ os_word os) × (
+    ⊎ (((what ≡ codes "platform") × (((os : Os) → word ≢ os_word os) × (
     ((command : List ℕ) × ((more : List (List ℕ)) × (operands_of given ≡ command ∷ word ∷ more)))
     ⊎ ((os : Os) × HasOperands given task_name.Convert os (word ∷ [])))))
+    ⊎ IsNoBase given what word)
 
 -- `--checked` is given, and isn't for the task that is named
 abbrev pub IsMisplaced : Line → List ℕ → List ℕ → Type 0
@@ -96,7 +129,8 @@ AsksFor given (Ask task os keeps_going) =
     IsOfPaths given
     × (HasOperands given (name_of task) os (operands_of_task task)
     × ((IsChecked task ↔ HasOption option.Checked given)
-    × ((keeps_going ≡ true) ↔ HasOption option.KeepGoing given)))
+    × (HasStyle (style_of os) task
+    × ((keeps_going ≡ true) ↔ HasOption option.KeepGoing given))))
 AsksFor given Help = HasOption option.Help given
 AsksFor given Version = (¬ (HasOption option.Help given)) × HasOption option.Version given
 

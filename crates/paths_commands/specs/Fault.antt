@@ -3,8 +3,9 @@ use Rattle.std.specs.Prelude.{ℕ, ◌+◌, ◌-◌, ◌^◌, min, List, ◌++�
 use Rattle.std.specs.Fmt.Cut.{IsTextOrCut}
 use Rattle.std.specs.Fmt.InlineText.{inline_text}
 use Rattle.os_str_bytes.specs.FaultText.{fault_text}
-use Rattle.path_building.specs.ErrorText.{join_error_text}
-use Rattle.path_building.specs.declared.checked.JoinError.{JoinError}
+use Rattle.path_building.specs.ErrorText.{name_error_text}
+use Rattle.path_building.specs.declared.walk.NameError.{NameError}
+use Rattle.path_building.specs.declared.walk.NameError.TheVariants as name
 use Rattle.paths_commands.specs.declared.fault.Refusal.{Refusal}
 use Rattle.paths_commands.specs.declared.fault.Refusal.TheVariants.{NoString, NoNormalForm, NoRelativePath, NoJoin, NoJoinAt, NoComponent, NoStringThere}
 use Rattle.paths_commands.specs.declared.fault.CommandFault.{CommandFault}
@@ -12,25 +13,43 @@ use Rattle.paths_commands.specs.declared.fault.CommandFault.TheVariants.{Unreada
 use Rattle.program_frame.specs.Misuse.{misuse_text}
 use Rattle.program_frame.specs.declared.misuse.Misuse as misuse
 
--- what the program prints of a component at this index: its number, from 1, and its escape
+-- a comma and a text between quotes
+abbrev pub quoted : List ℕ → List ℕ
+quoted text = codes ", '" ++ (text ++ codes "'")
+
+-- the number of a component at this index, from 1
+abbrev pub one_more : ℕ → ℕ
+one_more index = min (index + 1) (2 ^ 64 - 1)
+
+-- what the program prints of a component at this index: its number, and its escape
 abbrev pub numbered : ℕ → List ℕ → List ℕ
-numbered index text = decimal (min (index + 1) (2 ^ 64 - 1)) ++ (codes ", '" ++ (text ++ codes "'"))
+numbered index text = decimal (one_more index) ++ quoted text
 
 -- of a component that the other platform can't have
 abbrev pub unlike_text : ℕ → List ℕ → List ℕ
 unlike_text index text = codes "a path there can't have component " ++ numbered index text
 
+-- the error with the number of its component, from 1
+abbrev pub from_one : NameError → NameError
+from_one (name.Nul index) = name.Nul index
+from_one name.Prefix = name.Prefix
+from_one name.Root = name.Root
+from_one (name.Leaves index) = name.Leaves (one_more index)
+from_one (name.Stream index) = name.Stream (one_more index)
+from_one (name.Reserved index) = name.Reserved (one_more index)
+from_one name.Memory = name.Memory
+
 -- of a component for which the path isn't joined to a base
-abbrev pub at_fault_text : JoinError → ℕ → List ℕ → List ℕ
-at_fault_text error index text = join_error_text error ++ (codes " at component " ++ numbered index text)
+abbrev pub at_fault_text : NameError → List ℕ → List ℕ
+at_fault_text error text = name_error_text (from_one error) ++ quoted text
 
 -- what the program prints of the reason why a path is rejected
 abbrev pub refusal_text : Refusal → List ℕ
 refusal_text (NoString error) = fault_text error
 refusal_text NoNormalForm = codes "no name before a .."
 refusal_text NoRelativePath = codes "no path from the base leads there"
-refusal_text (NoJoin error) = join_error_text error
-refusal_text (NoJoinAt error index text) = at_fault_text error index (inline_text text)
+refusal_text (NoJoin error) = name_error_text error
+refusal_text (NoJoinAt error text) = at_fault_text error (inline_text text)
 refusal_text (NoComponent index text) = unlike_text index (inline_text text)
 refusal_text (NoStringThere error) = codes "no path there: " ++ fault_text error
 

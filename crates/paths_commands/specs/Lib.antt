@@ -1,6 +1,5 @@
 pub mod Options
 pub mod Styles
-pub mod AtFault
 pub mod Task
 pub mod Fault
 pub mod Command

@@ -1,5 +1,5 @@
 -- What each task requests of a path, and with which faults a path is rejected.
-use Rattle.std.specs.Prelude.{◌≡◌, ◌≢◌, ◌⊎◌, ℕ, ◌≤◌, List, [], ◌∷◌, ◌++◌, codes, length, Some, None}
+use Rattle.std.specs.Prelude.{◌≡◌, ◌≢◌, ◌⊎◌, ℕ, ◌≤◌, List, [], ◌∷◌, ◌++◌, codes, length, Option, Some, None}
 use Rattle.std.specs.Fmt.Cut.{IsTextOrCut}
 use Rattle.std.specs.Fmt.InlineText.{inline_text}
 use Rattle.std.specs.Borrow.{Bor}
@@ -10,13 +10,16 @@ use Rattle.path_rules.specs.declared.rules.Style.{Style}
 use Rattle.path_rules.specs.Component.{Item, Prefix, RootDir, CurDir, ParentDir, Normal}
 use Rattle.path_rules.specs.Components.{AreComponents}
 use Rattle.path_rules.specs.Parent.{IsParent, HasNoParent, HasFileName, HasNoFileName}
-use Rattle.path_building.specs.Checked.{IsBelowBase, IsCheckedJoin, IsJoinFault}
+use Rattle.path_building.specs.BaseViews.{base_path, base_style}
+use Rattle.path_building.specs.Checked.{IsBelowBase, IsCheckedJoin}
+use Rattle.path_building.specs.Faults.{IsNameFault}
+use Rattle.path_building.specs.declared.base.Base.{Base}
 use Rattle.path_building.specs.Cleaned.{IsCleaned}
 use Rattle.path_building.specs.Join.{IsJoin}
 use Rattle.path_building.specs.Normalized.{IsNormalized, HasNoNormalForm}
 use Rattle.path_building.specs.Relative.{IsRelativeFrom}
-use Rattle.path_building.specs.declared.checked.JoinError.{JoinError}
-use Rattle.path_building.specs.declared.checked.JoinError.TheVariants as join
+use Rattle.path_building.specs.declared.walk.NameError.{NameError}
+use Rattle.path_building.specs.declared.walk.NameError.TheVariants as name_error
 use Rattle.path_building.specs.Restyled.{IsRestyled}
 use Rattle.path_rules.specs.StyleRules.{main_separator}
 use Rattle.os_path.specs.Names.{HasFileStem, HasExtension, LacksExtension}
@@ -26,7 +29,6 @@ use Rattle.program_frame.specs.Os.{os_word}
 use Rattle.program_frame.specs.Strings.{strings}
 use Rattle.program_frame.specs.declared.os.Os.{Os}
 use Rattle.program_frame.specs.Rules.{ListRules}
-use Rattle.paths_commands.specs.AtFault.{IsAtFault, LacksFault}
 use Rattle.paths_commands.specs.Styles.{style_of}
 use Rattle.paths_commands.specs.declared.fault.Refusal.{Refusal}
 use Rattle.paths_commands.specs.declared.fault.Refusal.TheVariants as refusal
@@ -86,7 +88,7 @@ operands_of_task Extension = []
 operands_of_task Normalize = []
 operands_of_task Clean = []
 operands_of_task (Join base) = base.now ∷ []
-operands_of_task (JoinChecked base) = base.now ∷ []
+operands_of_task (JoinChecked base) = base_path base ∷ []
 operands_of_task (Relative base) = base.now ∷ []
 operands_of_task (Convert to) = os_word to ∷ []
 
@@ -99,8 +101,8 @@ component_text style ParentDir = codes ".."
 component_text style (Normal s) = s
 
 -- the path after the base, with the components of the base and then names alone
-abbrev pub IsJoinedBelow : Style → List ℕ → List ℕ → List ℕ → Type 0
-IsJoinedBelow style base path joined = IsCheckedJoin style base path joined × IsBelowBase style base joined
+abbrev pub IsJoinedBelow : Base → List ℕ → List ℕ → Type 0
+IsJoinedBelow base path joined = IsCheckedJoin (base_style base) (base_path base) path joined × IsBelowBase (base_style base) (base_path base) joined
 
 -- the result of the task: the requested part, and nothing where the path has none. Or a form of the path, the path after a base or as it is reached from one, or a path of another platform with its components
 abbrev pub IsAnswer : Style → Task → List ℕ → List ℕ → Type 0
@@ -112,9 +114,19 @@ IsAnswer style Extension path answer = HasExtension style path answer ⊎ (Lacks
 IsAnswer style Normalize path answer = IsNormalized style path answer
 IsAnswer style Clean path answer = IsCleaned style path answer
 IsAnswer style (Join base) path answer = IsJoin style base.now path answer
-IsAnswer style (JoinChecked base) path answer = IsJoinedBelow style base.now path answer
+IsAnswer style (JoinChecked base) path answer = IsJoinedBelow base path answer
 IsAnswer style (Relative base) path answer = IsRelativeFrom style path base.now (Some answer)
 IsAnswer style (Convert to) path answer = (strings to).well_formed answer × IsRestyled style (style_of to) path answer
+
+-- the index of the component that the error is about, if it is about one: a prefix or a root is the first
+abbrev pub component_of : NameError → Option ℕ
+component_of (name_error.Nul index) = None
+component_of name_error.Prefix = Some 0
+component_of name_error.Root = Some 0
+component_of (name_error.Leaves index) = Some index
+component_of (name_error.Stream index) = Some index
+component_of (name_error.Reserved index) = Some index
+component_of name_error.Memory = None
 
 -- the component at this index is this one
 abbrev pub IsAt : List Item → ℕ → Item → Type 0
@@ -157,19 +169,19 @@ module _ {E : Type 0} (p : Ghosts E) (style : Style) where
   abbrev pub IsShownOf : List ℕ → ℕ → List ℕ → Type 0
   IsShownOf path index text = (items : List Item) × (AreComponents style path items × IsShown items index text)
 
-  -- the reason for an error: it has the first component of the path with the fault and what is shown of it, or neither if no component has the fault
-  abbrev pub IsReasonOf : List ℕ → JoinError → Refusal → Type 0
+  -- the reason for an error: it has what is shown of the component at fault, if it is one
+  abbrev pub IsReasonOf : List ℕ → NameError → Refusal → Type 0
   IsReasonOf path error (refusal.NoString other) = ⊥
   IsReasonOf path error refusal.NoNormalForm = ⊥
   IsReasonOf path error refusal.NoRelativePath = ⊥
-  IsReasonOf path error (refusal.NoJoin other) = (other ≡ error) × LacksFault style error path
-  IsReasonOf path error (refusal.NoJoinAt other index text) = (other ≡ error) × (IsAtFault style error path index × IsShownOf path index (inline_text text))
+  IsReasonOf path error (refusal.NoJoin other) = (other ≡ error) × (component_of error ≡ None)
+  IsReasonOf path error (refusal.NoJoinAt other text) = (other ≡ error) × ((index : ℕ) × ((component_of error ≡ Some index) × IsShownOf path index (inline_text text)))
   IsReasonOf path error (refusal.NoComponent index text) = ⊥
   IsReasonOf path error (refusal.NoStringThere other) = ⊥
 
   -- why a path isn't joined to the base, other than that an allocation failed
-  abbrev pub IsUnjoined : List ℕ → List ℕ → Refusal → Type 0
-  IsUnjoined base path why = (error : JoinError) × (((error ≢ join.Memory) × IsJoinFault style base path error) × IsReasonOf path error why)
+  abbrev pub IsUnjoined : Base → List ℕ → Refusal → Type 0
+  IsUnjoined base path why = (error : NameError) × (((error ≢ name_error.Memory) × IsNameFault (base_style base) path error) × IsReasonOf path error why)
 
   -- why there is no path of another platform with the path's components: it can't have one of them, or the bytes aren't a string of it
   abbrev pub IsUnconverted : Style → (List ℕ → EncodingError → Type 0) → List ℕ → Refusal → Type 0
@@ -177,7 +189,7 @@ module _ {E : Type 0} (p : Ghosts E) (style : Style) where
   IsUnconverted to is_fault path refusal.NoNormalForm = ⊥
   IsUnconverted to is_fault path refusal.NoRelativePath = ⊥
   IsUnconverted to is_fault path (refusal.NoJoin error) = ⊥
-  IsUnconverted to is_fault path (refusal.NoJoinAt error index text) = ⊥
+  IsUnconverted to is_fault path (refusal.NoJoinAt error text) = ⊥
   IsUnconverted to is_fault path (refusal.NoComponent index text) = IsConvertFault style to is_fault path (convert.Component index) × IsShownOf path index (inline_text text)
   IsUnconverted to is_fault path (refusal.NoStringThere error) = IsConvertFault style to is_fault path (convert.Encoding error)
 
@@ -186,8 +198,8 @@ module _ {E : Type 0} (p : Ghosts E) (style : Style) where
   IsUnanswered task path (refusal.NoString error) = ⊥
   IsUnanswered task path refusal.NoNormalForm = (task ≡ Normalize) × HasNoNormalForm style path
   IsUnanswered task path refusal.NoRelativePath = (base : Bor (List ℕ)) × ((task ≡ Relative base) × IsRelativeFrom style path base.now None)
-  IsUnanswered task path (refusal.NoJoin error) = (base : Bor (List ℕ)) × ((task ≡ JoinChecked base) × IsUnjoined base.now path (refusal.NoJoin error))
-  IsUnanswered task path (refusal.NoJoinAt error index text) = (base : Bor (List ℕ)) × ((task ≡ JoinChecked base) × IsUnjoined base.now path (refusal.NoJoinAt error index text))
+  IsUnanswered task path (refusal.NoJoin error) = (base : Base) × ((task ≡ JoinChecked base) × IsUnjoined base path (refusal.NoJoin error))
+  IsUnanswered task path (refusal.NoJoinAt error text) = (base : Base) × ((task ≡ JoinChecked base) × IsUnjoined base path (refusal.NoJoinAt error text))
   IsUnanswered task path (refusal.NoComponent index text) = (to : Os) × ((task ≡ Convert to) × IsUnconverted (style_of to) (strings to).first_fault path (refusal.NoComponent index text))
   IsUnanswered task path (refusal.NoStringThere error) = (to : Os) × ((task ≡ Convert to) × IsUnconverted (style_of to) (strings to).first_fault path (refusal.NoStringThere error))
 
@@ -197,15 +209,15 @@ module _ {E : Type 0} (p : Ghosts E) (style : Style) where
   IsRefusal task path refusal.NoNormalForm = IsUnanswered task path refusal.NoNormalForm
   IsRefusal task path refusal.NoRelativePath = IsUnanswered task path refusal.NoRelativePath
   IsRefusal task path (refusal.NoJoin error) = IsUnanswered task path (refusal.NoJoin error)
-  IsRefusal task path (refusal.NoJoinAt error index text) = IsUnanswered task path (refusal.NoJoinAt error index text)
+  IsRefusal task path (refusal.NoJoinAt error text) = IsUnanswered task path (refusal.NoJoinAt error text)
   IsRefusal task path (refusal.NoComponent index text) = IsUnanswered task path (refusal.NoComponent index text)
   IsRefusal task path (refusal.NoStringThere error) = IsUnanswered task path (refusal.NoStringThere error)
 
-  -- what is done with each path of at most `max` bytes
+  -- what is done with each path of at most `max` bytes. A NUL ends each path, the last one too
   abbrev pub rules_of : Task → ℕ → ListRules Refusal
   rules_of task max = record {
     end = 0;
-    takes_unended = Unit {0};
+    takes_unended = ⊥;
     max = max;
     longest = max;
     is_text = IsText task;

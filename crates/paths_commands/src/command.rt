@@ -1,7 +1,8 @@
 //! Commands, and the options and operands that make them up.
 ghost use Rattle.std.specs.Prelude.{◌≡◌, ◌≢◌, ◌↔◌, ◌∷◌, [], true, false, IfErr, IfOk, MatchOption, OnErr};
 ghost use Rattle.program_frame.specs.Arguments.{HasOption, operands_of};
-ghost use Rattle.paths_commands.specs.Command.{AsksFor, HasOperands, IsMisuse, IsOfPaths, IsSurplus, IsTaskOf, RequestsNothing};
+ghost use Rattle.paths_commands.specs.Command.{AsksFor, HasOperands, HasStyle, base_word, IsMisuse, IsOfPaths, IsSurplus, IsTaskOf, RequestsNothing};
+ghost use Rattle.paths_commands.specs.Styles.{style_of};
 ghost use Rattle.paths_commands.specs.Task.{IsChecked, name_of, name_word, operands_of_task};
 ghost use Rattle.paths_commands.specs.declared.command.Name.{Name as DeclaredName};
 ghost use Rattle.paths_commands.specs.declared.command.Name.TheVariants.{Join as JoinName};
@@ -10,7 +11,9 @@ ghost use Rattle.paths_commands.specs.declared.option.PathsOption.TheVariants.{C
 use crate::option::PathsOption;
 use crate::task::Task;
 use os_args::Word;
+use os_path::Style;
 use os_str_bytes::OsStr;
+use path_building::{Base, BaseError};
 use program_frame::arguments::{Given, has, next_operand};
 use program_frame::misuse::Misuse;
 use program_frame::os::Os;
@@ -19,7 +22,7 @@ use program_frame::os::Os;
 pub type Line<'s, 'a> = &'s [Given<'a, PathsOption>];
 
 /// What the program does.
-#[derive(Clone, Copy, PartialEq, Eq)]
+#[derive(Clone, Copy)]
 pub enum Command<'a> {
     /// Reads paths of the platform, each ended by NUL, and writes the result for each. The last
     /// field is whether rejected paths are passed over.
@@ -40,7 +43,8 @@ impl<'a> Command<'a> {
     /// # Errors
     ///
     /// What is wrong: something is missing, an argument is invalid, `--checked` isn't for the
-    /// command, or an operand is one too many.
+    /// command, or an operand is one too many. With `--checked` BASE is invalid if it is no
+    /// [`Base`].
     ///
     /// ```
     /// use paths_commands::command::Command;
@@ -52,7 +56,7 @@ impl<'a> Command<'a> {
     /// let going = Given::Flag(PathsOption::KeepGoing);
     /// let given = [Given::Operand("parent"), going, Given::Operand("unix")];
     /// let Ok(command) = Command::parse(&given) else { return Ok(()) };
-    /// assert!(rt; command == Command::Ask(Task::Parent, Os::Unix, true));
+    /// assert!(rt; matches!(command, Command::Ask(Task::Parent, Os::Unix, true)));
     /// let Err(error) = Command::parse(&given[..1]) else { return Ok(()) };
     /// let text = "missing platform (unix, windows or wasm)";
     /// assert_eq!(rt; format!(in alloc; "{error}")?.as_str(), text);
@@ -176,7 +180,8 @@ fn task_of<'a>(
     requires { HasOperands given.now name os (operands_of more.now) }
     ensures task { IfOk result (λ task. (name_of task ≡ name)
         × ((IsChecked task ↔ HasOption Checked given.entry.now)
-        × (operands_of more.entry.now ≡ operands_of_task task))) }
+        × (HasStyle (style_of os) task
+        × (operands_of more.entry.now ≡ operands_of_task task)))) }
     ensures misuse { IfErr result (λ misuse. IsMisuse given.entry.now misuse) }
 {
     let is_checked = has(given, PathsOption::Checked);
@@ -195,7 +200,7 @@ fn task_of<'a>(
 /// The task of this name without an operand, which isn't checked.
 fn without_operand<'a>(given: Line<'_, 'a>, name: Name, os: Os) -> Result<Task<'a>, Misuse<'a>>
     requires { HasOperands given.now name os [] }
-    ensures task { IfOk result (λ task. IsTaskOf name false [] task) }
+    ensures task { IfOk result (λ task. IsTaskOf name false os [] task) }
     ensures misuse { IfErr result (λ misuse. IsMisuse given.entry.now misuse) }
 {
     match name {
@@ -222,13 +227,14 @@ fn with_operand<'a>(
 ) -> Result<Task<'a>, Misuse<'a>>
     requires operands { HasOperands given.now name os (operand.now ∷ []) }
     requires join { is_checked ≡ true → name ≡ JoinName }
-    ensures task { IfOk result (λ task. IsTaskOf name is_checked (operand.now ∷ []) task) }
+    requires checked { is_checked ≡ true → HasOption Checked given.now }
+    ensures task { IfOk result (λ task. IsTaskOf name is_checked os (operand.now ∷ []) task) }
     ensures misuse { IfErr result (λ misuse. IsMisuse given.entry.now misuse) }
 {
     match name {
         Name::Join => {
             if is_checked {
-                return Ok(Task::JoinChecked(operand));
+                return checked_join(given, os, operand);
             }
             Ok(Task::Join(operand))
         }
@@ -244,6 +250,40 @@ fn with_operand<'a>(
         | Name::Extension
         | Name::Normalize
         | Name::Clean => Err(surplus(operand)),
+    }
+}
+
+/// The task that joins paths to a base, which is tested.
+fn checked_join<'a>(given: Line<'_, 'a>, os: Os, operand: &'a str) -> Result<Task<'a>, Misuse<'a>>
+    requires operands { HasOperands given.now JoinName os (operand.now ∷ []) }
+    requires checked { HasOption Checked given.now }
+    ensures task { IfOk result (λ task. IsTaskOf JoinName true os (operand.now ∷ []) task) }
+    ensures misuse { IfErr result (λ misuse. IsMisuse given.entry.now misuse) }
+{
+    match Base::new(style_of(os), operand.as_bytes()) {
+        Ok(base) => Ok(Task::JoinChecked(base)),
+        Err(error) => Err(Misuse::Invalid(base_word(error), operand)),
+    }
+}
+
+/// The description of a base, with the reason why one is invalid.
+fn base_word(error: BaseError) -> &'static str
+    ensures { result.now ≡ base_word error }
+{
+    match error {
+        BaseError::Nul(_) => "BASE (NUL)",
+        BaseError::Incomplete => "BASE (incomplete prefix)",
+        BaseError::Reserved => "BASE (reserved name)",
+    }
+}
+
+/// Whose rules the paths of a platform follow.
+fn style_of(os: Os) -> Style
+    ensures { result ≡ style_of os }
+{
+    match os {
+        Os::Unix | Os::Wasm => Style::Unix,
+        Os::Windows => Style::Windows,
     }
 }
 

@@ -1,18 +1,13 @@
-//! The components of a path: all of them, one a line, or the one at an index, or the one for which a
-//! path isn't joined to a base.
-ghost use Rattle.std.specs.Prelude.{◌≡◌, ◌↔◌, ◌<◌, ◌-◌, ◌^◌, ◌∷◌, ◌++◌, [], ℕ, List, MatchOption, IsTrue, OnOk, OnErr, length, ◌≤◌};
+//! The components of a path: all of them, one a line, or the one at an index.
+ghost use Rattle.std.specs.Prelude.{◌≡◌, ◌∷◌, ◌++◌, [], ℕ, List, MatchOption, OnOk, OnErr, length, ◌≤◌};
 ghost use Rattle.std.specs.Fmt.InlineText.{inline_text};
-ghost use Rattle.os_path.specs.Reserved.{IsReservedItem};
 ghost use Rattle.os_path.specs.Views.{os_item_of};
 ghost use Rattle.platform_str.specs.Strings.{bytes, path_bytes};
-ghost use Rattle.path_rules.specs.Component.{ParentDir, RootDir};
 ghost use Rattle.path_rules.specs.StyleRules.{main_separator};
-ghost use Rattle.path_building.specs.Checked.{has_colon};
-ghost use Rattle.paths_commands.specs.AtFault.{HasColon, HasFault, IsAtFault, IsFirstAtFault, IsPrefix, LackFault, LacksFault, names_left};
 ghost use Rattle.paths_commands.specs.Task.{AreLines, IsAt, IsComponentsText, IsShown, IsShownOf, component_text};
 
 use crate::fault::SHOWN;
-use os_path::{Component, Components, JoinError, PathExt, PathStyle, Style, is_reserved};
+use os_path::{Component, Components, PathExt, PathStyle, Style};
 use os_quote::escaped_line;
 use os_str_bytes::{OsStr, Path, Platform};
 use program_frame::lists::lines::push_line;
@@ -91,121 +86,6 @@ fn component_at<'a, E: PathStyle>(
         left -= 1;
     }
     None
-}
-
-/// The index of the first component of a path that has the fault for which it isn't joined to a
-/// base, or nothing if none has it.
-pub fn component_at_fault<E: PathStyle>(path: Path<'_, E>, error: JoinError) -> Option<usize>
-    ensures { MatchOption result (LacksFault E.follows error (path_bytes path.entry))
-        (λ index. IsAtFault E.follows error (path_bytes path.entry) index) }
-{
-    let most = path.as_os_str().as_encoded_bytes().len() + 2;
-    first_at_fault::<E>(path.components(), most, error)
-}
-
-/// The index of the first of at most this many components that has a fault.
-fn first_at_fault<'a, E: PathStyle>(
-    components: Components<'a, E>,
-    most: usize,
-    error: JoinError,
-) -> Option<usize>
-    requires { length components.items ≤ most }
-    ensures { MatchOption result (LackFault E.follows error components.entry.items)
-        (λ index. IsFirstAtFault E.follows error components.entry.items index) }
-{
-    let mut index = 0;
-    let mut names = 0;
-    for component in components {
-        if has_fault::<E>(error, names, component) {
-            return Some(index);
-        }
-        names = names_after::<E>(names, component);
-        index += 1;
-    }
-    None
-}
-
-/// Whether a component that has this many names left before it has a fault.
-fn has_fault<'a, E: PathStyle>(
-    error: JoinError,
-    names: usize,
-    component: Component<OsStr<'a, E>>,
-) -> bool
-    ensures { IsTrue result ↔ HasFault E.follows error names (os_item_of component.entry) }
-{
-    match error {
-        JoinError::Prefix => is_prefix::<E>(component),
-        JoinError::Root => is_root::<E>(component),
-        JoinError::Leaves => names == 0 && is_parent::<E>(component),
-        JoinError::Stream => E::style() == Style::Windows && has_colon_in::<E>(component),
-        JoinError::Reserved => E::style() == Style::Windows && is_reserved_in::<E>(component),
-        JoinError::BaseNul(_) | JoinError::Base | JoinError::Nul(_) | JoinError::Memory => false,
-    }
-}
-
-/// How many names are left after a component, of those left before it.
-fn names_after<'a, E: PathStyle>(names: usize, component: Component<OsStr<'a, E>>) -> usize
-    requires { names < 2 ^ 64 - 1 }
-    ensures { result ≡ names_left names (os_item_of component.entry ∷ []) }
-{
-    match component {
-        Component::Normal(_) => names + 1,
-        Component::ParentDir => names.saturating_sub(1),
-        Component::Prefix(_) | Component::RootDir | Component::CurDir => names,
-    }
-}
-
-fn is_prefix<'a, E: PathStyle>(component: Component<OsStr<'a, E>>) -> bool
-    ensures { IsTrue result ↔ IsPrefix (os_item_of component.entry) }
-{
-    match component {
-        Component::Prefix(_) => true,
-        _ => false,
-    }
-}
-
-fn is_root<'a, E: PathStyle>(component: Component<OsStr<'a, E>>) -> bool
-    ensures { IsTrue result ↔ (os_item_of component.entry ≡ RootDir) }
-{
-    match component {
-        Component::RootDir => true,
-        _ => false,
-    }
-}
-
-fn is_parent<'a, E: PathStyle>(component: Component<OsStr<'a, E>>) -> bool
-    ensures { IsTrue result ↔ (os_item_of component.entry ≡ ParentDir) }
-{
-    match component {
-        Component::ParentDir => true,
-        _ => false,
-    }
-}
-
-/// Whether a component is a name with a colon.
-fn has_colon_in<'a, E: PathStyle>(component: Component<OsStr<'a, E>>) -> bool
-    ensures { IsTrue result ↔ HasColon (os_item_of component.entry) }
-{
-    match component {
-        Component::Normal(name) => has_colon(name.as_encoded_bytes()),
-        _ => false,
-    }
-}
-
-fn has_colon(name: &[u8]) -> bool
-    ensures { result ≡ has_colon name.now }
-{
-    name.iter().any(|b| *b == b':')
-}
-
-/// Whether a component is a name that Windows keeps for itself.
-fn is_reserved_in<'a, E: PathStyle>(component: Component<OsStr<'a, E>>) -> bool
-    ensures { IsTrue result ↔ IsReservedItem (os_item_of component.entry) }
-{
-    match component {
-        Component::Normal(name) => is_reserved(name),
-        _ => false,
-    }
 }
 
 /// A component as it is written.

@@ -1,10 +1,10 @@
 //! What keeps the program from its output.
-ghost use Rattle.std.specs.Prelude.{◌++◌, codes};
+ghost use Rattle.std.specs.Prelude.{◌≡◌};
 ghost use Rattle.std.specs.Fmt.{WritesStyledOnOk};
 ghost use Rattle.std.specs.Fmt.InlineText.{inline_text};
-ghost use Rattle.paths_commands.specs.Fault.{IsOfMisuse, at_fault_text, numbered, unlike_text};
+ghost use Rattle.paths_commands.specs.Fault.{IsOfMisuse, at_fault_text, from_one, numbered, quoted, unlike_text};
 
-use os_path::JoinError;
+use os_path::NameError;
 use os_str_bytes::{EncodingError, write_number};
 use program_frame::lists::fault::ItemRefusal;
 use program_frame::lists::program_fault;
@@ -25,12 +25,11 @@ pub enum Refusal {
     NoNormalForm,
     /// No path leads to it from the base.
     NoRelativePath,
-    /// It isn't joined to the base, for this reason, which is never that an allocation failed. The
-    /// base is at fault, or the path has a NUL.
-    NoJoin(JoinError),
-    /// It isn't joined to the base, for this reason: the component at this index is the first that
-    /// has the fault. The text is its escape.
-    NoJoinAt(JoinError, usize, InlineText<SHOWN>),
+    /// It isn't joined to the base, since it has a NUL.
+    NoJoin(NameError),
+    /// It isn't joined to the base for this reason, which is a fault of one of its components. The
+    /// text is that component's escape.
+    NoJoinAt(NameError, InlineText<SHOWN>),
     /// The other platform's paths can't have the component at this index, the first such. The text
     /// is its escape.
     NoComponent(usize, InlineText<SHOWN>),
@@ -91,7 +90,7 @@ impl ItemRefusal for Refusal {
             Refusal::NoNormalForm => f.write_str("no name before a .."),
             Refusal::NoRelativePath => f.write_str("no path from the base leads there"),
             Refusal::NoJoin(error) => error.fmt(f),
-            Refusal::NoJoinAt(error, index, text) => write_at_fault(error, index, &text, f),
+            Refusal::NoJoinAt(error, text) => write_at_fault(error, &text, f),
             Refusal::NoComponent(index, text) => write_component(index, &text, f),
             Refusal::NoStringThere(error) => {
                 f.write_str("no path there: ")?;
@@ -116,17 +115,30 @@ fn write_component<W: fmt::Write>(
 
 /// Writes why a path isn't joined to a base, and for which of its components.
 fn write_at_fault<W: fmt::Write>(
-    error: JoinError,
-    index: usize,
+    error: NameError,
     text: &InlineText<SHOWN>,
     f: &mut fmt::Formatter<W>,
 ) -> fmt::Result
     ensures { WritesStyledOnOk W.write_str_gives f.old result
-        (at_fault_text error index (inline_text text.now)) f.new }
+        (at_fault_text error (inline_text text.now)) f.new }
 {
-    error.fmt(f)?;
-    f.write_str(" at component ")?;
-    write_numbered(index, text, f)
+    from_one(error).fmt(f)?;
+    write_quoted(text.as_str(), f)
+}
+
+/// The error with the number of its component, counted from 1.
+fn from_one(error: NameError) -> NameError
+    ensures { result ≡ from_one error }
+{
+    match error {
+        NameError::Nul(index) => NameError::Nul(index),
+        NameError::Prefix => NameError::Prefix,
+        NameError::Root => NameError::Root,
+        NameError::Leaves(index) => NameError::Leaves(index.saturating_add(1)),
+        NameError::Stream(index) => NameError::Stream(index.saturating_add(1)),
+        NameError::Reserved(index) => NameError::Reserved(index.saturating_add(1)),
+        NameError::Memory => NameError::Memory,
+    }
 }
 
 /// Writes the number of a component, counted from 1, and its escape.
@@ -145,7 +157,7 @@ fn write_numbered<W: fmt::Write>(
 /// Writes a comma and a text between quotes.
 fn write_quoted<W: fmt::Write>(text: &str, f: &mut fmt::Formatter<W>) -> fmt::Result
     ensures { WritesStyledOnOk W.write_str_gives f.old result
-        (codes ", '" ++ (text.now ++ codes "'")) f.new }
+        (quoted text.now) f.new }
 {
     f.write_str(", '")?;
     f.write_str(text)?;

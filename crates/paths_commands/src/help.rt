@@ -1,7 +1,7 @@
 //! What the program prints of itself.
 
 /// What `paths --version` writes.
-pub const VERSION: &str = "paths 0.2.0\n";
+pub const VERSION: &str = "paths 0.3.0\n";
 
 /// What `paths --help` writes.
 pub const HELP: &str = "\
@@ -9,8 +9,7 @@ paths: lists of paths, taken apart and built path by path
 
   find . -print0 | paths parent unix | sort -zu            the folders, each once
   find . -print0 | paths relative unix . --keep-going      how each is reached from here
-  tar tf a.tar | tr '\\n' '\\0' | paths join --checked unix /srv/a --keep-going
-                                                           names from outside, below /srv/a
+  paths join --checked unix /srv/a --keep-going <names     names from outside, below /srv/a
 
 paths components PLATFORM          writes the escape of each component on a line, then an empty line
 paths parent     PLATFORM          writes the path without its last component
@@ -28,7 +27,7 @@ paths relative   PLATFORM BASE     writes the path as it is reached from BASE, a
 paths convert    PLATFORM TO       writes the path of the platform TO with the same components, and rejects one
                                    with a component that TO can't have
 
-Each reads paths that are ended by NUL; the last may lack it. Each writes one result for a path, ended by NUL,
+Each reads paths that are ended by NUL, the last one too. Each writes one result for a path, ended by NUL,
 which is empty where the path has no such part. PLATFORM and TO are unix, windows or wasm. Options may stand
 anywhere; -- ends them.
 

@@ -6,21 +6,23 @@ ghost use Rattle.path_building.specs.Join.{IsJoin};
 ghost use Rattle.path_building.specs.Normalized.{IsNormalized, HasNoNormalForm};
 ghost use Rattle.path_building.specs.Relative.{IsRelativeFrom};
 ghost use Rattle.path_building.specs.Restyled.{IsRestyled};
-ghost use Rattle.path_building.specs.declared.checked.JoinError.TheVariants as join_error;
+ghost use Rattle.path_building.specs.declared.walk.NameError.TheVariants as name_error;
+ghost use Rattle.path_building.specs.BaseViews.{base_path, base_style};
 ghost use Rattle.paths_commands.specs.declared.fault.Refusal as why;
 ghost use Rattle.paths_commands.specs.declared.fault.Refusal.TheVariants.{NoNormalForm, NoRelativePath};
 ghost use Rattle.program_frame.specs.Rules.{IsItemFault};
 ghost use Rattle.program_frame.specs.Strings.{strings};
 ghost use Rattle.paths_commands.specs.Styles.{style_of};
-ghost use Rattle.paths_commands.specs.Task.{rules_of, IsText, IsPathText, IsComponentsText, IsJoinedBelow, IsReasonOf, IsUnanswered, IsUnconverted, IsUnjoined};
+ghost use Rattle.paths_commands.specs.Task.{component_of, rules_of, IsText, IsPathText, IsComponentsText, IsJoinedBelow, IsReasonOf, IsUnanswered, IsUnconverted, IsUnjoined};
 ghost use Rattle.platform_str.specs.Strings.{path_bytes};
 
 use crate::answers::{parent, part};
-use crate::components::{component_at_fault, push_components, shown_component};
+use crate::components::{push_components, shown_component};
 use crate::fault::Refusal;
 use crate::task::Task;
-use os_path::{ConvertError, JoinError, NormalizeError, PathExt, PathStyle};
+use os_path::{ConvertError, NameError, NormalizeError, PathExt, PathStyle};
 use os_str_bytes::{OsStr, Path, Platform, Unix, Wasm, Windows};
+use path_building::Base;
 use program_frame::lists::fault::ItemFault;
 use program_frame::lists::items::push_ended;
 use program_frame::os::Os;
@@ -154,43 +156,58 @@ fn write_joined<E: PathStyle, A: Allocator + Copy>(
 /// Appends a path below a base, and NUL.
 fn write_checked<E: PathStyle, A: Allocator + Copy>(
     alloc: A,
-    base: &str,
+    base: Base<'_>,
     path: Path<'_, E>,
     output: &mut Vec<u8, A>,
 ) -> Result<(), ItemFault<Refusal>>
     ensures ok { OnOk result ((joined : List ℕ)
-        × (IsJoinedBelow E.follows base.now (path_bytes path.entry) joined
+        × (IsJoinedBelow base.entry (path_bytes path.entry) joined
         × (output.new.items ≡ output.old.items ++ (joined ++ 0 ∷ [])))) }
     ensures fault { IfErr result (λ fault. (fault ≡ Memory) ⊎ ((why : why.Refusal)
-        × ((fault ≡ Refused why) × IsUnjoined ⟦<E as Platform>⟧ E.follows base.now
+        × ((fault ≡ Refused why) × IsUnjoined ⟦<E as Platform>⟧ E.follows base.entry
         (path_bytes path.entry) why))) }
     ensures unchanged { OnErr result (output.new.items ≡ output.old.items) }
 {
-    match Path::new(OsStr::new(base)).join_checked(alloc, path) {
-        Ok(joined) => write_answer(joined.as_os_str().as_encoded_bytes(), output),
+    match base.join(alloc, path.as_os_str().as_encoded_bytes()) {
+        Ok(joined) => write_answer(&joined, output),
         Err(error) => Err(unjoined::<E>(path, error)),
     }
 }
 
 /// The fault of a path that isn't joined to a base.
-fn unjoined<E: PathStyle>(path: Path<'_, E>, error: JoinError) -> ItemFault<Refusal>
-    ensures { (result ≡ Memory) ⊎ ((error ≢ join_error.Memory) × ((why : why.Refusal)
+fn unjoined<E: PathStyle>(path: Path<'_, E>, error: NameError) -> ItemFault<Refusal>
+    ensures { (result ≡ Memory) ⊎ ((error ≢ name_error.Memory) × ((why : why.Refusal)
         × ((result ≡ Refused why)
         × IsReasonOf ⟦<E as Platform>⟧ E.follows (path_bytes path.entry) error why))) }
 {
     match error {
-        JoinError::Memory => ItemFault::Memory,
+        NameError::Memory => ItemFault::Memory,
         reason => ItemFault::Refused(reason_of::<E>(path, reason)),
     }
 }
 
-/// The reason for an error, with the first component that has the fault, if one has it.
-fn reason_of<E: PathStyle>(path: Path<'_, E>, error: JoinError) -> Refusal
+/// The reason for an error, with the component at fault, if it is one.
+fn reason_of<E: PathStyle>(path: Path<'_, E>, error: NameError) -> Refusal
     ensures { IsReasonOf ⟦<E as Platform>⟧ E.follows (path_bytes path.entry) error result }
 {
-    match component_at_fault::<E>(path, error) {
-        Some(index) => Refusal::NoJoinAt(error, index, shown_component::<E>(path, index)),
+    match component_of(error) {
+        Some(index) => Refusal::NoJoinAt(error, shown_component::<E>(path, index)),
         None => Refusal::NoJoin(error),
+    }
+}
+
+/// The index of the component that is at fault. A prefix or a root is the first.
+fn component_of(error: NameError) -> Option<usize>
+    ensures { result ≡ component_of error }
+{
+    match error {
+        NameError::Nul(_) => None,
+        NameError::Prefix => Some(0),
+        NameError::Root => Some(0),
+        NameError::Leaves(index) => Some(index),
+        NameError::Stream(index) => Some(index),
+        NameError::Reserved(index) => Some(index),
+        NameError::Memory => None,
     }
 }
 

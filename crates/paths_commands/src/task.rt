@@ -6,14 +6,16 @@ use crate::fault::Refusal;
 use crate::item::write_item;
 use os_path::PathStyle;
 use os_str_bytes::Platform;
+use path_building::Base;
 use program_frame::lists::fault::ItemFault;
+use program_frame::lists::options::ItemEnd;
 use program_frame::lists::task::ListTask;
 use program_frame::os::Os;
 use std::alloc::Allocator;
 use std::marker::PhantomData;
 
 /// What the program writes for each path of the input.
-#[derive(Clone, Copy, PartialEq, Eq)]
+#[derive(Clone, Copy)]
 pub enum Task<'a> {
     /// Its components: the escape of each on a line, and an empty line after the last.
     Components,
@@ -33,7 +35,7 @@ pub enum Task<'a> {
     Join(&'a str),
     /// The path below this base, as typed-path's `join_checked`. One that could leave the base is
     /// rejected.
-    JoinChecked(&'a str),
+    JoinChecked(Base<'a>),
     /// The path as it is reached from this base, as the crate pathdiff's `diff_paths`. One that no
     /// path leads to is rejected.
     Relative(&'a str),
@@ -82,12 +84,12 @@ impl<'a, E: PathStyle> ListTask for OnPlatform<'a, E> {
 
     ghost remembers = { λ _ _. Unit {0} };
 
-    fn end(&self) -> u8 {
-        0
+    fn end(&self) -> ItemEnd {
+        ItemEnd::Nul
     }
 
     fn takes_unended(&self) -> bool {
-        true
+        false
     }
 
     fn max(&self) -> usize {

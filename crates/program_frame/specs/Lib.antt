@@ -8,6 +8,7 @@ pub mod Words
 pub mod Arguments
 pub mod Misuse
 pub mod Ended
+pub mod ListOptions
 pub mod Items
 pub mod Rules
 pub mod Reading

@@ -34,7 +34,7 @@ module _ {F : Type 0} (list : ListRules F) where
   abbrev pub StopsOn : List ℕ → List ℕ → ListFault F → Type 0
   StopsOn input output (Refused n why) = Stops list start input output (Refused n why)
   StopsOn input output (TooLong n most) = Stops list start input output (TooLong n most)
-  StopsOn input output (Unended n) = Stops list start input output (Unended n)
+  StopsOn input output (Unended n end) = Stops list start input output (Unended n end)
   StopsOn input output TooMuch = (2 ^ 64 ≤ length input + 1) × IsBegun input output
   StopsOn input output (Run why) = IsBegun input output
 

@@ -35,7 +35,7 @@ IsWhole list rest = ((rest ≡ []) × list.takes_unended) ⊎ ((more : List ℕ)
 abbrev pub IsEnded : {F : Type 0} → ListRules F → ListFault F → List ℕ → Type 0
 IsEnded list (Refused n why) rest = IsWhole list rest
 IsEnded list (TooLong n most) rest = Unit {0}
-IsEnded list (Unended n) rest = rest ≡ []
+IsEnded list (Unended n end) rest = rest ≡ []
 IsEnded list TooMuch rest = Unit {0}
 IsEnded list (Run why) rest = Unit {0}
 

@@ -5,6 +5,7 @@ use Rattle.program_frame.specs.declared.lists.fault.ItemFault.{ItemFault}
 use Rattle.program_frame.specs.declared.lists.fault.ItemFault.TheVariants as item_fault
 use Rattle.program_frame.specs.declared.lists.fault.ListFault.{ListFault}
 use Rattle.program_frame.specs.declared.lists.fault.ListFault.TheVariants.{Refused, TooLong, Unended, TooMuch, Run}
+use Rattle.program_frame.specs.ListOptions.{byte_of}
 use Rattle.program_frame.specs.Items.{Entry, Lacks, IsLastUnended, items_of}
 
 -- what is done with each item of a list. The fields are the byte that ends an item, whether the last may lack it, and how many bytes a name and an item may have. They also state what is written for an item, why one is rejected, and which items are of a name that is too long.
@@ -32,7 +33,7 @@ module _ {F : Type 0} (list : ListRules F) where
   abbrev pub IsFaultAt : ℕ → List ℕ → ListFault F → Type 0
   IsFaultAt number item (Refused n why) = (n ≡ number) × ((length item ≤ list.longest) × list.refuses item why)
   IsFaultAt number item (TooLong n most) = (n ≡ number) × ((most ≡ list.max) × ((list.longest < length item) ⊎ list.is_of_long item))
-  IsFaultAt number item (Unended n) = ⊥
+  IsFaultAt number item (Unended n end) = ⊥
   IsFaultAt number item TooMuch = ⊥
   IsFaultAt number item (Run why) = why ≡ Memory
 
@@ -40,7 +41,7 @@ module _ {F : Type 0} (list : ListRules F) where
   abbrev pub IsRefused : ℕ → List ℕ → ListFault F → Type 0
   IsRefused number item (Refused n why) = IsFaultAt number item (Refused n why)
   IsRefused number item (TooLong n most) = IsFaultAt number item (TooLong n most)
-  IsRefused number item (Unended n) = (n ≡ number) × ((item ≢ []) × (¬ list.takes_unended))
+  IsRefused number item (Unended n end) = (n ≡ number) × ((byte_of end ≡ list.end) × ((item ≢ []) × (¬ list.takes_unended)))
   IsRefused number item TooMuch = ⊥
   IsRefused number item (Run why) = IsFaultAt number item (Run why)
 
@@ -74,6 +75,6 @@ passing count list = with_texts (λ item text. list.is_text item text ⊎ ((0 < 
 abbrev pub EndsRun : {F : Type 0} → Type 0 → ListFault F → Type 0
 EndsRun stops (Refused n why) = stops
 EndsRun stops (TooLong n most) = Unit {0}
-EndsRun stops (Unended n) = Unit {0}
+EndsRun stops (Unended n end) = Unit {0}
 EndsRun stops TooMuch = Unit {0}
 EndsRun stops (Run why) = Unit {0}

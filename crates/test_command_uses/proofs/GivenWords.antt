@@ -67,6 +67,8 @@ only_ignore option.Version e = let n : ◌≡◌ {A = ℕ} 103 101 = ap (λ w. g
 only_ignore option.Max e = let n : ◌≡◌ {A = ℕ} 103 97 = ap (λ w. get_or w 1 0) e in absurd (omega (arith, n))
 only_ignore option.Sh e = let n : ◌≡◌ {A = ℕ} 103 104 = ap (λ w. get_or w 1 0) e in absurd (omega (arith, n))
 only_ignore option.ShLine e = let n : ◌≡◌ {A = ℕ} 103 104 = ap (λ w. get_or w 1 0) e in absurd (omega (arith, n))
+only_ignore option.Lines e = let n : ◌≡◌ {A = ℕ} 103 105 = ap (λ w. get_or w 1 0) e in absurd (omega (arith, n))
+only_ignore option.Empty e = let n : ◌≡◌ {A = ℕ} 103 109 = ap (λ w. get_or w 1 0) e in absurd (omega (arith, n))
 only_ignore option.Unterminated e = let n : ◌≡◌ {A = ℕ} 103 110 = ap (λ w. get_or w 1 0) e in absurd (omega (arith, n))
 only_ignore option.Glob e = let n : ◌≡◌ {A = ℕ} 103 108 = ap (λ w. get_or w 1 0) e in absurd (omega (arith, n))
 only_ignore option.Name e = let n : ◌≡◌ {A = ℕ} 103 97 = ap (λ w. get_or w 1 0) e in absurd (omega (arith, n))

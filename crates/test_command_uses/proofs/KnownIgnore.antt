@@ -1,6 +1,6 @@
 -- What the program does for the words that filter names by one ignore file, or ask which of its lines decide names.
 use Rattle.std.proofs.Common.{◌≡◌, ◌≢◌, ◌⊎◌, inl, inr, ℕ, List, [], ◌∷◌, ◌++◌, ◌+◌, Bool, true, false, ◌↔◌, length, map, get_or, refl, sym, ap, ◌∙◌, subst, arith, Option, Some, None, Result, Ok, Err}
-use Rattle.std.specs.Prelude.{codes, IsTrue, OnOk, ⊤}
+use Rattle.std.specs.Prelude.{codes, IsOk, IsTrue, OnOk, ⊤}
 use Rattle.std.specs.List.{AllByRecursion}
 use Rattle.std.specs.Io.KnownBytes.{Appends}
 use denote.Ref.{Bor}
@@ -19,9 +19,10 @@ use Rattle.program_frame.specs.declared.fault.Failure.TheVariants.{Memory}
 use Rattle.program_frame.specs.declared.lists.fault.ListFault.{ListFault}
 use Rattle.program_frame.specs.declared.lists.fault.ListFault.TheVariants.{Run}
 use Rattle.program_frame.specs.declared.lists.program_fault.Fault.TheVariants.{List as OfList, Words}
+use Rattle.program_frame.specs.declared.lists.options.ListOptions.{ListOptions}
 use Rattle.program_frame.specs.declared.os.Os.{Os}
 use Rattle.program_frame.specs.declared.os.Os.TheVariants.{Unix, Windows, Wasm}
-use Rattle.names_commands.specs.Command.{AsksFor, HasOperands, IsMax, IsPick, Line, MakesUp, name_word, options_of}
+use Rattle.names_commands.specs.Command.{AsksFor, HasOperands, IsListed, IsMax, IsPick, Line, MakesUp, name_word, options_of}
 use Rattle.names_commands.specs.Fault.{words_status}
 use Rattle.names_commands.specs.Ignoring.{AreAdded, AreRead, FileRead, IsDirectory, IsFileIn, IsFirstUnread, IsIgnored, WasRead, value_of}
 use Rattle.names_commands.specs.Matching.{IsChosen, IsPicked, picking}
@@ -44,9 +45,10 @@ use Rattle.names_commands.specs.declared.option.NamesOption.TheVariants as optio
 use Rattle.os_args.specs.Views.{fault_of}
 use Rattle.program_frame.specs.Arguments.{AreGiven, AreValues, HasOption, LastValue}
 use Rattle.program_frame.specs.declared.arguments.Given.TheVariants.{Operand, Valued}
-use Rattle.test_command_uses.specs.OneFile.{only, filtering, IsFilteredBy, IsUnread}
+use Rattle.test_command_uses.specs.OneFile.{only, filtering, usual, IsFilteredBy, IsUnread}
 use Rattle.test_command_uses.proofs.GivenWords.{OneValue, OneWord, are_asking, no_fault_of}
-use Rattle.test_command_uses.proofs.KnownNames.{known_filtered}
+use Rattle.test_command_uses.proofs.KnownLists.{is_usual_list}
+use Rattle.test_command_uses.proofs.KnownNames.{ended_filtered, never_read}
 
 pub first : {x y : List ℕ} {xs ys : List (List ℕ)} → x ∷ xs ≡ y ∷ ys → x ≡ y
 first e = cc
@@ -143,9 +145,29 @@ module _ (command platform value : Bor (List ℕ)) where
       by (inl k) = k.1.0
       by (inr k) = last k.1
 
-  pub usual_max : (max : ℕ) → IsMax given_of max → max ≡ 1048576
+  usual_max : (max : ℕ) → IsMax given_of max → max ≡ 1048576
   usual_max max (inl m) = m.1
   usual_max max (inr m) = absurd (other_limit m.0 m.1.0)
+
+  -- no other option is given
+  no_other : (it : NamesOption) → (option.Ignore ≡ it → ⊥) → ¬ (HasOption it given_of)
+  no_other it other (inl h) = h
+  no_other it other (inr (inl h)) = h
+  no_other it other (inr (inr (inl h))) = other h
+  no_other it other (inr (inr (inr h))) = h
+
+  no_lines : ¬ (HasOption option.Lines given_of)
+  no_lines = no_other option.Lines (λ e. cc)
+
+  no_unterminated : ¬ (HasOption option.Unterminated given_of)
+  no_unterminated = no_other option.Unterminated (λ e. cc)
+
+  -- so the list is written as usual
+  pub usual_list : (list : ListOptions) → IsListed given_of list → list ≡ usual
+  usual_list = is_usual_list given_of no_lines no_unterminated usual_max
+
+  pub is_usual : IsListed given_of usual
+  is_usual = (1048576, (inl (no_limit, refl), record { end = no_lines; last = no_unterminated; limit = refl }))
 
   pub no_help : ¬ (HasOption option.Help given_of)
   no_help (inl h) = h
@@ -172,29 +194,29 @@ module _ (command platform value : Bor (List ℕ)) where
 module _ (known : KnownFiles) (A : Type 0) (file : List ℕ) (input left old new : Option (List ℕ)) (answer : Result ⊤ Fault) where
   -- all names are written, but for those that the file ignores
   abbrev pub Filters : Type 0
-  Filters = UnlessOutOfMemory (RunsBut known A (strings Unix) Name 1048576 false (IsChosen (strings Unix) (options_of Unix) []) (file ∷ [])) input left old new answer
+  Filters = UnlessOutOfMemory (RunsBut known A (strings Unix) Name usual false (IsChosen (strings Unix) (options_of Unix) []) (file ∷ [])) input left old new answer
 
   no_fault : (before after : List (List ℕ)) (text : List ℕ) → [] ≡ before ++ text ∷ after → ⊥
   no_fault [] after text e = cc
   no_fault (x ∷ before) after text e = let never : [] ≡ x ∷ (before ++ text ∷ after) = e in cc
 
   -- no pattern has a fault where there is none
-  ran : (plan : Plan) (plain : ℕ) → plan.os ≡ Unix → plan.form ≡ Name → plan.max ≡ 1048576 → plan.pick.inverted ≡ false → RunsPatterns known A (strings Unix) plan plain [] (file ∷ []) input left old new answer → Filters
+  ran : (plan : Plan) (plain : ℕ) → plan.os ≡ Unix → plan.form ≡ Name → plan.list ≡ usual → plan.pick.inverted ≡ false → RunsPatterns known A (strings Unix) plan plain [] (file ∷ []) input left old new answer → Filters
   ran plan plain os form max kept (inl fault) = absurd (no_fault fault.2.before fault.2.after fault.2.text fault.2.joined)
   ran plan plain os form max kept (inr compiled) =
-      let runs = subst (λ w. RunsBut known A (strings Unix) plan.form plan.max plan.pick.inverted (IsChosen (strings Unix) (options_of plan.os) w) (file ∷ []) input left old new answer) compiled.1 compiled.2 in
-      inr (subst (λ o. RunsBut known A (strings Unix) Name 1048576 false (IsChosen (strings Unix) (options_of o) []) (file ∷ []) input left old new answer) os
-      (subst (λ f. RunsBut known A (strings Unix) f 1048576 false (IsChosen (strings Unix) (options_of plan.os) []) (file ∷ []) input left old new answer) form
+      let runs = subst (λ w. RunsBut known A (strings Unix) plan.form plan.list plan.pick.inverted (IsChosen (strings Unix) (options_of plan.os) w) (file ∷ []) input left old new answer) compiled.1 compiled.2 in
+      inr (subst (λ o. RunsBut known A (strings Unix) Name usual false (IsChosen (strings Unix) (options_of o) []) (file ∷ []) input left old new answer) os
+      (subst (λ f. RunsBut known A (strings Unix) f usual false (IsChosen (strings Unix) (options_of plan.os) []) (file ∷ []) input left old new answer) form
       (subst (λ m. RunsBut known A (strings Unix) plan.form m false (IsChosen (strings Unix) (options_of plan.os) []) (file ∷ []) input left old new answer) max
-      (subst (λ v. RunsBut known A (strings Unix) plan.form plan.max v (IsChosen (strings Unix) (options_of plan.os) []) (file ∷ []) input left old new answer) kept runs))))
+      (subst (λ v. RunsBut known A (strings Unix) plan.form plan.list v (IsChosen (strings Unix) (options_of plan.os) []) (file ∷ []) input left old new answer) kept runs))))
 
   module _ (command platform value : Bor (List ℕ)) (is_command : command.now ≡ codes "filter") (is_platform : platform.now ≡ codes "unix") (is_file : value.now ≡ file) where
     abbrev given : Line
     given = given_of command platform value
 
-    picked : (pick : Pick) (max : ℕ) → max ≡ 1048576 → glob_words pick.glob ≡ [] → pick.inverted ≡ false → RunsPlan known A given (record { os = Unix; form = Name; pick = pick; max = max }) input left old new answer → Filters
-    picked pick max usual none kept (inl memory) = inl memory
-    picked pick max usual none kept (inr chose) =
+    picked : (pick : Pick) (list : ListOptions) → list ≡ usual → glob_words pick.glob ≡ [] → pick.inverted ≡ false → RunsPlan known A given (record { os = Unix; form = Name; pick = pick; list = list }) input left old new answer → Filters
+    picked pick list is_usual none kept (inl memory) = inl memory
+    picked pick list is_usual none kept (inr chose) =
         let plain = chose.0 in
         let globs = chose.1 in
         let names = chose.2 in
@@ -203,8 +225,8 @@ module _ (known : KnownFiles) (A : Type 0) (file : List ℕ) (input left old new
         let of_names : patterns.1 ≡ [] = no_values command platform value option.Name (λ e. cc) patterns.1 patterns.2.1.0 in
         let globs_are : globs ≡ [] = patterns.2.1.1.0 ∙ ap (λ x. (x ++ patterns.0) ++ map in_any_folder patterns.1) none ∙ ap (λ x. x ++ map in_any_folder patterns.1) more ∙ ap (map in_any_folder) of_names in
         let names_are : names ≡ file ∷ [] = one_file command platform value names chose.3.1 ∙ ap (λ x. x ∷ []) is_file in
-        let plan : Plan = record { os = Unix; form = Name; pick = pick; max = max } in
-        ran plan plain refl refl usual kept
+        let plan : Plan = record { os = Unix; form = Name; pick = pick; list = list } in
+        ran plan plain refl refl is_usual kept
         (subst (λ x. RunsPatterns known A (strings Unix) plan plain [] x input left old new answer) names_are
         (subst (λ x. RunsPatterns known A (strings Unix) plan plain x names input left old new answer) globs_are chose.4))
 
@@ -215,33 +237,33 @@ module _ (known : KnownFiles) (A : Type 0) (file : List ℕ) (input left old new
     is_word : (c : DeclaredName) (os : Os) (more : List (List ℕ)) → HasOperands given c os more → codes "filter" ≡ name_word c
     is_word c os more has = sym is_command ∙ first has
 
-    by_platform : (os : Os) (more : List (List ℕ)) (pick : Pick) (max : ℕ) → codes "unix" ≡ os_word os → [] ≡ more → max ≡ 1048576 → IsPick given os more pick → RunsPlan known A given (record { os = os; form = Name; pick = pick; max = max }) input left old new answer → Filters
-    by_platform Unix more pick max e none usual is runs = picked pick max usual (sym is.glob ∙ sym none) (not_inverted command platform value pick.inverted is.inverted) runs
-    by_platform Windows more pick max e none usual is runs = absurd (not_windows e)
-    by_platform Wasm more pick max e none usual is runs = absurd (not_wasm e)
+    by_platform : (os : Os) (more : List (List ℕ)) (pick : Pick) (list : ListOptions) → codes "unix" ≡ os_word os → [] ≡ more → list ≡ usual → IsPick given os more pick → RunsPlan known A given (record { os = os; form = Name; pick = pick; list = list }) input left old new answer → Filters
+    by_platform Unix more pick list e none is_usual is runs = picked pick list is_usual (sym is.glob ∙ sym none) (not_inverted command platform value pick.inverted is.inverted) runs
+    by_platform Windows more pick list e none is_usual is runs = absurd (not_windows e)
+    by_platform Wasm more pick list e none is_usual is runs = absurd (not_wasm e)
 
-    by_command : (command : Command) (max : ℕ) → max ≡ 1048576 → MakesUp given command → Does known A given command max input left old new answer → Filters
-    by_command (ListNames os pick) max usual m does = absurd (not_list (is_word name.List os m.0 m.1.0))
-    by_command (ListWords form pick) max usual m does = absurd (not_list (is_word name.List Unix m.0 m.1.0))
-    by_command (Filter os pick) max usual m does = by_platform os m.0 pick max (sym is_platform ∙ first (later m.1.0)) (later (later m.1.0)) usual m.1.1.1 does
-    by_command (Why os) max usual m does = absurd (not_why (is_word name.Why os [] m.0))
-    by_command (Join os last) max usual m does = absurd (not_join (is_word name.Join os [] m.0))
-    by_command (JoinWords last) max usual m does = absurd (not_join (is_word name.Join Unix [] m.0))
-    by_command (Check os) max usual m does = absurd (not_check (is_word name.Check os [] m.0))
-    by_command Help max usual m does = absurd m
-    by_command Version max usual m does = absurd m
+    by_command : (command : Command) (list : ListOptions) → list ≡ usual → MakesUp given command → Does known A given command list input left old new answer → Filters
+    by_command (ListNames os pick) list is_usual m does = absurd (not_list (is_word name.List os m.0 m.1.0))
+    by_command (ListWords form pick) list is_usual m does = absurd (not_list (is_word name.List Unix m.0 m.1.0))
+    by_command (Filter os pick) list is_usual m does = by_platform os m.0 pick list (sym is_platform ∙ first (later m.1.0)) (later (later m.1.0)) is_usual m.1.1.1 does
+    by_command (Why os) list is_usual m does = absurd (not_why (is_word name.Why os [] m.0))
+    by_command (Join os empty) list is_usual m does = absurd (not_join (is_word name.Join os [] m.0))
+    by_command JoinWords list is_usual m does = absurd (not_join (is_word name.Join Unix [] m.0))
+    by_command (Check os) list is_usual m does = absurd (not_check (is_word name.Check os [] m.0))
+    by_command Help list is_usual m does = absurd m
+    by_command Version list is_usual m does = absurd m
 
-    by_request : (request : Request) → AsksFor given request → Does known A given request.command request.max input left old new answer → Filters
+    by_request : (request : Request) → AsksFor given request → Does known A given request.command request.list input left old new answer → Filters
     by_request request (inl asks) does = absurd (no_help command platform value asks.0)
     by_request request (inr asks) does = by asks.1
       where
-        by : ((HasOption option.Version given × (request.command ≡ Version)) ⊎ ((¬ (HasOption option.Version given)) × (IsMax given request.max × MakesUp given request.command))) → Filters
+        by : ((HasOption option.Version given × (request.command ≡ Version)) ⊎ ((¬ (HasOption option.Version given)) × (IsListed given request.list × MakesUp given request.command))) → Filters
         by (inl v) = absurd (no_version command platform value v.0)
-        by (inr c) = by_command request.command request.max (usual_max command platform value request.max c.1.0) c.1.1 does
+        by (inr c) = by_command request.command request.list (usual_list command platform value request.list c.1.0) c.1.1 does
 
     -- some command has them
     asked : (request : Request) × AsksFor given request
-    asked = (record { command = Filter Unix (record { glob = None; inverted = false }); max = 1048576 }, inr (no_help command platform value, inr (no_version command platform value, (inl (no_limit command platform value, refl), ([], (operands, ((tt, (tt, (tt, tt))), record { glob = refl; some = inr (inr (inl (inr (inr (inl refl))))); ignores = λ h. tt; inverted = (λ e. let never : false ≡ true = e in absurd (cc), λ h. absurd (no_invert command platform value h)) })))))))
+    asked = (record { command = Filter Unix (record { glob = None; inverted = false }); list = usual }, inr (no_help command platform value, inr (no_version command platform value, (is_usual command platform value, ([], (operands, ((tt, (tt, (tt, tt))), record { glob = refl; some = inr (inr (inl (inr (inr (inl refl))))); ignores = λ h. tt; inverted = (λ e. let never : false ≡ true = e in absurd (cc), λ h. absurd (no_invert command platform value h)) })))))))
 
     not_rejected : RejectsLine known A given input left old new answer → ⊥
     not_rejected r = r.2.0.0.no_request asked.0 asked.1
@@ -298,18 +320,18 @@ module _ {A : Type 0} (name bytes : List ℕ) where
       by (read ∷ reads) e h = differs (first e ∙ sym (at_top read.value read.directory read.name (subst (Lacks 0x3D) (first e) plain) h.0.0).1 ∙ h.0.1.0)
 
 -- what is written for one name
-module _ (A : Type 0) (file bytes name : List ℕ) (plain : Lacks 0x3D file) (whole : Lacks 0 name) (some : name ≢ []) (left old new : Option (List ℕ)) where
+module _ (A : Type 0) (file bytes name : List ℕ) (plain : Lacks 0x3D file) (whole : Lacks 0 name) (left old new : Option (List ℕ)) where
   abbrev pub Written : Result ⊤ Fault → Type 0
   Written answer = OnOk answer ((text : List ℕ) × (IsFilteredBy A bytes name text × Appends old new text))
 
   err_written : (answer : Result ⊤ Fault) (fault : Fault) → answer ≡ Err fault → Written answer
   err_written answer fault e = subst Written (sym e) tt
 
-  run_written : (files : List (File A)) → AreRead (only file bytes) (file ∷ []) files → (run : Result ⊤ (ListFault Refusal)) → IsRun (picking (strings Unix) Name 1048576 (IsPicked false (IsChosen (strings Unix) (options_of Unix) []) files)) (Some name) left old new run → Written (answer_of OfList run)
+  run_written : (files : List (File A)) → AreRead (only file bytes) (file ∷ []) files → (run : Result ⊤ (ListFault Refusal)) → IsRun (picking (strings Unix) Name usual (IsPicked false (IsChosen (strings Unix) (options_of Unix) []) files)) (Some (name ++ 0 ∷ [])) left old new run → Written (answer_of OfList run)
   run_written files read (Err fault) is = tt
   run_written files read (Ok done) is =
       let w = is.written in
-      let said = known_filtered (strings Unix) (IsPicked false (IsChosen (strings Unix) (options_of Unix) []) files) 1048576 name w.0 whole some w.1.0 in
+      let said = ended_filtered (strings Unix) (IsPicked false (IsChosen (strings Unix) (options_of Unix) []) files) name w.0 whole w.1.0 in
       (w.0, (record { files = files; only = only_read file bytes files plain read; ignored = λ i. left_out i said; kept = λ n. kept n said }, w.1.1))
     where
       left_out : {text : List ℕ} → IsIgnored files name → ((Unit {0} × (¬ (IsIgnored files name))) × (text ≡ name ++ 0 ∷ [])) ⊎ ((¬ (Unit {0} × (¬ (IsIgnored files name)))) × (text ≡ [])) → text ≡ []
@@ -320,7 +342,7 @@ module _ (A : Type 0) (file bytes name : List ℕ) (plain : Lacks 0x3D file) (wh
       kept n (inl seen) = seen.1
       kept n (inr unseen) = absurd (unseen.0 (tt, n))
 
-  pub written : (answer : Result ⊤ Fault) → Filters (only file bytes) A file (Some name) left old new answer → Written answer
+  pub written : (answer : Result ⊤ Fault) → Filters (only file bytes) A file (Some (name ++ 0 ∷ [])) left old new answer → Written answer
   written answer (inl memory) = err_written answer _ memory.0
   written answer (inr (inl unread)) = err_written answer _ unread.2.0
   written answer (inr (inr ran)) = subst Written (sym ran.2.1.1) (run_written ran.0 ran.1 ran.2.0 ran.2.1.0)
@@ -348,11 +370,32 @@ module _ (A : Type 0) (file bytes other : List ℕ) (plain : Lacks 0x3D other) (
   ends_unread (inr (inl unread)) = by_fault unread.0 unread.1 unread.2
   ends_unread (inr (inr ran)) = absurd (not_read file bytes other ran.0 plain differs ran.1)
 
--- what the whole program writes for one name, unless memory is refused before it runs
-module _ (one_word : OneWord) (one_value : OneValue) (A : Type 0) (file bytes name : List ℕ) (plain : Lacks 0x3D file) (whole : Lacks 0 name) (some : name ≢ []) (words : List (List ℕ)) (words_are : words ≡ filtering file) (left old new : Option (List ℕ)) where
-  pub program_written : {X : Type 0} (outcome answer : Result ⊤ Fault) → answer ≡ outcome → ((outcome ≡ Err (OfList (Run Memory))) × X) ⊎ RunsTo (only file bytes) A words (Some name) left old new outcome → OnOk answer ((text : List ℕ) × (IsFilteredBy A bytes name text × Appends old new text))
-  program_written outcome answer e (inl memory) = err_written A file bytes name plain whole some left old new answer _ (e ∙ memory.0)
-  program_written outcome answer e (inr runs) = subst (Written A file bytes name plain whole some left old new) (sym e) (written A file bytes name plain whole some left old new outcome (filters one_word one_value (only file bytes) A file words (Some name) left old new outcome words_are runs))
+-- a list that no NUL ends isn't filtered
+module _ (A : Type 0) (file bytes name : List ℕ) (whole : Lacks 0 name) (some : name ≢ []) (left old new : Option (List ℕ)) where
+  abbrev IsFine : Result ⊤ Fault → Type 0
+  IsFine ended = IsOk ended
+
+  not_run : (files : List (File A)) (run : Result ⊤ (ListFault Refusal)) → IsRun (picking (strings Unix) Name usual (IsPicked false (IsChosen (strings Unix) (options_of Unix) []) files)) (Some name) left old new run → ¬ (IsFine (answer_of OfList run))
+  not_run files (Err fault) is ok = let never : false ≡ true = ok in cc
+  not_run files (Ok done) is ok = let w = is.written in never_read (strings Unix) (picking (strings Unix) Name usual (IsPicked false (IsChosen (strings Unix) (options_of Unix) []) files)) name w.0 whole some (λ never. never) w.1.0
+
+  not_err : (answer : Result ⊤ Fault) (fault : Fault) → answer ≡ Err fault → ¬ (IsOk answer)
+  not_err answer fault e ok = let never : false ≡ true = subst IsOk e ok in cc
+
+  pub not_written : (answer : Result ⊤ Fault) → Filters (only file bytes) A file (Some name) left old new answer → ¬ (IsOk answer)
+  not_written answer (inl memory) = not_err answer _ memory.0
+  not_written answer (inr (inl unread)) = not_err answer _ unread.2.0
+  not_written answer (inr (inr ran)) = λ ok. not_run ran.0 ran.2.0 ran.2.1.0 (subst IsOk ran.2.1.1 ok)
+
+-- what the whole program writes for one name with its end, and for one without, unless memory is refused before it runs
+module _ (one_word : OneWord) (one_value : OneValue) (A : Type 0) (file bytes name : List ℕ) (whole : Lacks 0 name) (words : List (List ℕ)) (words_are : words ≡ filtering file) (left old new : Option (List ℕ)) where
+  pub program_written : {X : Type 0} (names : List ℕ) (outcome answer : Result ⊤ Fault) → Lacks 0x3D file → names ≡ name ++ 0 ∷ [] → answer ≡ outcome → ((outcome ≡ Err (OfList (Run Memory))) × X) ⊎ RunsTo (only file bytes) A words (Some names) left old new outcome → OnOk answer ((text : List ℕ) × (IsFilteredBy A bytes name text × Appends old new text))
+  program_written names outcome answer plain ended e (inl memory) = err_written A file bytes name plain whole left old new answer _ (e ∙ memory.0)
+  program_written names outcome answer plain ended e (inr runs) = subst (Written A file bytes name plain whole left old new) (sym e) (written A file bytes name plain whole left old new outcome (subst (λ n. Filters (only file bytes) A file (Some n) left old new outcome) ended (filters one_word one_value (only file bytes) A file words (Some names) left old new outcome words_are runs)))
+
+  pub program_unended : {X : Type 0} (outcome answer : Result ⊤ Fault) → name ≢ [] → answer ≡ outcome → ((outcome ≡ Err (OfList (Run Memory))) × X) ⊎ RunsTo (only file bytes) A words (Some name) left old new outcome → ¬ (IsOk answer)
+  program_unended outcome answer some e (inl memory) = not_err A file bytes name whole some left old new answer _ (e ∙ memory.0)
+  program_unended outcome answer some e (inr runs) = λ ok. not_written A file bytes name whole some left old new outcome (filters one_word one_value (only file bytes) A file words (Some name) left old new outcome words_are runs) (subst IsOk e ok)
 
 -- the status where the file can't be read
 pub status_unread : (outcome answer : Result ⊤ Fault) (status : ℕ) → answer ≡ outcome → status ≡ status_after (status_of words_status) outcome

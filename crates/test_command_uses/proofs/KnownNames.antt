@@ -1,23 +1,28 @@
 -- Lists of which the first name is known.
-use Rattle.std.proofs.Common.{◌≡◌, ◌≢◌, ◌⊎◌, ⊎_elim, inl, inr, ℕ, ◌+◌, ◌≤◌, List, [], ◌∷◌, ◌++◌, length, drop, get_or, refl, sym, ap, ◌∙◌, subst, arith, append_assoc, append-nil}
+use Rattle.std.proofs.Common.{◌≡◌, ◌≢◌, ◌⊎◌, ⊎_elim, inl, inr, ℕ, ◌+◌, ◌≤◌, List, [], ◌∷◌, ◌++◌, length, drop, get_or, refl, sym, ap, ◌∙◌, subst, arith, append_assoc, append-nil, length-append}
 use Rattle.std.specs.List.{AllByRecursion}
+use Rattle.std.specs.Prelude.{OnOk, IsOk, Result, Ok, Err}
 use Rattle.os_quote.specs.Escape.{IsLineEscape}
 use Rattle.os_str_bytes.specs.EncodingError.{EncodingError}
 use Rattle.os_str_bytes.specs.Platform.{Ghosts}
 use Rattle.program_frame.specs.declared.fault.Failure.TheVariants.{Write}
-use Rattle.program_frame.specs.declared.lists.fault.ListFault.TheVariants.{Refused, Run}
+use Rattle.program_frame.specs.declared.lists.fault.ListFault.{ListFault}
+use Rattle.program_frame.specs.declared.lists.fault.ListFault.TheVariants.{Refused, Run, Unended}
 use Rattle.names_commands.specs.declared.fault.Refusal.{Refusal}
 use Rattle.names_commands.specs.declared.fault.Refusal.TheVariants.{NoString}
-use Rattle.names_commands.specs.declared.task.LastLine.TheVariants.{MustEnd, MayLackEnd}
-use Rattle.names_commands.specs.declared.task.Task.TheVariants.{Check, JoinWords, ListWords}
+use Rattle.names_commands.specs.declared.task.EmptyLine.TheVariants.{IsRejected}
+use Rattle.names_commands.specs.declared.task.Task.TheVariants.{Check, Join, JoinWords, ListAll, ListWords}
 use Rattle.names_commands.specs.declared.task.WordForm.TheVariants.{Posix}
 use Rattle.names_commands.specs.declared.matching.Form.TheVariants.{Name}
 use Rattle.names_commands.specs.Matching.{picking}
 use Rattle.names_commands.specs.declared.task.Settings.{Settings}
-use Rattle.names_commands.specs.Back.{listing, joining}
-use Rattle.program_frame.specs.Items.{Entry, Lacks, items_of, texts_of}
+use Rattle.names_commands.specs.Back.{listing}
+use Rattle.program_frame.specs.Items.{Entry, Lacks, IsLastUnended, items_of, texts_of}
+use Rattle.program_frame.specs.ListOptions.{byte_of}
+use Rattle.program_frame.specs.declared.lists.options.ItemEnd.{ItemEnd}
+use Rattle.test_command_uses.specs.OneFile.{unended, usual}
 use Rattle.program_frame.specs.Rules.{ListRules, AreIn, IsEntry}
-use Rattle.names_commands.specs.Task.{rules_of}
+use Rattle.names_commands.specs.Task.{rules_of, with_limit}
 use Rattle.names_commands.specs.Words.{AreNamesOf}
 use Rattle.os_command_line.specs.ShellWriting.{quoted_word}
 use Rattle.program_frame.specs.Reading.{Stops}
@@ -52,32 +57,55 @@ one_item list es input l some (inr taken) = by taken.1.before taken.1.last taken
     by [] last e j = (last.1, e ∙ ap (λ x. (x, last.1) ∷ []) (sym j))
     by (b ∷ before) last e j = absurd (has_end list.end b.0 (items_of list.end before ++ last.0) (subst (Lacks list.end) (j ∙ in_prefix list.end b.0 (items_of list.end before) last.0) l))
 
+-- items are whole
+pub all_whole : {F : Type 0} (list : ListRules F) (es : List Entry) → AllByRecursion (IsEntry list) es → AllByRecursion (λ e. Lacks list.end e.0) es
+all_whole list [] a = tt
+all_whole list (e ∷ es) a = (a.0.whole, all_whole list es a.1)
+
+-- an item with its end is one item, where the last must have its end
+pub one_ended : {F : Type 0} (list : ListRules F) (es : List Entry) (item : List ℕ) → Lacks list.end item → ¬ list.takes_unended → AreIn list es (item ++ list.end ∷ []) → AllByRecursion (λ e. Lacks list.end e.0) es → (text : List ℕ) × (es ≡ (item, text) ∷ [])
+one_ended list es item l must (inr taken) whole = absurd (must taken.0)
+one_ended list [] item l must (inl same) whole = absurd (omega (arith, ap length same, length-append item (list.end ∷ [])))
+one_ended list (e ∷ es) item l must (inl same) whole = by es (rest_of item e.0 (items_of list.end es) l whole.0 (same ∙ append_assoc e.0 (list.end ∷ []) (items_of list.end es)))
+  where
+    rest_of : (a b ys : List ℕ) → Lacks list.end a → Lacks list.end b → a ++ list.end ∷ [] ≡ b ++ list.end ∷ ys → (a ≡ b) × ([] ≡ ys)
+    rest_of [] [] ys l k e = (refl, ap (drop 1) e)
+    rest_of [] (y ∷ b) ys l k e = absurd (k.0 (sym (ap (λ l. get_or l 0 0) e)))
+    rest_of (x ∷ a) [] ys l k e = absurd (l.0 (ap (λ l. get_or l 0 0) e))
+    rest_of (x ∷ a) (y ∷ b) ys l k e =
+        let more = rest_of a b ys l.1 k.1 (ap (drop 1) e) in
+        (ap (λ c. c ∷ a) (ap (λ l. get_or l 0 0) e) ∙ ap (λ l. y ∷ l) more.0, more.1)
+
+    by : (es : List Entry) → (item ≡ e.0) × ([] ≡ items_of list.end es) → (text : List ℕ) × (e ∷ es ≡ (item, text) ∷ [])
+    by [] both = (e.1, ap (λ x. (x, e.1) ∷ []) (sym both.0))
+    by (d ∷ es) both = absurd (omega (arith, ap length both.1, length-append (d.0 ++ list.end ∷ []) (items_of list.end es), length-append d.0 (list.end ∷ [])))
+
 module _ {E : Type 0} (p : Ghosts E) where
-  pub known_line : (max : ℕ) (name output : List ℕ) → Lacks 0 name → name ≢ [] → IsOutput (rules_of p (listing max)) name output → ((line : List ℕ) × (IsLineEscape p.units name line × (output ≡ line ++ 0x0A ∷ []))) × (length name ≤ max)
+  pub known_line : (max : ℕ) (name output : List ℕ) → Lacks 0 name → name ≢ [] → IsOutput (rules_of p (listing (unended max))) name output → ((line : List ℕ) × (IsLineEscape p.units name line × (output ≡ line ++ 0x0A ∷ []))) × (length name ≤ max)
   known_line max name output l some o =
-      let one = one_item (rules_of p (listing max)) o.entries name l some o.items in
-      let entry = (subst (λ es. AllByRecursion (IsEntry (rules_of p (listing max))) es) one.1 o.are).0 in
-      let line = entry.text.1 in
+      let one = one_item (rules_of p (listing (unended max))) o.entries name l some o.items in
+      let entry = (subst (λ es. AllByRecursion (IsEntry (rules_of p (listing (unended max)))) es) one.1 o.are).0 in
+      let line = entry.text.1.1 in
       ((line.0, (line.1, o.written ∙ ap texts_of one.1 ∙ append-nil one.0 ∙ line.2)), entry.short)
 
   -- the word of one name, and the names of one line of words
-  pub known_word : (max : ℕ) (name output : List ℕ) → Lacks 0 name → name ≢ [] → IsOutput (rules_of p (record { task = ListWords Posix; max = max })) name output → output ≡ quoted_word name ++ 0x0A ∷ []
+  pub known_word : (max : ℕ) (name output : List ℕ) → Lacks 0 name → name ≢ [] → IsOutput (rules_of p (record { task = ListWords Posix; list = unended max })) name output → output ≡ quoted_word name ++ 0x0A ∷ []
   known_word max name output l some o =
-      let s : Settings = record { task = ListWords Posix; max = max } in
+      let s : Settings = record { task = ListWords Posix; list = unended max } in
       let one = one_item (rules_of p s) o.entries name l some o.items in
       let entry = (subst (λ es. AllByRecursion (IsEntry (rules_of p s)) es) one.1 o.are).0 in
-      let word = entry.text.1 in
+      let word = entry.text.1.1 in
       o.written ∙ ap texts_of one.1 ∙ append-nil one.0 ∙ word.2 ∙ ap (λ w. w ++ 0x0A ∷ []) word.1
 
-  pub known_words : (max : ℕ) (line output : List ℕ) → Lacks 0x0A line → line ≢ [] → IsOutput (rules_of p (record { task = JoinWords MayLackEnd; max = max })) line output → AreNamesOf max line output
+  pub known_words : (max : ℕ) (line output : List ℕ) → Lacks 0x0A line → line ≢ [] → IsOutput (rules_of p (record { task = JoinWords; list = unended max })) line output → AreNamesOf (unended max) line output
   known_words max line output l some o =
-      let s : Settings = record { task = JoinWords MayLackEnd; max = max } in
+      let s : Settings = record { task = JoinWords; list = unended max } in
       let one = one_item (rules_of p s) o.entries line l some o.items in
       let entry = (subst (λ es. AllByRecursion (IsEntry (rules_of p s)) es) one.1 o.are).0 in
-      subst (AreNamesOf max line) (sym (o.written ∙ ap texts_of one.1 ∙ append-nil one.0)) entry.text
+      subst (AreNamesOf (unended max) line) (sym (o.written ∙ ap texts_of one.1 ∙ append-nil one.0)) entry.text
 
   -- the name that `check` refuses
-  pub known_fault : (max : ℕ) (name output : List ℕ) (number : ℕ) (error : EncodingError) → Lacks 0 name → Stops (rules_of p (record { task = Check; max = max })) start name output (Refused number (NoString error)) → (number ≡ 1) × p.first_fault name error
+  pub known_fault : (max : ℕ) (name output : List ℕ) (number : ℕ) (error : EncodingError) → Lacks 0 name → Stops (rules_of p (record { task = Check; list = unended max })) start name output (Refused number (NoString error)) → (number ≡ 1) × p.first_fault name error
   known_fault max name output number error l s = by s.entries s.item s.rest s.joined s.ended s.because
     where
       by : (es : List Entry) (item rest : List ℕ) → name ≡ items_of 0 es ++ (item ++ rest) → ((rest ≡ []) × Unit {0}) ⊎ ((more : List ℕ) × (rest ≡ 0 ∷ more)) → (number ≡ 0 + length es + 1) × ((length item ≤ max) × p.first_fault item error) → (number ≡ 1) × p.first_fault name error
@@ -86,33 +114,77 @@ module _ {E : Type 0} (p : Ghosts E) where
       by (e ∷ es) item rest j ended f = absurd (has_end 0 e.0 (items_of 0 es ++ (item ++ rest)) (subst (Lacks 0) (j ∙ in_prefix 0 e.0 (items_of 0 es) (item ++ rest)) l))
 
   -- what is written for one name that is filtered
-  pub known_filtered : (Picked : List ℕ → Type 0) (max : ℕ) (name output : List ℕ) → Lacks 0 name → name ≢ [] → IsOutput (picking p Name max Picked) name output
+  pub known_filtered : (Picked : List ℕ → Type 0) (max : ℕ) (name output : List ℕ) → Lacks 0 name → name ≢ [] → IsOutput (picking p Name (unended max) Picked) name output
       → (Picked name × (output ≡ name ++ 0 ∷ [])) ⊎ ((¬ (Picked name)) × (output ≡ []))
   known_filtered Picked max name output l some o =
-      let rules = picking p Name max Picked in
+      let rules = picking p Name (unended max) Picked in
       let one = one_item rules o.entries name l some o.items in
       let entry = (subst (λ es. AllByRecursion (IsEntry rules) es) one.1 o.are).0 in
       let is : output ≡ one.0 = o.written ∙ ap texts_of one.1 ∙ append-nil one.0 in
       ⊎_elim
       (λ yes. inl (yes.0, is ∙ yes.1))
       (λ no. inr (no.0, is ∙ no.1))
-      entry.text.1
+      entry.text.1.1
 
-  -- a line without its newline isn't joined
-  pub not_joined : (max : ℕ) (line output : List ℕ) → Lacks 0x0A line → line ≢ [] → ¬ (IsOutput (rules_of p (joining MustEnd max)) line output)
-  not_joined max line output l some o = ⊎_elim (λ same. not_ended 0x0A o.entries line l some same) (λ taken. taken.0) o.items
+  -- what is written for one name with its end that is filtered
+  pub ended_filtered : (Picked : List ℕ → Type 0) (name output : List ℕ) → Lacks 0 name → IsOutput (picking p Name usual Picked) (name ++ 0 ∷ []) output
+      → (Picked name × (output ≡ name ++ 0 ∷ [])) ⊎ ((¬ (Picked name)) × (output ≡ []))
+  ended_filtered Picked name output l o =
+      let rules = picking p Name usual Picked in
+      let one = one_ended rules o.entries name l (λ never. never) o.items (all_whole rules o.entries o.are) in
+      let entry = (subst (λ es. AllByRecursion (IsEntry rules) es) one.1 o.are).0 in
+      let is : output ≡ one.0 = o.written ∙ ap texts_of one.1 ∙ append-nil one.0 in
+      ⊎_elim
+      (λ yes. inl (yes.0, is ∙ yes.1))
+      (λ no. inr (no.0, is ∙ no.1))
+      entry.text.1.1
+
+  -- an item without its end isn't read where the last must have its end
+  pub never_read : {F : Type 0} (list : ListRules F) (input output : List ℕ) → Lacks list.end input → input ≢ [] → ¬ list.takes_unended → ¬ (IsOutput list input output)
+  never_read list input output l some must o = ⊎_elim (λ same. not_ended list.end o.entries input l some same) (λ taken. must taken.0) o.items
+
+  pub not_joined : (max : ℕ) (line output : List ℕ) → Lacks 0x0A line → line ≢ [] → ¬ (IsOutput (rules_of p (with_limit (Join IsRejected) max)) line output)
+  not_joined max line output l some = never_read (rules_of p (with_limit (Join IsRejected) max)) line output l some (λ never. never)
+
+  pub not_listed : (max : ℕ) (name output : List ℕ) → Lacks 0 name → name ≢ [] → ¬ (IsOutput (rules_of p (with_limit ListAll max)) name output)
+  not_listed max name output l some = never_read (rules_of p (with_limit ListAll max)) name output l some (λ never. never)
+
+  -- an empty line isn't joined, nor is a line of words that ends in a carriage return
+  pub no_empty : (max : ℕ) (output : List ℕ) → ¬ (IsOutput (rules_of p (with_limit (Join IsRejected) max)) (0x0A ∷ []) output)
+  no_empty max output o =
+      let rules = rules_of p (with_limit (Join IsRejected) max) in
+      let one = one_ended rules o.entries [] tt (λ never. never) o.items (all_whole rules o.entries o.are) in
+      (subst (λ es. AllByRecursion (IsEntry rules) es) one.1 o.are).0.text.0 refl
+
+  pub no_return : (max : ℕ) (front output : List ℕ) → Lacks 0x0A front → ¬ (IsOutput (rules_of p (with_limit JoinWords max)) ((front ++ 0x0D ∷ []) ++ 0x0A ∷ []) output)
+  no_return max front output l o =
+      let rules = rules_of p (with_limit JoinWords max) in
+      let one = one_ended rules o.entries (front ++ 0x0D ∷ []) (with_return front l) (λ never. never) o.items (all_whole rules o.entries o.are) in
+      (subst (λ es. AllByRecursion (IsEntry rules) es) one.1 o.are).0.text.0 (front, refl)
+    where
+      with_return : (xs : List ℕ) → Lacks 0x0A xs → Lacks 0x0A (xs ++ 0x0D ∷ [])
+      with_return [] l = ((λ e. let no : 0x0D ≢ 0x0A = omega arith in no e), tt)
+      with_return (x ∷ xs) l = (l.0, with_return xs l.1)
+
+  -- where that is the fault, it is that of the first
+  pub first_unended : (max : ℕ) (name output : List ℕ) (number : ℕ) (end : ItemEnd) → Lacks 0 name → Stops (rules_of p (with_limit ListAll max)) start name output (Unended number end) → (number ≡ 1) × (byte_of end ≡ 0)
+  first_unended max name output number end l s = by s.entries s.joined s.because.0
+    where
+      by : (es : List Entry) → name ≡ items_of 0 es ++ (s.item ++ s.rest) → number ≡ 0 + length es + 1 → (number ≡ 1) × (byte_of end ≡ 0)
+      by [] j n = (n, s.because.1.0)
+      by (e ∷ es) j n = absurd (has_end 0 e.0 (items_of 0 es ++ (s.item ++ s.rest)) (subst (Lacks 0) (j ∙ in_prefix 0 e.0 (items_of 0 es) (s.item ++ s.rest)) l))
 
   -- the line before the second name
-  pub line_before_second : (max : ℕ) (names output : List ℕ) (why : Refusal) → Stops (rules_of p (listing max)) start names output (Refused 2 why) → (name rest : List ℕ) → names ≡ name ++ 0 ∷ rest → Lacks 0 name → (line : List ℕ) × (IsLineEscape p.units name line × (output ≡ line ++ 0x0A ∷ []))
+  pub line_before_second : (max : ℕ) (names output : List ℕ) (why : Refusal) → Stops (rules_of p (with_limit ListAll max)) start names output (Refused 2 why) → (name rest : List ℕ) → names ≡ name ++ 0 ∷ rest → Lacks 0 name → (line : List ℕ) × (IsLineEscape p.units name line × (output ≡ line ++ 0x0A ∷ []))
   line_before_second max names output why s name rest cut l = by s.entries s.are s.joined s.written s.because.0
     where
-      by : (es : List Entry) → AllByRecursion (IsEntry (rules_of p (listing max))) es → names ≡ items_of 0 es ++ (s.item ++ s.rest) → output ≡ texts_of es → 2 ≡ 0 + length es + 1 → (line : List ℕ) × (IsLineEscape p.units name line × (output ≡ line ++ 0x0A ∷ []))
+      by : (es : List Entry) → AllByRecursion (IsEntry (rules_of p (with_limit ListAll max))) es → names ≡ items_of 0 es ++ (s.item ++ s.rest) → output ≡ texts_of es → 2 ≡ 0 + length es + 1 → (line : List ℕ) × (IsLineEscape p.units name line × (output ≡ line ++ 0x0A ∷ []))
       by [] a j w n =
           let no : 2 ≢ 1 = omega arith in
           absurd (no n)
       by (e ∷ []) a j w n =
           let same = same_first 0 e.0 name (s.item ++ s.rest) rest a.0.whole l (sym (in_prefix 0 e.0 [] (s.item ++ s.rest)) ∙ sym j ∙ cut) in
-          let line = a.0.text.1 in
+          let line = a.0.text.1.1 in
           (line.0, (subst (λ x. IsLineEscape p.units x line.0) same line.1, w ∙ append-nil e.1 ∙ line.2))
       by (e ∷ d ∷ es) a j w n =
           let no : 2 ≢ 0 + length (e ∷ d ∷ es) + 1 = omega arith in
@@ -121,3 +193,11 @@ module _ {E : Type 0} (p : Ghosts E) where
 -- an item that is refused is no failed write
 pub no_write : (number : ℕ) (why : Refusal) → ¬ (Refused number why ≡ Run Write)
 no_write number why e = cc
+
+pub end_no_write : (number : ℕ) (end : ItemEnd) → ◌≡◌ {A = ListFault Refusal} (Unended number end) (Run Write) → ⊥
+end_no_write number end e = cc
+
+-- where nothing can be so after success, there is none
+pub not_ok : {X F : Type 0} (r : Result X F) (P : Type 0) → OnOk r P → ¬ P → ¬ (IsOk r)
+not_ok (Ok x) P written never ok = never written
+not_ok (Err e) P written never ok = cc

@@ -1,7 +1,7 @@
 -- Lists of which there is one path.
 use Rattle.std.proofs.Common.{◌≡◌, ◌≢◌, ◌⊎◌, ⊎_elim, inl, inr, ℕ, ◌+◌, ◌≤◌, List, [], ◌∷◌, ◌++◌, length, sym, ap, ◌∙◌, subst, append-nil}
 use Rattle.std.specs.List.{AllByRecursion}
-use denote.Ref.{Bor}
+use Rattle.path_building.specs.declared.base.Base.{Base}
 use Rattle.os_str_bytes.specs.Platform.{Ghosts}
 use Rattle.path_rules.specs.declared.rules.Style.{Style}
 use Rattle.program_frame.specs.Items.{Entry, Lacks, items_of, texts_of}
@@ -23,11 +23,11 @@ IsOfJoin (NoString error) = ⊥
 IsOfJoin NoNormalForm = ⊥
 IsOfJoin NoRelativePath = ⊥
 IsOfJoin (NoJoin error) = Unit {0}
-IsOfJoin (NoJoinAt error index text) = Unit {0}
+IsOfJoin (NoJoinAt error text) = Unit {0}
 IsOfJoin (NoComponent index text) = ⊥
 IsOfJoin (NoStringThere error) = ⊥
 
-same_base : {base other : Bor (List ℕ)} → JoinChecked base ≡ JoinChecked other → base ≡ other
+same_base : {base other : Base} → JoinChecked base ≡ JoinChecked other → base ≡ other
 same_base e = cc
 
 module _ {E : Type 0} (p : Ghosts E) (style : Style) (task : Task) (max : ℕ) where
@@ -49,20 +49,20 @@ module _ {E : Type 0} (p : Ghosts E) (style : Style) (task : Task) (max : ℕ) w
   pub known_refusal : (path output : List ℕ) (number : ℕ) (why : Refusal) → Lacks 0 path → Stops (rules_of p style task max) start path output (Refused number why) → (number ≡ 1) × IsRefusal p style task path why
   known_refusal path output number why l s = by s.entries s.item s.rest s.joined s.ended s.because
     where
-      by : (es : List Entry) (item rest : List ℕ) → path ≡ items_of 0 es ++ (item ++ rest) → ((rest ≡ []) × Unit {0}) ⊎ ((more : List ℕ) × (rest ≡ 0 ∷ more)) → (number ≡ 0 + length es + 1) × ((length item ≤ max) × IsRefusal p style task item why)
+      by : (es : List Entry) (item rest : List ℕ) → path ≡ items_of 0 es ++ (item ++ rest) → ((rest ≡ []) × ⊥) ⊎ ((more : List ℕ) × (rest ≡ 0 ∷ more)) → (number ≡ 0 + length es + 1) × ((length item ≤ max) × IsRefusal p style task item why)
           → (number ≡ 1) × IsRefusal p style task path why
-      by [] item rest j (inl none) f = (f.0, subst (λ x. IsRefusal p style task x why) (sym (j ∙ ap (λ x. item ++ x) none.0 ∙ append-nil item)) f.1.1)
+      by [] item rest j (inl none) f = absurd none.1
       by [] item rest j (inr more) f = absurd (has_end 0 item more.0 (subst (Lacks 0) (j ∙ ap (λ x. item ++ x) more.1) l))
       by (e ∷ es) item rest j ended f = absurd (has_end 0 e.0 (items_of 0 es ++ (item ++ rest)) (subst (Lacks 0) (j ∙ in_prefix 0 e.0 (items_of 0 es) (item ++ rest)) l))
 
   -- a path that isn't joined to the base
-  pub known_unjoined : (base : Bor (List ℕ)) (path output : List ℕ) (number : ℕ) (why : Refusal) → task ≡ JoinChecked base → IsOfJoin why → Lacks 0 path → Stops (rules_of p style task max) start path output (Refused number why)
-      → (number ≡ 1) × IsUnjoined p style base.now path why
+  pub known_unjoined : (base : Base) (path output : List ℕ) (number : ℕ) (why : Refusal) → task ≡ JoinChecked base → IsOfJoin why → Lacks 0 path → Stops (rules_of p style task max) start path output (Refused number why)
+      → (number ≡ 1) × IsUnjoined p style base path why
   known_unjoined base path output number why is of_join l s = let r = known_refusal path output number why l s in (r.0, by why of_join r.1)
     where
-      by : (given : Refusal) → IsOfJoin given → IsRefusal p style task path given → IsUnjoined p style base.now path given
-      by (NoJoin error) of r = subst (λ b. IsUnjoined p style b.now path (NoJoin error)) (sym (same_base (sym is ∙ r.1.0))) r.1.1
-      by (NoJoinAt error index text) of r = subst (λ b. IsUnjoined p style b.now path (NoJoinAt error index text)) (sym (same_base (sym is ∙ r.1.0))) r.1.1
+      by : (given : Refusal) → IsOfJoin given → IsRefusal p style task path given → IsUnjoined p style base path given
+      by (NoJoin error) of r = subst (λ b. IsUnjoined p style b path (NoJoin error)) (sym (same_base (sym is ∙ r.1.0))) r.1.1
+      by (NoJoinAt error text) of r = subst (λ b. IsUnjoined p style b path (NoJoinAt error text)) (sym (same_base (sym is ∙ r.1.0))) r.1.1
       by (NoString error) of r = absurd of
       by NoNormalForm of r = absurd of
       by NoRelativePath of r = absurd of

@@ -16,9 +16,12 @@ use Rattle.program_frame.specs.declared.fault.Failure.TheVariants.{Memory}
 use Rattle.program_frame.specs.declared.lists.fault.ListFault.{ListFault}
 use Rattle.program_frame.specs.declared.lists.fault.ListFault.TheVariants.{Run}
 use Rattle.program_frame.specs.declared.lists.program_fault.Fault.TheVariants.{List as OfList}
+use Rattle.os_quote.specs.Escape.{IsLineEscape}
+use Rattle.os_str_bytes.specs.UnixPlatform.TheImpl as unix
+use Rattle.program_frame.specs.declared.lists.options.ListOptions.{ListOptions}
 use Rattle.program_frame.specs.declared.os.Os.{Os}
 use Rattle.program_frame.specs.declared.os.Os.TheVariants.{Unix, Windows, Wasm}
-use Rattle.names_commands.specs.Command.{AsksFor, HasOperands, IsMax, Line, MakesUp, name_word}
+use Rattle.names_commands.specs.Command.{AsksFor, HasOperands, IsListed, Line, MakesUp, name_word}
 use Rattle.names_commands.specs.Ignoring.{AreRead}
 use Rattle.names_commands.specs.Options.{has_value, spelled}
 use Rattle.names_commands.specs.Program.{Does, Fault, RejectsLine, RunsLine, RunsReasons, RunsTo, RunsWhy, UnlessOutOfMemory}
@@ -32,10 +35,10 @@ use Rattle.names_commands.specs.declared.fault.Refusal.{Refusal}
 use Rattle.names_commands.specs.declared.option.NamesOption.TheVariants as option
 use Rattle.os_args.specs.Views.{fault_of}
 use Rattle.program_frame.specs.Arguments.{AreGiven, HasOption}
-use Rattle.test_command_uses.specs.OneFile.{IsExplainedBy, IsReasonOf, explaining, only}
+use Rattle.test_command_uses.specs.OneFile.{IsExplainedBy, IsReasonOf, explaining, only, usual}
 use Rattle.test_command_uses.proofs.GivenWords.{OneValue, OneWord, are_asking, no_fault_of}
-use Rattle.test_command_uses.proofs.KnownIgnore.{at_top, first, given_of, later, no_help, no_limit, no_version, not_wasm, not_windows, one_file, only_read, usual_max}
-use Rattle.test_command_uses.proofs.KnownNames.{one_item}
+use Rattle.test_command_uses.proofs.KnownIgnore.{at_top, first, given_of, is_usual, later, no_help, no_version, not_wasm, not_windows, one_file, only_read, usual_list}
+use Rattle.test_command_uses.proofs.KnownNames.{all_whole, one_ended}
 
 not_list : codes "why" ≡ codes "list" → ⊥
 not_list e =
@@ -64,18 +67,18 @@ not_check e =
 module _ (known : KnownFiles) (A : Type 0) (file : List ℕ) (input left old new : Option (List ℕ)) (answer : Result ⊤ Fault) where
   -- the line of the file that decides each name is written
   abbrev pub Explains : Type 0
-  Explains = UnlessOutOfMemory (RunsReasons known A (strings Unix) 1048576 (file ∷ [])) input left old new answer
+  Explains = UnlessOutOfMemory (RunsReasons known A (strings Unix) usual (file ∷ [])) input left old new answer
 
   module _ (command platform value : Bor (List ℕ)) (is_command : command.now ≡ codes "why") (is_platform : platform.now ≡ codes "unix") (is_file : value.now ≡ file) where
     abbrev given : Line
     given = given_of command platform value
 
-    decided : (max : ℕ) → max ≡ 1048576 → RunsWhy known A given Unix max input left old new answer → Explains
-    decided max usual (inl memory) = inl memory
-    decided max usual (inr ran) =
+    decided : (list : ListOptions) → list ≡ usual → RunsWhy known A given Unix list input left old new answer → Explains
+    decided list is_usual (inl memory) = inl memory
+    decided list is_usual (inr ran) =
         let values_are : ran.0 ≡ file ∷ [] = one_file command platform value ran.0 ran.1 ∙ ap (λ x. x ∷ []) is_file in
-        inr (subst (λ m. RunsReasons known A (strings Unix) m (file ∷ []) input left old new answer) usual
-        (subst (λ values. RunsReasons known A (strings Unix) max values input left old new answer) values_are ran.2))
+        inr (subst (λ m. RunsReasons known A (strings Unix) m (file ∷ []) input left old new answer) is_usual
+        (subst (λ values. RunsReasons known A (strings Unix) list values input left old new answer) values_are ran.2))
 
     -- the operands are those of one command
     operands : HasOperands given name.Why Unix []
@@ -84,33 +87,33 @@ module _ (known : KnownFiles) (A : Type 0) (file : List ℕ) (input left old new
     is_word : (c : DeclaredName) (os : Os) (more : List (List ℕ)) → HasOperands given c os more → codes "why" ≡ name_word c
     is_word c os more has = sym is_command ∙ first has
 
-    by_platform : (os : Os) (max : ℕ) → codes "unix" ≡ os_word os → max ≡ 1048576 → RunsWhy known A given os max input left old new answer → Explains
-    by_platform Unix max e usual runs = decided max usual runs
-    by_platform Windows max e usual runs = absurd (not_windows e)
-    by_platform Wasm max e usual runs = absurd (not_wasm e)
+    by_platform : (os : Os) (list : ListOptions) → codes "unix" ≡ os_word os → list ≡ usual → RunsWhy known A given os list input left old new answer → Explains
+    by_platform Unix list e is_usual runs = decided list is_usual runs
+    by_platform Windows list e is_usual runs = absurd (not_windows e)
+    by_platform Wasm list e is_usual runs = absurd (not_wasm e)
 
-    by_command : (command : Command) (max : ℕ) → max ≡ 1048576 → MakesUp given command → Does known A given command max input left old new answer → Explains
-    by_command (ListNames os pick) max usual m does = absurd (not_list (is_word name.List os m.0 m.1.0))
-    by_command (ListWords form pick) max usual m does = absurd (not_list (is_word name.List Unix m.0 m.1.0))
-    by_command (Filter os pick) max usual m does = absurd (not_filter (is_word name.Filter os m.0 m.1.0))
-    by_command (Why os) max usual m does = by_platform os max (sym is_platform ∙ first (later m.0)) usual does
-    by_command (Join os last) max usual m does = absurd (not_join (is_word name.Join os [] m.0))
-    by_command (JoinWords last) max usual m does = absurd (not_join (is_word name.Join Unix [] m.0))
-    by_command (Check os) max usual m does = absurd (not_check (is_word name.Check os [] m.0))
-    by_command Help max usual m does = absurd m
-    by_command Version max usual m does = absurd m
+    by_command : (command : Command) (list : ListOptions) → list ≡ usual → MakesUp given command → Does known A given command list input left old new answer → Explains
+    by_command (ListNames os pick) list is_usual m does = absurd (not_list (is_word name.List os m.0 m.1.0))
+    by_command (ListWords form pick) list is_usual m does = absurd (not_list (is_word name.List Unix m.0 m.1.0))
+    by_command (Filter os pick) list is_usual m does = absurd (not_filter (is_word name.Filter os m.0 m.1.0))
+    by_command (Why os) list is_usual m does = by_platform os list (sym is_platform ∙ first (later m.0)) is_usual does
+    by_command (Join os empty) list is_usual m does = absurd (not_join (is_word name.Join os [] m.0))
+    by_command JoinWords list is_usual m does = absurd (not_join (is_word name.Join Unix [] m.0))
+    by_command (Check os) list is_usual m does = absurd (not_check (is_word name.Check os [] m.0))
+    by_command Help list is_usual m does = absurd m
+    by_command Version list is_usual m does = absurd m
 
-    by_request : (request : Request) → AsksFor given request → Does known A given request.command request.max input left old new answer → Explains
+    by_request : (request : Request) → AsksFor given request → Does known A given request.command request.list input left old new answer → Explains
     by_request request (inl asks) does = absurd (no_help command platform value asks.0)
     by_request request (inr asks) does = by asks.1
       where
-        by : ((HasOption option.Version given × (request.command ≡ Version)) ⊎ ((¬ (HasOption option.Version given)) × (IsMax given request.max × MakesUp given request.command))) → Explains
+        by : ((HasOption option.Version given × (request.command ≡ Version)) ⊎ ((¬ (HasOption option.Version given)) × (IsListed given request.list × MakesUp given request.command))) → Explains
         by (inl v) = absurd (no_version command platform value v.0)
-        by (inr c) = by_command request.command request.max (usual_max command platform value request.max c.1.0) c.1.1 does
+        by (inr c) = by_command request.command request.list (usual_list command platform value request.list c.1.0) c.1.1 does
 
     -- some command has them
     asked : (request : Request) × AsksFor given request
-    asked = (record { command = Why Unix; max = 1048576 }, inr (no_help command platform value, inr (no_version command platform value, (inl (no_limit command platform value, refl), (operands, ((tt, (tt, (tt, tt))), (inr (inr (inl refl)), tt)))))))
+    asked = (record { command = Why Unix; list = usual }, inr (no_help command platform value, inr (no_version command platform value, (is_usual command platform value, (operands, ((tt, (tt, (tt, tt))), (inr (inr (inl refl)), tt)))))))
 
     not_rejected : RejectsLine known A given input left old new answer → ⊥
     not_rejected r = r.2.0.0.no_request asked.0 asked.1
@@ -145,20 +148,20 @@ only_name file plain zero file_name at =
 only_name file plain (suc index) file_name at = absurd (drop_none index at.value at.after at.at)
 
 -- what is written for one name
-module _ (A : Type 0) (file bytes item : List ℕ) (plain : Lacks 0x3D file) (whole : Lacks 0 item) (some : item ≢ []) (left old new : Option (List ℕ)) where
+module _ (A : Type 0) (file bytes item : List ℕ) (plain : Lacks 0x3D file) (whole : Lacks 0 item) (left old new : Option (List ℕ)) where
   reason_of : (files : List (File A)) (text : List ℕ) (numbers : Option (ℕ × ℕ)) → IsTextOfNumbers (strings Unix) (file ∷ []) files item numbers text → IsReasonOf file files item text numbers
   reason_of files text None is = is
   reason_of files text (Some at) is =
       let named = only_name file plain at.0 is.file_name is.file_is in
-      (is.pattern, is.escape, subst (λ n. HasText files n at.1 is.pattern) named.0 is.pattern_is, is.escape_is, named.0, is.text_is ∙ ap (λ f. place_text f at.1 is.pattern ++ (is.escape ++ codes "\n")) named.1)
+      (is.pattern, is.file_escape, is.pattern_escape, is.escape, subst (λ n. HasText files n at.1 is.pattern) named.0 is.pattern_is, subst (λ f. IsLineEscape unix.ghosts.units f is.file_escape) named.1 is.file_shown, is.pattern_shown, is.escape_is, named.0, is.text_is)
 
-  known_decided : (files : List (File A)) (output : List ℕ) → IsOutput (deciding (strings Unix) 1048576 (file ∷ []) files) item output → IsDecidedText (strings Unix) (file ∷ []) files item output
+  known_decided : (files : List (File A)) (output : List ℕ) → IsOutput (deciding (strings Unix) usual (file ∷ []) files) (item ++ 0 ∷ []) output → IsDecidedText (strings Unix) (file ∷ []) files item output
   known_decided files output o =
-      let rules = deciding (strings Unix) 1048576 (file ∷ []) files in
-      let one = one_item rules o.entries item whole some o.items in
+      let rules = deciding (strings Unix) usual (file ∷ []) files in
+      let one = one_ended rules o.entries item whole (λ never. never) o.items (all_whole rules o.entries o.are) in
       let entry = (subst (λ es. AllByRecursion (IsEntry rules) es) one.1 o.are).0 in
       let is : output ≡ one.0 = o.written ∙ ap texts_of one.1 ∙ append-nil one.0 in
-      subst (IsDecidedText (strings Unix) (file ∷ []) files item) (sym is) entry.text.1
+      subst (IsDecidedText (strings Unix) (file ∷ []) files item) (sym is) entry.text.1.1
 
   abbrev Written : Result ⊤ Fault → Type 0
   Written answer = OnOk answer ((text : List ℕ) × (IsExplainedBy A file bytes item text × Appends old new text))
@@ -166,20 +169,20 @@ module _ (A : Type 0) (file bytes item : List ℕ) (plain : Lacks 0x3D file) (wh
   err_written : (answer : Result ⊤ Fault) (fault : Fault) → answer ≡ Err fault → Written answer
   err_written answer fault e = subst Written (sym e) tt
 
-  run_written : (files : List (File A)) → AreRead (only file bytes) (file ∷ []) files → (run : Result ⊤ (ListFault Refusal)) → IsRun (deciding (strings Unix) 1048576 (file ∷ []) files) (Some item) left old new run → Written (answer_of OfList run)
+  run_written : (files : List (File A)) → AreRead (only file bytes) (file ∷ []) files → (run : Result ⊤ (ListFault Refusal)) → IsRun (deciding (strings Unix) usual (file ∷ []) files) (Some (item ++ 0 ∷ [])) left old new run → Written (answer_of OfList run)
   run_written files read (Err fault) is = tt
   run_written files read (Ok done) is =
       let w = is.written in
       let said = known_decided files w.0 w.1.0 in
       (w.0, (record { files = files; only = only_read file bytes files plain read; numbers = said.numbers; decided = said.decided; reason = reason_of files w.0 said.numbers said.text_is }, w.1.1))
 
-  written : (answer : Result ⊤ Fault) → Explains (only file bytes) A file (Some item) left old new answer → Written answer
+  written : (answer : Result ⊤ Fault) → Explains (only file bytes) A file (Some (item ++ 0 ∷ [])) left old new answer → Written answer
   written answer (inl memory) = err_written answer _ memory.0
   written answer (inr (inl unread)) = err_written answer _ unread.2.0
   written answer (inr (inr ran)) = subst Written (sym ran.2.1.1) (run_written ran.0 ran.1 ran.2.0 ran.2.1.0)
 
--- what the whole program writes for one name, unless memory is refused before it runs
-module _ (one_word : OneWord) (one_value : OneValue) (A : Type 0) (file bytes item : List ℕ) (plain : Lacks 0x3D file) (whole : Lacks 0 item) (some : item ≢ []) (words : List (List ℕ)) (words_are : words ≡ explaining file) (left old new : Option (List ℕ)) where
-  pub program_explained : {X : Type 0} (outcome answer : Result ⊤ Fault) → answer ≡ outcome → ((outcome ≡ Err (OfList (Run Memory))) × X) ⊎ RunsTo (only file bytes) A words (Some item) left old new outcome → OnOk answer ((text : List ℕ) × (IsExplainedBy A file bytes item text × Appends old new text))
-  program_explained outcome answer e (inl memory) = err_written A file bytes item plain whole some left old new answer _ (e ∙ memory.0)
-  program_explained outcome answer e (inr runs) = subst (Written A file bytes item plain whole some left old new) (sym e) (written A file bytes item plain whole some left old new outcome (explains one_word one_value (only file bytes) A file words (Some item) left old new outcome words_are runs))
+-- what the whole program writes for one name with its end, unless memory is refused before it runs
+module _ (one_word : OneWord) (one_value : OneValue) (A : Type 0) (file bytes item : List ℕ) (plain : Lacks 0x3D file) (whole : Lacks 0 item) (words : List (List ℕ)) (words_are : words ≡ explaining file) (left old new : Option (List ℕ)) where
+  pub program_explained : {X : Type 0} (names : List ℕ) (outcome answer : Result ⊤ Fault) → names ≡ item ++ 0 ∷ [] → answer ≡ outcome → ((outcome ≡ Err (OfList (Run Memory))) × X) ⊎ RunsTo (only file bytes) A words (Some names) left old new outcome → OnOk answer ((text : List ℕ) × (IsExplainedBy A file bytes item text × Appends old new text))
+  program_explained names outcome answer ended e (inl memory) = err_written A file bytes item plain whole left old new answer _ (e ∙ memory.0)
+  program_explained names outcome answer ended e (inr runs) = subst (Written A file bytes item plain whole left old new) (sym e) (written A file bytes item plain whole left old new outcome (subst (λ n. Explains (only file bytes) A file (Some n) left old new outcome) ended (explains one_word one_value (only file bytes) A file words (Some names) left old new outcome words_are runs)))

@@ -1,5 +1,6 @@
 pub mod GivenWords
 pub mod KnownIgnore
+pub mod KnownLists
 pub mod KnownNames
 pub mod KnownPaths
 pub mod KnownWhy

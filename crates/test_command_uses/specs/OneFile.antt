@@ -7,6 +7,9 @@ use Rattle.os_str_bytes.specs.UnixPlatform.TheImpl as unix
 use Rattle.program_frame.specs.Files.{KnownFiles}
 use Rattle.program_frame.specs.declared.fault.Failure.TheVariants.{Memory}
 use Rattle.program_frame.specs.declared.lists.fault.ListFault.TheVariants.{Run}
+use Rattle.program_frame.specs.declared.lists.options.ItemEnd.TheVariants.{Nul}
+use Rattle.program_frame.specs.declared.lists.options.LastItem.TheVariants.{MustEnd, MayLackEnd}
+use Rattle.program_frame.specs.declared.lists.options.ListOptions.{ListOptions}
 use Rattle.program_frame.specs.declared.lists.program_fault.Fault.TheVariants.{List as OfList, Words}
 use Rattle.names_commands.specs.Command.{name_word}
 use Rattle.names_commands.specs.Ignoring.{IsIgnored}
@@ -15,6 +18,14 @@ use Rattle.names_commands.specs.Why.{IsDecided, place_text}
 use Rattle.names_commands.specs.declared.command.Name.{Name}
 use Rattle.names_commands.specs.declared.command.Name.TheVariants.{Filter, Why}
 use Rattle.names_commands.specs.declared.fault.CommandFault.TheVariants.{NoFile, Unread}
+
+-- names ended by NUL, the last too, of at most 1,048,576 bytes: a list where no option states how it is written
+abbrev pub usual : ListOptions
+usual = record { end = Nul; last = MustEnd; max = 1048576 }
+
+-- names of at most this many bytes, ended by NUL, which the last may lack
+abbrev pub unended : ℕ → ListOptions
+unended max = record { end = Nul; last = MayLackEnd; max = max }
 
 -- there is one file, of this name and with these bytes
 abbrev pub only : List ℕ → List ℕ → KnownFiles
@@ -42,10 +53,10 @@ pub record IsFilteredBy (A : Type 0) (content name text : List ℕ) : Type 0 whe
   pub ignored : IsIgnored files name → text ≡ []
   pub kept : ¬ (IsIgnored files name) → text ≡ name ++ 0 ∷ []
 
--- where the file of this name decides the name by this line of it, or by none: the text is the file's name, a colon, the line's number, a colon, the line's text, a tab, and the escape of the name on the same line, or it is empty
+-- where the file of this name decides the name by this line of it, or by none: the text is the line of the file and a tab, with the file's name and the line's text as their escapes. After that comes the escape of the name. Or it is empty
 abbrev pub IsReasonOf : {A : Type 0} → List ℕ → List (File A) → List ℕ → List ℕ → Option (ℕ × ℕ) → Type 0
 IsReasonOf file files name text None = text ≡ []
-IsReasonOf file files name text (Some at) = (pattern : List ℕ) × (escape : List ℕ) × HasText files 0 at.1 pattern × IsLineEscape unix.ghosts.units name escape × (at.0 ≡ 0) × (text ≡ place_text file at.1 pattern ++ (escape ++ codes "\n"))
+IsReasonOf file files name text (Some at) = (pattern : List ℕ) × (shown_file : List ℕ) × (shown : List ℕ) × (escape : List ℕ) × HasText files 0 at.1 pattern × IsLineEscape unix.ghosts.units file shown_file × IsLineEscape unix.ghosts.units pattern shown × IsLineEscape unix.ghosts.units name escape × (at.0 ≡ 0) × (text ≡ place_text shown_file at.1 shown ++ (escape ++ codes "\n"))
 
 -- this is written for the name if an ignore file of this name with this content decides names
 pub record IsExplainedBy (A : Type 0) (file content name text : List ℕ) : Type 0 where

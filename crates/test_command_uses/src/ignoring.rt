@@ -1,5 +1,5 @@
 //! Names that an ignore file leaves out, where the one file that there is is a value.
-ghost use Rattle.std.specs.Prelude.{◌≡◌, ◌≢◌, ◌∷◌, ◌++◌, [], ℕ, List, false, OnOk};
+ghost use Rattle.std.specs.Prelude.{◌≡◌, ◌≢◌, ◌∷◌, ◌++◌, [], ℕ, List, false, IsOk, OnOk};
 ghost use Rattle.std.specs.Io.KnownBytes.{Appends};
 ghost use Rattle.std.specs.Process.{exit_status};
 ghost use Rattle.program_frame.specs.Items.{Lacks};
@@ -44,9 +44,62 @@ impl<'a> Files for OneFile<'a> {
     }
 }
 
-/// Filters one name by the file, which is named on the command line: the name is written with NUL exactly
-/// where no line of the file ignores it.
+/// Filters a list of one name by the file, which is named on the command line: the name is written with
+/// NUL exactly where no line of the file ignores it.
 pub fn left_out<A: Allocator + Copy, W: Output, E: Messages>(
+    alloc: A,
+    file: OneFile<'_>,
+    arguments: Args,
+    name: &[u8],
+    names: &[u8],
+    writer: &mut Marked<W>,
+    errors: &mut E,
+) -> Result<(), Fault>
+    requires words { words_after_name arguments ≡ filtering file.name.now }
+    requires plain { Lacks 0x3D file.name.now }
+    requires whole { Lacks 0 name.now }
+    requires ended { names.now ≡ name.now ++ 0 ∷ [] }
+    requires unmarked { has_failed writer.old ≡ false }
+    ensures { OnOk result ((text : List ℕ) × (IsFilteredBy A file.entry.bytes.now name.now text
+        × Appends (W.contents (marked_inner writer.old)) (W.contents (marked_inner writer.new))
+        text)) }
+{
+    one_outcome();
+    let mut reader = Marked::new(names);
+    let names = Names::new(file);
+    execute(&names, alloc, Ok(arguments), &mut reader, writer, errors).outcome()
+}
+
+/// Writes which line of the file, which is named on the command line, decides the one name of a list:
+/// the file's name, the line with its number, and the name, each as its escape, or nothing where no
+/// line decides it.
+pub fn explained<A: Allocator + Copy, W: Output, E: Messages>(
+    alloc: A,
+    file: OneFile<'_>,
+    arguments: Args,
+    name: &[u8],
+    names: &[u8],
+    writer: &mut Marked<W>,
+    errors: &mut E,
+) -> Result<(), Fault>
+    requires words { words_after_name arguments ≡ explaining file.name.now }
+    requires plain { Lacks 0x3D file.name.now }
+    requires whole { Lacks 0 name.now }
+    requires ended { names.now ≡ name.now ++ 0 ∷ [] }
+    requires unmarked { has_failed writer.old ≡ false }
+    ensures { OnOk result ((text : List ℕ)
+        × (IsExplainedBy A file.entry.name.now file.entry.bytes.now name.now text
+        × Appends (W.contents (marked_inner writer.old)) (W.contents (marked_inner writer.new))
+        text)) }
+{
+    one_outcome();
+    let mut reader = Marked::new(names);
+    let names = Names::new(file);
+    execute(&names, alloc, Ok(arguments), &mut reader, writer, errors).outcome()
+}
+
+/// Filters a list that no NUL ends by the file, which is named on the command line: it is rejected.
+pub fn unended_by_program<A: Allocator + Copy, W: Output, E: Messages>(
     alloc: A,
     file: OneFile<'_>,
     arguments: Args,
@@ -59,35 +112,7 @@ pub fn left_out<A: Allocator + Copy, W: Output, E: Messages>(
     requires whole { Lacks 0 name.now }
     requires some { name.now ≢ [] }
     requires unmarked { has_failed writer.old ≡ false }
-    ensures { OnOk result ((text : List ℕ) × (IsFilteredBy A file.entry.bytes.now name.now text
-        × Appends (W.contents (marked_inner writer.old)) (W.contents (marked_inner writer.new))
-        text)) }
-{
-    one_outcome();
-    let mut reader = Marked::new(name);
-    let names = Names::new(file);
-    execute(&names, alloc, Ok(arguments), &mut reader, writer, errors).outcome()
-}
-
-/// Writes which line of the file, which is named on the command line, decides one name: the file's
-/// name, the line with its number, and the name, or nothing where no line decides it.
-pub fn explained<A: Allocator + Copy, W: Output, E: Messages>(
-    alloc: A,
-    file: OneFile<'_>,
-    arguments: Args,
-    name: &[u8],
-    writer: &mut Marked<W>,
-    errors: &mut E,
-) -> Result<(), Fault>
-    requires words { words_after_name arguments ≡ explaining file.name.now }
-    requires plain { Lacks 0x3D file.name.now }
-    requires whole { Lacks 0 name.now }
-    requires some { name.now ≢ [] }
-    requires unmarked { has_failed writer.old ≡ false }
-    ensures { OnOk result ((text : List ℕ)
-        × (IsExplainedBy A file.entry.name.now file.entry.bytes.now name.now text
-        × Appends (W.contents (marked_inner writer.old)) (W.contents (marked_inner writer.new))
-        text)) }
+    ensures { ¬ (IsOk result) }
 {
     one_outcome();
     let mut reader = Marked::new(name);

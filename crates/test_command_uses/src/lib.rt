@@ -21,8 +21,8 @@ pub use arguments::{
 pub use ignoring::{OneFile, left_out, unread};
 pub use marks::{closed_by_a_flush, closed_by_a_write, closed_by_no_bytes, marked_by_no_bytes};
 pub use names::{
-    check_one, filtered, first_names_again, known_request, limit_of_two, line_before, line_of,
-    names_again, unended_line,
+    check_one, empty_line, ends, escape_of, filtered, first_names_again, known_request,
+    line_before, line_of, list_of_two, names_again, returned_line, unended_line, unended_name,
 };
 pub use paths::{
     answered, asked_on, asked_one, components_of, joined_one, parent_of, requests_a_command,

@@ -1,20 +1,24 @@
 //! Lists of names: the arguments of requests, what runs write and reject, and the way back.
-ghost use Rattle.std.specs.Prelude.{◌≡◌, ◌≢◌, ◌≤◌, ◌∷◌, ◌++◌, ◌⊎◌, [], ℕ, List, false, IsOk, IfErr, IfSome, OnOk, length};
+ghost use Rattle.std.specs.Prelude.{◌≡◌, ◌≢◌, ◌≤◌, ◌∷◌, ◌++◌, ◌⊎◌, [], ℕ, List, true, false, IsOk, IfErr, IfSome, OnErr, OnOk, length};
 ghost use Rattle.std.specs.Io.KnownBytes.{Appends};
 ghost use Rattle.os_command_line.specs.ShellWriting.{quoted_word};
 ghost use Rattle.os_ignore.specs.Ignores.{files_of};
 ghost use Rattle.os_quote.specs.Escape.{IsLineEscape};
 ghost use Rattle.os_str_bytes.specs.EncodingError.{EncodingError};
+ghost use Rattle.os_str_bytes.specs.Strings.{bytes};
 ghost use Rattle.program_frame.specs.Items.{Lacks};
+ghost use Rattle.program_frame.specs.ListOptions.{byte_of};
 ghost use Rattle.program_frame.specs.ListRun.{IsOutput, StopsOn};
 ghost use Rattle.program_frame.specs.Marked.{marked_inner, has_failed};
 ghost use Rattle.program_frame.specs.declared.fault.Failure.TheVariants.{Write as WriteFailure};
-ghost use Rattle.program_frame.specs.declared.lists.fault.ListFault.TheVariants.{Refused, Run};
+ghost use Rattle.program_frame.specs.declared.lists.fault.ListFault.TheVariants.{Refused, Run, Unended};
+ghost use Rattle.program_frame.specs.declared.lists.options.ItemEnd.{ItemEnd as ItemEndOf};
 ghost use Rattle.names_commands.specs.Back.{listing, listing_words, AreFirst, IsCompleted};
 ghost use Rattle.names_commands.specs.Command.{AsksFor};
 ghost use Rattle.names_commands.specs.Matching.{IsPickedBy};
 ghost use Rattle.names_commands.specs.Task.{rules_of};
 ghost use Rattle.names_commands.specs.Words.{AreNamesOf};
+ghost use Rattle.test_command_uses.specs.OneFile.{unended, usual};
 ghost use Rattle.names_commands.specs.declared.command.Request.{Request as RequestOf};
 ghost use Rattle.names_commands.specs.declared.fault.Refusal.{Refusal};
 ghost use Rattle.names_commands.specs.declared.fault.Refusal.TheVariants.{NoString};
@@ -23,25 +27,42 @@ use names_commands::command::{Line, Request};
 use names_commands::fault::Refusal;
 use names_commands::laws::{names_come_back, names_come_back_from_words};
 use names_commands::matching::{Form, Matching, Picker};
-use names_commands::task::{LastLine, OnPlatform, Settings, Task, WordForm};
-use os_str_bytes::{Platform, Unix};
+use names_commands::task::{EmptyLine, OnPlatform, Settings, Task, WordForm};
+use os_str_bytes::{OsStr, Platform, Unix};
 use program_frame::arguments::Given;
 use program_frame::lists::fault::ListFault;
+use program_frame::lists::lines::push_escape;
+use program_frame::lists::options::{ItemEnd, LastItem, ListOptions};
 use program_frame::lists::run::run;
 use program_frame::marked::Marked;
 use program_frame::misuse::Misuse;
-use std::alloc::Allocator;
+use std::alloc::{AllocError, Allocator};
 use std::io::Write;
 
-/// The limit of a request of two words, which no option states.
-pub fn limit_of_two(command: &str, platform: &str) -> Option<usize>
-    ensures { IfSome result (λ max. max ≡ 0x10_0000) }
+/// How the list of a request of two words is written, which no option states.
+pub fn list_of_two(command: &str, platform: &str) -> Option<ListOptions>
+    ensures { IfSome result (λ list. list ≡ usual) }
 {
     let given = [Given::Operand(command), Given::Operand(platform)];
     match Request::parse(&given) {
-        Ok(request) => Some(request.max),
+        Ok(request) => Some(request.list),
         Err(_) => None,
     }
+}
+
+/// The bytes that end items, and whether a last item may lack its end, in either case.
+pub fn ends() -> (u8, u8, bool, bool)
+    ensures nul { result.0 ≡ 0 }
+    ensures newline { result.1 ≡ 0x0A }
+    ensures must { result.2 ≡ false }
+    ensures may { result.3 ≡ true }
+{
+    (
+        ItemEnd::Nul.byte(),
+        ItemEnd::Newline.byte(),
+        LastItem::MustEnd.may_lack_end(),
+        LastItem::MayLackEnd.may_lack_end(),
+    )
 }
 
 /// The request that options and operands make up.
@@ -75,21 +96,21 @@ fn run_over<E: Platform, A: Allocator, W: Write>(
 /// Joins the lines that were written of names, which gives back the names.
 pub fn names_again<E: Platform, A: Allocator, W: Write>(
     alloc: A,
-    max: usize,
+    list: ListOptions,
     names: &[u8],
     lines: &[u8],
     writer: &mut Marked<W>,
 ) -> Result<(), ListFault<Refusal>>
-    requires listed { IsOutput (rules_of ⟦<E as Platform>⟧ (listing max)) names.now lines.now }
+    requires listed { IsOutput (rules_of ⟦<E as Platform>⟧ (listing list)) names.now lines.now }
     requires unmarked { has_failed writer.old ≡ false }
-    ensures { OnOk result ((back : List ℕ) × (IsCompleted names.now back
+    ensures { OnOk result ((back : List ℕ) × (IsCompleted (byte_of list.end) names.now back
         × Appends (W.contents (marked_inner writer.old)) (W.contents (marked_inner writer.new))
         back)) }
 {
     names_come_back::<E>();
     let settings = Settings {
-        task: Task::Join(LastLine::MustEnd),
-        max,
+        task: Task::Join(EmptyLine::IsRejected),
+        list,
     };
     run_over::<E, A, W>(alloc, settings, lines, writer)
 }
@@ -97,22 +118,22 @@ pub fn names_again<E: Platform, A: Allocator, W: Write>(
 /// Joins the words on one line each that were written of names of Unix, which gives back the names.
 pub fn names_again_of_words<A: Allocator, W: Write>(
     alloc: A,
-    max: usize,
+    list: ListOptions,
     names: &[u8],
     lines: &[u8],
     writer: &mut Marked<W>,
 ) -> Result<(), ListFault<Refusal>>
-    requires listed { IsOutput (rules_of ⟦<Unix as Platform>⟧ (listing_words max)) names.now
+    requires listed { IsOutput (rules_of ⟦<Unix as Platform>⟧ (listing_words list)) names.now
         lines.now }
     requires unmarked { has_failed writer.old ≡ false }
-    ensures { OnOk result ((back : List ℕ) × (IsCompleted names.now back
+    ensures { OnOk result ((back : List ℕ) × (IsCompleted (byte_of list.end) names.now back
         × Appends (W.contents (marked_inner writer.old)) (W.contents (marked_inner writer.new))
         back)) }
 {
     names_come_back_from_words();
     let settings = Settings {
-        task: Task::JoinWords(LastLine::MustEnd),
-        max,
+        task: Task::JoinWords,
+        list,
     };
     run_over::<Unix, A, W>(alloc, settings, lines, writer)
 }
@@ -132,7 +153,11 @@ pub fn word_of<A: Allocator, W: Write>(
 {
     let settings = Settings {
         task: Task::ListWords(WordForm::Posix),
-        max,
+        list: ListOptions {
+            end: ItemEnd::Nul,
+            last: LastItem::MayLackEnd,
+            max,
+        },
     };
     run_over::<Unix, A, W>(alloc, settings, name, writer)
 }
@@ -147,13 +172,17 @@ pub fn words_of_line<A: Allocator, W: Write>(
     requires whole { Lacks 0x0A line.now }
     requires some { line.now ≢ [] }
     requires unmarked { has_failed writer.old ≡ false }
-    ensures { OnOk result ((text : List ℕ) × (AreNamesOf max line.now text
+    ensures { OnOk result ((text : List ℕ) × (AreNamesOf (unended max) line.now text
         × Appends (W.contents (marked_inner writer.old)) (W.contents (marked_inner writer.new))
         text)) }
 {
     let settings = Settings {
-        task: Task::JoinWords(LastLine::MayLackEnd),
-        max,
+        task: Task::JoinWords,
+        list: ListOptions {
+            end: ItemEnd::Nul,
+            last: LastItem::MayLackEnd,
+            max,
+        },
     };
     run_over::<Unix, A, W>(alloc, settings, line, writer)
 }
@@ -162,23 +191,27 @@ pub fn words_of_line<A: Allocator, W: Write>(
 /// names, each of them whole.
 pub fn first_names_again<E: Platform, A: Allocator, W: Write>(
     alloc: A,
-    max: usize,
+    list: ListOptions,
     names: &[u8],
     lines: &[u8],
     cut: usize,
     writer: &mut Marked<W>,
 ) -> Result<(), ListFault<Refusal>>
-    requires listed { IsOutput (rules_of ⟦<E as Platform>⟧ (listing max)) names.now lines.now }
+    requires listed { IsOutput (rules_of ⟦<E as Platform>⟧ (listing list)) names.now lines.now }
     requires within { cut ≤ length lines.now }
     requires unmarked { has_failed writer.old ≡ false }
-    ensures { OnOk result ((suffix : List ℕ) × (AreFirst names.now suffix
+    ensures { OnOk result ((suffix : List ℕ) × (AreFirst (byte_of list.end) names.now suffix
         × Appends (W.contents (marked_inner writer.old)) (W.contents (marked_inner writer.new))
         suffix)) }
 {
     names_come_back::<E>();
     let settings = Settings {
-        task: Task::Join(LastLine::MustEnd),
-        max,
+        task: Task::Join(EmptyLine::IsEmptyName),
+        list: ListOptions {
+            end: list.end,
+            last: LastItem::MustEnd,
+            max: list.max,
+        },
     };
     let (prefix, _rest) = lines.split_at(cut);
     run_over::<E, A, W>(alloc, settings, prefix, writer)
@@ -196,11 +229,53 @@ pub fn unended_line<E: Platform, A: Allocator, W: Write>(
     requires unmarked { has_failed writer.old ≡ false }
     ensures { ¬ (IsOk result) }
 {
-    let settings = Settings {
-        task: Task::Join(LastLine::MustEnd),
-        max,
-    };
+    let settings = Settings::new(Task::Join(EmptyLine::IsRejected), max);
     run_over::<E, A, W>(alloc, settings, line, writer)
+}
+
+/// Lists a name that no NUL ends, which is rejected: if for that, then as the first.
+pub fn unended_name<E: Platform, A: Allocator, W: Write>(
+    alloc: A,
+    max: usize,
+    name: &[u8],
+    writer: &mut Marked<W>,
+) -> Result<(), ListFault<Refusal>>
+    requires whole { Lacks 0 name.now }
+    requires some { name.now ≢ [] }
+    requires unmarked { has_failed writer.old ≡ false }
+    ensures rejected { ¬ (IsOk result) }
+    ensures first { IfErr result (λ fault. (number : ℕ) → (end : ItemEndOf)
+        → fault ≡ Unended number end → (number ≡ 1) × (byte_of end ≡ 0)) }
+{
+    run_over::<E, A, W>(alloc, Settings::new(Task::ListAll, max), name, writer)
+}
+
+/// Joins an empty line, which is rejected.
+pub fn empty_line<E: Platform, A: Allocator, W: Write>(
+    alloc: A,
+    max: usize,
+    writer: &mut Marked<W>,
+) -> Result<(), ListFault<Refusal>>
+    requires { has_failed writer.old ≡ false }
+    ensures { ¬ (IsOk result) }
+{
+    let settings = Settings::new(Task::Join(EmptyLine::IsRejected), max);
+    run_over::<E, A, W>(alloc, settings, b"\n", writer)
+}
+
+/// Joins a line of words that ends in a carriage return, which is rejected.
+pub fn returned_line<A: Allocator, W: Write>(
+    alloc: A,
+    max: usize,
+    line: &[u8],
+    writer: &mut Marked<W>,
+) -> Result<(), ListFault<Refusal>>
+    requires returned { (front : List ℕ)
+        × (Lacks 0x0A front × (line.now ≡ (front ++ 0x0D ∷ []) ++ 0x0A ∷ [])) }
+    requires unmarked { has_failed writer.old ≡ false }
+    ensures { ¬ (IsOk result) }
+{
+    run_over::<Unix, A, W>(alloc, Settings::new(Task::JoinWords, max), line, writer)
 }
 
 /// Filters one name, which is written with NUL, or not at all.
@@ -226,9 +301,14 @@ pub fn filtered<E: Platform, A: Allocator, B: Allocator + Copy, W: Write>(
         text)) }
 {
     let mut reader = Marked::new(name);
+    let list = ListOptions {
+        end: ItemEnd::Nul,
+        last: LastItem::MayLackEnd,
+        max,
+    };
     run(
         alloc,
-        &Matching::new(of_walk, picker, Form::Name, max),
+        &Matching::new(of_walk, picker, Form::Name, list),
         &mut reader,
         writer,
     )
@@ -251,7 +331,11 @@ pub fn line_of<E: Platform, A: Allocator, W: Write>(
 {
     let settings = Settings {
         task: Task::ListAll,
-        max,
+        list: ListOptions {
+            end: ItemEnd::Nul,
+            last: LastItem::MayLackEnd,
+            max,
+        },
     };
     run_over::<E, A, W>(alloc, settings, name, writer)
 }
@@ -270,11 +354,7 @@ pub fn line_before<E: Platform, A: Allocator, W: Write>(
         × Appends (W.contents (marked_inner writer.old)) (W.contents (marked_inner writer.new))
         (line ++ 0x0A ∷ []))) }
 {
-    let settings = Settings {
-        task: Task::ListAll,
-        max,
-    };
-    run_over::<E, A, W>(alloc, settings, names, writer)
+    run_over::<E, A, W>(alloc, Settings::new(Task::ListAll, max), names, writer)
 }
 
 /// Checks one name: where it is rejected, it is the first, with the first fault of its bytes.
@@ -291,7 +371,24 @@ pub fn check_one<E: Platform, A: Allocator, W: Write>(
 {
     let settings = Settings {
         task: Task::Check,
-        max,
+        list: ListOptions {
+            end: ItemEnd::Nul,
+            last: LastItem::MayLackEnd,
+            max,
+        },
     };
     run_over::<E, A, W>(alloc, settings, name, writer)
+}
+
+/// Appends the escape of a name on one line, and a tab.
+pub fn escape_of<E: Platform, A: Allocator>(
+    alloc: A,
+    name: OsStr<'_, E>,
+    output: &mut Vec<u8, A>,
+) -> Result<(), AllocError>
+    ensures escape { OnOk result ((text : List ℕ) × (IsLineEscape E.units (bytes name.entry) text
+        × (output.new.items ≡ output.old.items ++ (text ++ 0x09 ∷ [])))) }
+    ensures unchanged { OnErr result (output.new.items ≡ output.old.items) }
+{
+    push_escape(alloc, name, b'\t', output)
 }

@@ -1,12 +1,13 @@
 //! Lists of paths: the arguments of commands, the result for one path, and one that is rejected.
-ghost use Rattle.std.specs.Prelude.{◌≡◌, ◌≢◌, ◌∷◌, ◌++◌, ◌⊎◌, [], ℕ, List, true, false, Some, IsOk, IfErr, OnOk};
+ghost use Rattle.std.specs.Prelude.{◌≡◌, ◌≢◌, ◌∷◌, ◌++◌, ◌⊎◌, [], ℕ, List, true, false, Some, None, IsOk, IfErr, OnOk};
 ghost use Rattle.std.specs.Fmt.InlineText.{inline_text};
 ghost use Rattle.std.specs.Io.KnownBytes.{Appends};
 ghost use Rattle.std.specs.declared.fmt.InlineText.{InlineText};
 ghost use Rattle.os_str_bytes.specs.EncodingError.{EncodingError};
-ghost use Rattle.path_building.specs.Checked.{IsJoinFault};
+ghost use Rattle.path_building.specs.BaseViews.{base_style};
+ghost use Rattle.path_building.specs.Faults.{IsNameFault};
 ghost use Rattle.path_building.specs.Join.{IsJoin};
-ghost use Rattle.path_building.specs.declared.checked.JoinError.{JoinError};
+ghost use Rattle.path_building.specs.declared.walk.NameError.{NameError};
 ghost use Rattle.path_rules.specs.Parent.{IsParent, HasNoParent};
 ghost use Rattle.path_building.specs.Relative.{IsRelativeFrom};
 ghost use Rattle.path_building.specs.Restyled.{IsRestyled};
@@ -18,16 +19,16 @@ ghost use Rattle.program_frame.specs.Strings.{strings};
 ghost use Rattle.program_frame.specs.declared.fault.Failure.TheVariants.{Write as WriteFailure};
 ghost use Rattle.program_frame.specs.declared.misuse.Misuse.{Misuse as DeclaredMisuse};
 ghost use Rattle.program_frame.specs.declared.lists.fault.ListFault.TheVariants.{Refused, Run};
-ghost use Rattle.paths_commands.specs.AtFault.{IsAtFault, LacksFault};
 ghost use Rattle.paths_commands.specs.Command.{AsksFor, IsMisuse, RequestsNothing};
 ghost use Rattle.paths_commands.specs.Styles.{style_of};
-ghost use Rattle.paths_commands.specs.Task.{rules_of, IsAnswer, IsComponentsText, IsShownOf};
+ghost use Rattle.paths_commands.specs.Task.{component_of, rules_of, IsAnswer, IsComponentsText, IsShownOf};
 ghost use Rattle.paths_commands.specs.declared.command.Command.{Command as DeclaredCommand};
 ghost use Rattle.paths_commands.specs.declared.fault.Refusal.TheVariants.{NoJoin, NoJoinAt, NoString};
 ghost use Rattle.paths_commands.specs.declared.task.Task.TheVariants.{Components};
 
 use os_path::PathStyle;
 use os_str_bytes::Platform;
+use path_building::Base;
 use paths_commands::command::{Command, Line};
 use paths_commands::fault::Refusal;
 use paths_commands::task::{OnPlatform, Task};
@@ -215,25 +216,25 @@ pub fn asked_one<E: PathStyle, A: Allocator, W: Write>(
     ask::<E, A, W>(alloc, task, 4096, path, writer)
 }
 
-/// Runs `join --checked` on one path: where it is rejected for a component, that is the first with
-/// the fault, and is shown; where it is rejected for none, no component has the fault.
+/// Runs `join --checked` on one path: where it is rejected for a component, that is the one that is
+/// shown.
 pub fn joined_one<E: PathStyle, A: Allocator, W: Write>(
     alloc: A,
-    base: &str,
+    base: Base<'_>,
     path: &[u8],
     writer: &mut Marked<W>,
 ) -> Result<(), ListFault<Refusal>>
     requires whole { Lacks 0 path.now }
     requires unmarked { has_failed writer.old ≡ false }
-    ensures at { IfErr result (λ fault. (number : ℕ) → (error : JoinError) → (index : ℕ)
-        → (text : InlineText 200) → fault ≡ Refused number (NoJoinAt error index text)
-        → (number ≡ 1) × (IsJoinFault E.follows base.now path.now error
-        × (IsAtFault E.follows error path.now index
-        × IsShownOf ⟦<E as Platform>⟧ E.follows path.now index (inline_text text)))) }
-    ensures alone { IfErr result (λ fault. (number : ℕ) → (error : JoinError)
+    ensures at { IfErr result (λ fault. (number : ℕ) → (error : NameError)
+        → (text : InlineText 200) → fault ≡ Refused number (NoJoinAt error text)
+        → (number ≡ 1) × (IsNameFault (base_style base.entry) path.now error
+        × ((index : ℕ) × ((component_of error ≡ Some index)
+        × IsShownOf ⟦<E as Platform>⟧ E.follows path.now index (inline_text text))))) }
+    ensures alone { IfErr result (λ fault. (number : ℕ) → (error : NameError)
         → fault ≡ Refused number (NoJoin error)
-        → (number ≡ 1) × (IsJoinFault E.follows base.now path.now error
-        × LacksFault E.follows error path.now)) }
+        → (number ≡ 1) × (IsNameFault (base_style base.entry) path.now error
+        × (component_of error ≡ None))) }
 {
     ask::<E, A, W>(alloc, Task::JoinChecked(base), 4096, path, writer)
 }

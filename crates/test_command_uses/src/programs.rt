@@ -22,6 +22,7 @@ use program_frame::ended::{Ended, ProgramFault};
 use program_frame::ends::{Messages, Output};
 use program_frame::files::Files;
 use program_frame::lists::fault::ListFault;
+use program_frame::lists::options::ItemEnd;
 use program_frame::lists::program::execute as execute_list;
 use program_frame::marked::Marked;
 use std::alloc::{Allocator, Global};
@@ -269,6 +270,6 @@ pub fn statuses() -> (u8, u8, u8)
     (
         Fault::BadLine(2).status(),
         NamesFault::List(ListFault::TooLong(3, 255)).status(),
-        NamesFault::List(ListFault::Unended(3)).status(),
+        NamesFault::List(ListFault::Unended(3, ItemEnd::Nul)).status(),
     )
 }

@@ -9,7 +9,7 @@ use Rattle.program_frame.specs.declared.misuse.Misuse as misuse
 use Rattle.program_frame.specs.declared.misuse.Misuse.TheVariants.{Argument, Missing, Invalid, Misplaced}
 use Rattle.program_frame.specs.declared.os.Os.{Os}
 use Rattle.program_frame.specs.declared.os.Os.TheVariants.{Unix, Windows, Wasm}
-use Rattle.names_commands.specs.Command.{AsksFor, Fits, FitsOne, HasOperands, IsForPlatform, IsInvalid, IsLimit, IsMax, IsMaybePick, IsMisplaced, IsMissing, IsMisuse, IsTooMany, Line, MakesUp, NeedsPick, NoWords, SomePicked, TakesOption, name_word}
+use Rattle.names_commands.specs.Command.{AsksFor, Fits, FitsOne, HasOperands, IsForPlatform, IsInvalid, IsLimit, IsListed, IsMax, IsMaybePick, IsMisplaced, IsMissing, IsMisuse, IsTooMany, Line, MakesUp, NeedsPick, NoWords, SomePicked, TakesOption, name_word}
 use Rattle.names_commands.specs.Pick.{TakesIgnore, glob_words}
 use Rattle.names_commands.specs.declared.command.Command.{Command}
 use Rattle.names_commands.specs.declared.command.Command.TheVariants.{ListNames, ListWords, Filter, Why, Join, JoinWords, Check, Help, Version}
@@ -177,7 +177,9 @@ plain os given none ignores option.Version h = tt
 plain os given none ignores option.Max h = tt
 plain os given none ignores option.Sh h = absurd (none.0 h)
 plain os given none ignores option.ShLine h = absurd (none.1 h)
+plain os given none ignores option.Lines h = tt
 plain os given none ignores option.Unterminated h = tt
+plain os given none ignores option.Empty h = tt
 plain os given none ignores option.Glob h = tt
 plain os given none ignores option.Name h = tt
 plain os given none ignores option.Ignore h = ignores h
@@ -189,7 +191,9 @@ on_unix option.Version = tt
 on_unix option.Max = tt
 on_unix option.Sh = refl
 on_unix option.ShLine = refl
+on_unix option.Lines = tt
 on_unix option.Unterminated = tt
+on_unix option.Empty = tt
 on_unix option.Glob = tt
 on_unix option.Name = tt
 on_unix option.Ignore = tt
@@ -240,7 +244,7 @@ made given (Why os) m = record {
   states = λ e. m.1.1.0;
   for_platform = plain os given (no_words name.Why given m.1.0 (λ t. t) (λ t. t)) (λ h. m.1.1.1);
 }
-made given (Join os last) m = record {
+made given (Join os empty) m = record {
   command = name.Join;
   os = os;
   more = [];
@@ -251,7 +255,7 @@ made given (Join os last) m = record {
   states = λ e. cc;
   for_platform = plain os given m.1.1.0 (λ h. absurd (all_fit name.Join given m.1.0 option.Ignore h));
 }
-made given (JoinWords last) m = record {
+made given JoinWords m = record {
   command = name.Join;
   os = Unix;
   more = [];
@@ -329,6 +333,6 @@ pub no_request : (given : Line) → ¬ (HasOption option.Help given) → ¬ (Has
 no_request given help version wrong k request (inl h) = help h.0
 no_request given help version wrong k request (inr h) = by h.1
   where
-    by : ((HasOption option.Version given × (request.command ≡ Version)) ⊎ ((¬ (HasOption option.Version given)) × (IsMax given request.max × MakesUp given request.command))) → ⊥
+    by : ((HasOption option.Version given × (request.command ≡ Version)) ⊎ ((¬ (HasOption option.Version given)) × (IsListed given request.list × MakesUp given request.command))) → ⊥
     by (inl v) = version v.0
-    by (inr c) = not_wrong given (made given request.command c.1.1) request.max c.1.0 wrong k
+    by (inr c) = not_wrong given (made given request.command c.1.1) c.1.0.0 c.1.0.1.0 wrong k

@@ -9,6 +9,7 @@ use Rattle.program_frame.specs.ListRun.{IsBegun, IsOutput, IsRun, Runs, StopsOn,
 use Rattle.program_frame.specs.Reading.{State, Stops}
 use Rattle.program_frame.specs.Rules.{ListRules, IsEntry}
 use Rattle.program_frame.specs.declared.lists.fault.ListFault.{ListFault}
+use Rattle.program_frame.specs.declared.lists.options.ListOptions.{ListOptions}
 use Rattle.program_frame.specs.declared.lists.fault.ListFault.TheVariants.{Refused, TooLong, Unended, TooMuch, Run}
 use Rattle.names_commands.specs.declared.fault.Refusal.{Refusal}
 use Rattle.names_commands.specs.declared.matching.Form.{Form}
@@ -33,15 +34,15 @@ use Rattle.names_commands.specs.Ignoring.{IsIgnored}
 use Rattle.names_commands.specs.Matching.{picking, matching, AreWrittenOut, IsChosen, IsChosenBy, IsFirstFault, IsMatched, IsMatchedBy, IsPattern, IsPicked, IsTextOfPicked}
 use Rattle.names_commands.specs.Program.{Fault, RunsBut}
 
-module _ {E : Type 0} (p : Ghosts E) (form : Form) (max : ℕ) (Picked Other : List ℕ → Type 0) (same : (name : List ℕ) → Picked name ↔ Other name) where
+module _ {E : Type 0} (p : Ghosts E) (form : Form) (list : ListOptions) (Picked Other : List ℕ → Type 0) (same : (name : List ℕ) → Picked name ↔ Other name) where
   abbrev ours : ListRules Refusal
-  ours = picking p form max Picked
+  ours = picking p form list Picked
 
   abbrev theirs : ListRules Refusal
-  theirs = picking p form max Other
+  theirs = picking p form list Other
 
-  one_text : (name text : List ℕ) → IsTextOfPicked p form Picked name text → IsTextOfPicked p form Other name text
-  one_text name text t = (t.0, ⊎_elim (λ k. inl ((same name).0 k.0, k.1)) (λ k. inr (λ other. k.0 ((same name).1 other), k.1)) t.1)
+  one_text : (name text : List ℕ) → IsTextOfPicked p form list.end Picked name text → IsTextOfPicked p form list.end Other name text
+  one_text name text t = (t.0, (t.1.0, ⊎_elim (λ k. inl ((same name).0 k.0, k.1)) (λ k. inr (λ other. k.0 ((same name).1 other), k.1)) t.1.1))
 
   one_entry : (e : Entry) → IsEntry ours e → IsEntry theirs e
   one_entry e i = record { whole = i.whole; short = i.short; text = one_text e.0 e.1 i.text }
@@ -62,7 +63,7 @@ module _ {E : Type 0} (p : Ghosts E) (form : Form) (max : ℕ) (Picked Other : L
   stops_on : (input output : List ℕ) (fault : ListFault Refusal) → StopsOn ours input output fault → StopsOn theirs input output fault
   stops_on input output (Refused n why) s = one_stop start input output (Refused n why) s
   stops_on input output (TooLong n most) s = one_stop start input output (TooLong n most) s
-  stops_on input output (Unended n) s = one_stop start input output (Unended n) s
+  stops_on input output (Unended n end) s = one_stop start input output (Unended n end) s
   stops_on input output TooMuch s = (s.0, one_begun input output s.1)
   stops_on input output (Run why) s = one_begun input output s
 
@@ -100,21 +101,21 @@ picked_alike : {A : Type 0} (inverted : Bool) (Chosen Other : List ℕ → Type 
 picked_alike false Chosen Other files same name = (λ k. ((same name).0 k.0, k.1), λ k. ((same name).1 k.0, k.1))
 picked_alike true Chosen Other files same name = (λ k other. k ((same name).1 other.0, other.1), λ k other. k ((same name).0 other.0, other.1))
 
-pub same_but : {E : Type 0} (known : KnownFiles) (A : Type 0) (p : Ghosts E) (form : Form) (max : ℕ) (inverted : Bool) (Chosen Other : List ℕ → Type 0) → ((name : List ℕ) → Chosen name ↔ Other name)
-    → (names : List (List ℕ)) (input left old new : Option (List ℕ)) (answer : Result ⊤ Fault) → RunsBut known A p form max inverted Chosen names input left old new answer → RunsBut known A p form max inverted Other names input left old new answer
-same_but known A p form max inverted Chosen Other same names input left old new answer (inl fault) = inl fault
-same_but known A p form max inverted Chosen Other same names input left old new answer (inr k) = inr (k.0, k.1, same_runs p form max (IsPicked inverted Chosen k.0) (IsPicked inverted Other k.0) (picked_alike inverted Chosen Other k.0 same) OfList input left old new answer k.2)
+pub same_but : {E : Type 0} (known : KnownFiles) (A : Type 0) (p : Ghosts E) (form : Form) (list : ListOptions) (inverted : Bool) (Chosen Other : List ℕ → Type 0) → ((name : List ℕ) → Chosen name ↔ Other name)
+    → (names : List (List ℕ)) (input left old new : Option (List ℕ)) (answer : Result ⊤ Fault) → RunsBut known A p form list inverted Chosen names input left old new answer → RunsBut known A p form list inverted Other names input left old new answer
+same_but known A p form list inverted Chosen Other same names input left old new answer (inl fault) = inl fault
+same_but known A p form list inverted Chosen Other same names input left old new answer (inr k) = inr (k.0, k.1, same_runs p form list (IsPicked inverted Chosen k.0) (IsPicked inverted Other k.0) (picked_alike inverted Chosen Other k.0 same) OfList input left old new answer k.2)
 
 -- a run is over the names that are picked by what is equal
-pub matching_runs : {E A : Type 0} (p : Ghosts E) (form its_form : Form) (max its_max : ℕ) (inverted its_inverted : Bool) (globs its_globs : Option (Bor (GlobSet E A))) (files its_files : List (File A)) (input left old new : Option (List ℕ)) (answer : Result ⊤ Fault)
-    → its_form ≡ form → its_max ≡ max → its_inverted ≡ inverted → its_globs ≡ globs → its_files ≡ files
-    → Runs (matching p its_form its_max its_inverted its_globs its_files) OfList input left old new answer → Runs (matching p form max inverted globs files) OfList input left old new answer
-matching_runs p form its_form max its_max inverted its_inverted globs its_globs files its_files input left old new answer f n v g i run =
-    subst (λ z. Runs (matching p z max inverted globs files) OfList input left old new answer) f
+pub matching_runs : {E A : Type 0} (p : Ghosts E) (form its_form : Form) (list its_list : ListOptions) (inverted its_inverted : Bool) (globs its_globs : Option (Bor (GlobSet E A))) (files its_files : List (File A)) (input left old new : Option (List ℕ)) (answer : Result ⊤ Fault)
+    → its_form ≡ form → its_list ≡ list → its_inverted ≡ inverted → its_globs ≡ globs → its_files ≡ files
+    → Runs (matching p its_form its_list its_inverted its_globs its_files) OfList input left old new answer → Runs (matching p form list inverted globs files) OfList input left old new answer
+matching_runs p form its_form list its_list inverted its_inverted globs its_globs files its_files input left old new answer f n v g i run =
+    subst (λ z. Runs (matching p z list inverted globs files) OfList input left old new answer) f
     (subst (λ z. Runs (matching p its_form z inverted globs files) OfList input left old new answer) n
-    (subst (λ z. Runs (matching p its_form its_max z globs files) OfList input left old new answer) v
-    (subst (λ z. Runs (matching p its_form its_max its_inverted z files) OfList input left old new answer) g
-    (subst (λ z. Runs (matching p its_form its_max its_inverted its_globs z) OfList input left old new answer) i run))))
+    (subst (λ z. Runs (matching p its_form its_list z globs files) OfList input left old new answer) v
+    (subst (λ z. Runs (matching p its_form its_list its_inverted z files) OfList input left old new answer) g
+    (subst (λ z. Runs (matching p its_form its_list its_inverted its_globs z) OfList input left old new answer) i run))))
 
 -- a name that is chosen is picked where the files don't ignore its text
 pub picked_shown : {A : Type 0} (Chosen : List ℕ → Type 0) (files its_files : List (File A)) (name text : List ℕ) (shown : Bool) → its_files ≡ files → text ≡ name → Chosen name

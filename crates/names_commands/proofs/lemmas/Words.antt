@@ -5,43 +5,59 @@ use Rattle.os_command_line.specs.Shell.{IsRead, language}
 use Rattle.os_command_line.specs.declared.shell.fault.WordsFault.{WordsFault}
 use Rattle.program_frame.specs.declared.lists.fault.ItemFault.{ItemFault}
 use Rattle.program_frame.specs.declared.lists.fault.ItemFault.TheVariants.{Refused, TooLong, Memory}
+use Rattle.program_frame.specs.ListOptions.{byte_of}
+use Rattle.program_frame.specs.declared.lists.options.ListOptions.{ListOptions}
 use Rattle.names_commands.specs.declared.fault.Refusal.{Refusal}
+use Rattle.names_commands.specs.declared.fault.Refusal.TheVariants.{NoString, BadEscape, NotCanonical, HasNul, HasNewline, EndsInReturn as InReturn, EmptyLine, BadWords}
+use Rattle.names_commands.specs.Names.{EndsInReturn}
 use Rattle.names_commands.specs.Words.{IsName, AreNames, AreNamesOf, Comes, IsAfterNames, IsWordFault, IsLineFault}
 
 -- of all items of a line these are left, and names were written for those before them
-pub record IsBegun (max : ℕ) (line : List ℕ) (left : List (Result (List ℕ) WordsFault)) (old new : List ℕ) : Type 0 where
+pub record IsBegun (list : ListOptions) (line : List ℕ) (left : List (Result (List ℕ) WordsFault)) (old new : List ℕ) : Type 0 where
   pub items : List (Result (List ℕ) WordsFault)
   pub read : IsRead (language true true) line items
   pub written : List ℕ
   pub grown : new ≡ old ++ written
-  pub names : (text : List ℕ) → AreNames max left text → AreNames max items (written ++ text)
-  pub comes : (item : Result (List ℕ) WordsFault) → Comes max left item → Comes max items item
+  pub names : (text : List ℕ) → AreNames list left text → AreNames list items (written ++ text)
+  pub comes : (item : Result (List ℕ) WordsFault) → Comes list left item → Comes list items item
 
-pub none_begun : (max : ℕ) (line : List ℕ) (items : List (Result (List ℕ) WordsFault)) (old : List ℕ) → IsRead (language true true) line items → IsBegun max line items old old
-none_begun max line items old read = record { items = items; read = read; written = []; grown = sym (append-nil old); names = λ text h. h; comes = λ item h. h }
+pub none_begun : (list : ListOptions) (line : List ℕ) (items : List (Result (List ℕ) WordsFault)) (old : List ℕ) → IsRead (language true true) line items → IsBegun list line items old old
+none_begun list line items old read = record { items = items; read = read; written = []; grown = sym (append-nil old); names = λ text h. h; comes = λ item h. h }
 
-module _ (max : ℕ) (line : List ℕ) where
-  pub one_begun : (left : List (Result (List ℕ) WordsFault)) (old mid new word : List ℕ) → IsBegun max line (Ok word ∷ left) old mid → IsName max word → new ≡ mid ++ (word ++ 0 ∷ []) → IsBegun max line left old new
+module _ (list : ListOptions) (line : List ℕ) where
+  abbrev end : ℕ
+  end = byte_of list.end
+
+  pub one_begun : (left : List (Result (List ℕ) WordsFault)) (old mid new word : List ℕ) → IsBegun list line (Ok word ∷ left) old mid → IsName list word → new ≡ mid ++ (word ++ byte_of list.end ∷ []) → IsBegun list line left old new
   one_begun left old mid new word b n e = record {
     items = b.items;
     read = b.read;
-    written = b.written ++ (word ++ 0 ∷ []);
-    grown = e ∙ ap (λ x. x ++ (word ++ 0 ∷ [])) b.grown ∙ append_assoc old b.written (word ++ 0 ∷ []);
-    names = λ text h. subst (AreNames max b.items) (sym (append_assoc b.written (word ++ 0 ∷ []) text)) (b.names ((word ++ 0 ∷ []) ++ text) (n, (text, h, refl)));
+    written = b.written ++ (word ++ end ∷ []);
+    grown = e ∙ ap (λ x. x ++ (word ++ end ∷ [])) b.grown ∙ append_assoc old b.written (word ++ end ∷ []);
+    names = λ text h. subst (AreNames list b.items) (sym (append_assoc b.written (word ++ end ∷ []) text)) (b.names ((word ++ end ∷ []) ++ text) (n, (text, h, refl)));
     comes = λ item h. b.comes item (inr (n, h));
   }
 
-  pub all_begun : (old new : List ℕ) → IsBegun max line [] old new → (text : List ℕ) × (AreNamesOf max line text × (new ≡ old ++ text))
-  all_begun old new b = (b.written, ((b.items, b.read, subst (AreNames max b.items) (append-nil b.written) (b.names [] refl)), b.grown))
+  -- the line doesn't end in a carriage return
+  module _ (other : ¬ (EndsInReturn line)) where
+    pub all_begun : (old new : List ℕ) → IsBegun list line [] old new → (text : List ℕ) × (AreNamesOf list line text × (new ≡ old ++ text))
+    all_begun old new b = (b.written, ((other, (b.items, b.read, subst (AreNames list b.items) (append-nil b.written) (b.names [] refl))), b.grown))
 
-  pub fault_after : (left : List (Result (List ℕ) WordsFault)) (old new : List ℕ) (fault : WordsFault) → IsBegun max line (Err fault ∷ left) old new → IsAfterNames max line (Err fault)
-  fault_after left old new fault b = (b.items, b.read, b.comes (Err fault) refl)
+    pub fault_after : (left : List (Result (List ℕ) WordsFault)) (old new : List ℕ) (fault : WordsFault) → IsBegun list line (Err fault ∷ left) old new → IsAfterNames list line (Err fault)
+    fault_after left old new fault b = (other, (b.items, b.read, b.comes (Err fault) refl))
 
-  word_after : (left : List (Result (List ℕ) WordsFault)) (old new word : List ℕ) → IsBegun max line (Ok word ∷ left) old new → IsAfterNames max line (Ok word)
-  word_after left old new word b = (b.items, b.read, b.comes (Ok word) (inl refl))
+    word_after : (left : List (Result (List ℕ) WordsFault)) (old new word : List ℕ) → IsBegun list line (Ok word ∷ left) old new → IsAfterNames list line (Ok word)
+    word_after left old new word b = (other, (b.items, b.read, b.comes (Ok word) (inl refl)))
 
-  -- what keeps a word from being a name keeps the line
-  pub word_fault : (left : List (Result (List ℕ) WordsFault)) (old new word : List ℕ) (fault : ItemFault Refusal) → IsBegun max line (Ok word ∷ left) old new → IsWordFault max word fault → IsLineFault max line fault
-  word_fault left old new word (Refused why) b h = inl (h.0, (word, word_after left old new word b, h.1))
-  word_fault left old new word TooLong b h = (word, word_after left old new word b, h)
-  word_fault left old new word Memory b h = tt
+    -- what keeps a word from being a name keeps the line
+    pub word_fault : (left : List (Result (List ℕ) WordsFault)) (old new word : List ℕ) (fault : ItemFault Refusal) → IsBegun list line (Ok word ∷ left) old new → IsWordFault list word fault → IsLineFault list line fault
+    word_fault left old new word (Refused HasNul) b h = (word, word_after left old new word b, h)
+    word_fault left old new word (Refused HasNewline) b h = (word, word_after left old new word b, h)
+    word_fault left old new word (Refused (NoString error)) b h = absurd h
+    word_fault left old new word (Refused (BadEscape index)) b h = absurd h
+    word_fault left old new word (Refused NotCanonical) b h = absurd h
+    word_fault left old new word (Refused InReturn) b h = absurd h
+    word_fault left old new word (Refused EmptyLine) b h = absurd h
+    word_fault left old new word (Refused (BadWords fault)) b h = absurd h
+    word_fault left old new word TooLong b h = (word, word_after left old new word b, h)
+    word_fault left old new word Memory b h = tt

@@ -12,6 +12,7 @@ use Rattle.os_str_bytes.specs.WasmLaws.{AreNone, IsTextFault, wasm_laws, wasm_pa
 use Rattle.os_str_bytes.specs.WindowsLaws.{windows_laws, windows_parts}
 use Rattle.os_quote.specs.Escape.{IsEscape, IsQuoteFault}
 use Rattle.os_quote.specs.Shown.{is_any}
+use Rattle.os_quote.specs.declared.form.Form.TheVariants.{Text}
 use Rattle.os_quote.specs.declared.error.QuoteError.{QuoteError}
 use Rattle.os_quote.specs.declared.error.QuoteError.TheVariants as quote
 use Rattle.os_quote.proofs.lemmas.EachChunk.{are_chunks_of}
@@ -55,7 +56,7 @@ output_or_fault (Find os pattern) input output error h k = (laws os).faulty inpu
 output_or_fault (Split os pattern) input output error h k = (laws os).faulty input error k.1 h.0
 output_or_fault (Chunks os) input output error h k = (laws os).faulty input error k h.0
 output_or_fault (Quote os) input output error h k = (laws os).faulty input error k h.0
-output_or_fault (Unquote os) input output error h k = no_text_fault input error (escape_is_text is_any (strings os).well_formed (strings os).units (parts os).0 (parts os).1 (are_chunks_of (strings os).well_formed (laws os).cut_prefix (laws os).cut_suffix) output input h.0 h.1) k
+output_or_fault (Unquote os) input output error h k = no_text_fault input error (escape_is_text Text (strings os).well_formed (strings os).units (parts os).0 (parts os).1 (are_chunks_of (strings os).well_formed (laws os).cut_prefix (laws os).cut_suffix) output input h.0 h.1) k
 output_or_fault (Raw os) input output error h k =
     k.2 (subst (strings os).is_unit_list (one_list_of_lines os input ((strings os).units output) k.0 h.1 k.1) ((laws os).unit_list output h.0))
 
@@ -73,7 +74,7 @@ abbrev HasBadQuote : Command → List ℕ → QuoteError → Type 0
 HasBadQuote command = HasBadQuoteOn (strings (os_of command)) command
 
 not_escaped : (os : Os) (input output : List ℕ) (error : QuoteError) → (strings os).well_formed output → IsEscape (strings os).units output input → ¬ (error ≡ quote.Memory) → IsQuoteFault (strings os).well_formed (strings os).units input error → ⊥
-not_escaped os input output (quote.BadEscape index) w e n k = never_bad is_any (strings os).well_formed (strings os).units (parts os).0 (parts os).1 (are_chunks_of (strings os).well_formed (laws os).cut_prefix (laws os).cut_suffix) output input index w e k
+not_escaped os input output (quote.BadEscape index) w e n k = never_bad Text (strings os).well_formed (strings os).units (parts os).0 (parts os).1 (are_chunks_of (strings os).well_formed (laws os).cut_prefix (laws os).cut_suffix) output input index w e k
 not_escaped os input output quote.NotCanonical w e n k = k.0 output w e
 not_escaped os input output quote.Memory w e n k = n refl
 

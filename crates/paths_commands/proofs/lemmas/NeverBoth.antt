@@ -1,11 +1,19 @@
 -- Options and operands that request a command aren't rejected.
-use Rattle.std.proofs.Common.{◌≡◌, ⊎_elim, inl, inr, ◌∙◌, ℕ, List, [], ◌∷◌, codes, refl, sym, subst}
+use Rattle.std.proofs.Common.{◌≡◌, ⊎_elim, inl, inr, ◌∙◌, ℕ, List, [], ◌∷◌, ◌++◌, codes, refl, sym, subst}
 use Rattle.program_frame.specs.Arguments.{HasOption}
 use Rattle.program_frame.specs.Os.{os_word}
 use Rattle.program_frame.specs.declared.misuse.Misuse.{Misuse}
 use Rattle.program_frame.specs.declared.misuse.Misuse.TheVariants.{Argument, Missing, Invalid, Misplaced}
 use Rattle.program_frame.specs.declared.os.Os.{Os}
-use Rattle.paths_commands.specs.Command.{HasOperands, IsInvalid, IsMisplaced, IsMissing, IsMisuse, IsOfPaths, IsTooMany, Line, Needs, RequestsNothing}
+use Rattle.path_building.specs.Base.{HasNoNul, IsBase}
+use Rattle.path_building.specs.BaseViews.{base_path, base_style}
+use Rattle.path_building.specs.Faults.{IsBaseFault}
+use Rattle.path_building.specs.declared.base.BaseError.{BaseError}
+use Rattle.path_building.specs.declared.base.BaseError.TheVariants as base_error
+use Rattle.path_building.proofs.lemmas.Bases.{is_base}
+use Rattle.path_rules.specs.declared.rules.Style.{Style}
+use Rattle.paths_commands.specs.Styles.{style_of}
+use Rattle.paths_commands.specs.Command.{HasOperands, HasStyle, IsInvalid, IsMisplaced, IsMissing, IsMisuse, IsNoBase, IsOfPaths, IsTooMany, Line, Needs, RequestsNothing}
 use Rattle.paths_commands.specs.Task.{IsChecked, name_of, operands_of_task}
 use Rattle.paths_commands.specs.declared.command.Command.TheVariants.{Ask, Help, Version}
 use Rattle.paths_commands.specs.declared.command.Name.{Name as DeclaredName}
@@ -13,6 +21,7 @@ use Rattle.paths_commands.specs.declared.command.Name.TheVariants as name
 use Rattle.paths_commands.specs.declared.option.PathsOption.TheVariants as option
 use Rattle.paths_commands.specs.declared.task.Task.{Task}
 use Rattle.paths_commands.specs.declared.task.Task.TheVariants.{Components, Parent, Name, Stem, Extension, Normalize, Clean, Join, JoinChecked, Relative, Convert}
+use Rattle.paths_commands.proofs.lemmas.Platforms.{same_os}
 use Rattle.paths_commands.proofs.lemmas.TaskNames.{same_name}
 
 none_some : {X : Type 0} {x : X} {xs : List X} → [] ≡ x ∷ xs → ⊥
@@ -100,6 +109,30 @@ checked_joins (JoinChecked base) is = refl
 checked_joins (Relative base) is = absurd is
 checked_joins (Convert to) is = absurd is
 
+-- a task that is checked has a base
+checked_base : (w : Style) (task : Task) (word : List ℕ) → IsChecked task → HasStyle w task → operands_of_task task ≡ word ∷ [] → IsBase w word
+checked_base w Components word is of own = absurd is
+checked_base w Parent word is of own = absurd is
+checked_base w Name word is of own = absurd is
+checked_base w Stem word is of own = absurd is
+checked_base w Extension word is of own = absurd is
+checked_base w Normalize word is of own = absurd is
+checked_base w Clean word is of own = absurd is
+checked_base w (Join base) word is of own = absurd is
+checked_base w (JoinChecked base) word is of own = subst (IsBase w) (first own) (subst (λ v. IsBase v (base_path base)) of (is_base (base_style base) (base_path base) base.complete))
+checked_base w (Relative base) word is of own = absurd is
+checked_base w (Convert to) word is of own = absurd is
+
+no_nul_after : (before after : List ℕ) → HasNoNul (before ++ 0 ∷ after) → ⊥
+no_nul_after [] after none = none.0 refl
+no_nul_after (b ∷ before) after none = no_nul_after before after none.1
+
+-- a base has no fault
+no_fault : (w : Style) (path : List ℕ) (error : BaseError) → IsBase w path → IsBaseFault w path error → ⊥
+no_fault w path (base_error.Nul index) is fault = no_nul_after fault.before fault.after (subst HasNoNul fault.joined is.0)
+no_fault w path base_error.Incomplete is fault = is.1.0 fault.1
+no_fault w path base_error.Reserved is fault = is.1.1 fault.1.1
+
 module _ (given : Line) (task : Task) (os : Os) (asks : HasOperands given (name_of task) os (operands_of_task task)) where
   -- operands are of one task, and the rest are its own
   one_name : (it : DeclaredName) (other : Os) (more : List (List ℕ)) → HasOperands given it other more → it ≡ name_of task
@@ -115,9 +148,18 @@ module _ (given : Line) (task : Task) (os : Os) (asks : HasOperands given (name_
       let has = no_operand.1.1.0 in
       needs_none task what (one_rest no_operand.0 no_operand.1.0 [] has) (subst (λ it. Needs it what) (one_name no_operand.0 no_operand.1.0 [] has) no_operand.1.1.1)
 
-  nothing_invalid : (what word : List ℕ) → IsInvalid given what word → ⊥
-  nothing_invalid what word (inl no_command) = no_command.1.0 (name_of task) (first (sym no_command.1.1.1 ∙ asks))
-  nothing_invalid what word (inr no_platform) = ⊎_elim
+  no_bad_base : (what word : List ℕ) → (HasOption option.Checked given → IsChecked task) → HasStyle (style_of os) task → IsNoBase given what word → ⊥
+  no_bad_base what word checked of none =
+      let other = none.1.1.1.0 in
+      let has = none.1.1.1.1.0 in
+      let same = same_os other os (first (rest (sym has ∙ asks))) in
+      let is = checked_base (style_of os) task word (checked none.1.1.0) of (one_rest name.Join other (word ∷ []) has) in
+      no_fault (style_of os) word none.0 is (subst (λ o. IsBaseFault (style_of o) word none.0) same none.1.1.1.1.1)
+
+  nothing_invalid : (what word : List ℕ) → (HasOption option.Checked given → IsChecked task) → HasStyle (style_of os) task → IsInvalid given what word → ⊥
+  nothing_invalid what word checked of (inr (inr no_base)) = no_bad_base what word checked of no_base
+  nothing_invalid what word checked of (inl no_command) = no_command.1.0 (name_of task) (first (sym no_command.1.1.1 ∙ asks))
+  nothing_invalid what word checked of (inr (inl no_platform)) = ⊎_elim
       (λ second. no_platform.1.0 os (first (rest (sym second.1.1 ∙ asks))))
       (λ converted.
       let to = converts task word [] (one_name name.Convert converted.0 (word ∷ []) converted.1) (one_rest name.Convert converted.0 (word ∷ []) converted.1) in
@@ -141,5 +183,5 @@ never_both given misuse of_paths wrong Help asks = of_paths.0 asks
 never_both given misuse of_paths wrong Version asks = of_paths.1 asks.1
 never_both given (Argument error) of_paths wrong (Ask task os keeps_going) asks = nothing_surplus given task os asks.1.0 wrong.0 wrong.1.0
 never_both given (Missing what) of_paths wrong (Ask task os keeps_going) asks = nothing_missing given task os asks.1.0 what.now wrong
-never_both given (Invalid what word) of_paths wrong (Ask task os keeps_going) asks = nothing_invalid given task os asks.1.0 what.now word.now wrong
+never_both given (Invalid what word) of_paths wrong (Ask task os keeps_going) asks = nothing_invalid given task os asks.1.0 what.now word.now asks.1.1.0.1 asks.1.1.1.0 wrong
 never_both given (Misplaced word where_to) of_paths wrong (Ask task os keeps_going) asks = nothing_misplaced given task os asks.1.0 word.now where_to.now asks.1.1.0.1 wrong

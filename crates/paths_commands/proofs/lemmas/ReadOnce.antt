@@ -210,7 +210,10 @@ module _ (given other : Line) (alike : AreAlike given other) where
       sym (alike_operands given other alike) ∙ asks.1.0,
       (
         ((λ is. has Checked (asks.1.1.0.0 is)), (λ checked. asks.1.1.0.1 (had Checked checked))),
-        ((λ going. has KeepGoing (asks.1.1.1.0 going)), (λ going. asks.1.1.1.1 (had KeepGoing going))),
+        (
+          asks.1.1.1.0,
+          ((λ going. has KeepGoing (asks.1.1.1.1.0 going)), (λ going. asks.1.1.1.1.1 (had KeepGoing going))),
+        ),
       ),
     ),
   )

@@ -1,6 +1,6 @@
 -- Why a path is rejected, by its task.
 use Rattle.std.proofs.Common.{◌≡◌, ℕ, List}
-use denote.Ref.{Bor}
+use Rattle.path_building.specs.declared.base.Base.{Base}
 use Rattle.os_str_bytes.specs.Platform.{Ghosts}
 use Rattle.path_rules.specs.declared.rules.Style.{Style}
 use Rattle.program_frame.specs.Strings.{strings}
@@ -18,7 +18,7 @@ unanswered_refused p style task path (NoString error) none = absurd none
 unanswered_refused p style task path NoNormalForm none = none
 unanswered_refused p style task path NoRelativePath none = none
 unanswered_refused p style task path (NoJoin error) none = none
-unanswered_refused p style task path (NoJoinAt error index text) none = none
+unanswered_refused p style task path (NoJoinAt error text) none = none
 unanswered_refused p style task path (NoComponent index text) none = none
 unanswered_refused p style task path (NoStringThere error) none = none
 
@@ -29,17 +29,17 @@ unconverted_unanswered p style task to path (NoString error) is none = none
 unconverted_unanswered p style task to path NoNormalForm is none = absurd none
 unconverted_unanswered p style task to path NoRelativePath is none = absurd none
 unconverted_unanswered p style task to path (NoJoin error) is none = absurd none
-unconverted_unanswered p style task to path (NoJoinAt error index text) is none = absurd none
+unconverted_unanswered p style task to path (NoJoinAt error text) is none = absurd none
 unconverted_unanswered p style task to path (NoComponent index text) is none = (to, (is, none))
 unconverted_unanswered p style task to path (NoStringThere error) is none = (to, (is, none))
 
 -- a path that isn't joined to the base has no result
-pub unjoined_unanswered : {E : Type 0} (p : Ghosts E) (style : Style) (task : Task) (base : Bor (List ℕ)) (path : List ℕ) (why : Refusal) → task ≡ JoinChecked base
-    → IsUnjoined p style base.now path why → IsUnanswered p style task path why
+pub unjoined_unanswered : {E : Type 0} (p : Ghosts E) (style : Style) (task : Task) (base : Base) (path : List ℕ) (why : Refusal) → task ≡ JoinChecked base
+    → IsUnjoined p style base path why → IsUnanswered p style task path why
 unjoined_unanswered p style task base path (NoString error) is none = none.1.1
 unjoined_unanswered p style task base path NoNormalForm is none = absurd none.1.1
 unjoined_unanswered p style task base path NoRelativePath is none = absurd none.1.1
 unjoined_unanswered p style task base path (NoJoin error) is none = (base, (is, none))
-unjoined_unanswered p style task base path (NoJoinAt error index text) is none = (base, (is, none))
+unjoined_unanswered p style task base path (NoJoinAt error text) is none = (base, (is, none))
 unjoined_unanswered p style task base path (NoComponent index text) is none = absurd none.1.1
 unjoined_unanswered p style task base path (NoStringThere error) is none = absurd none.1.1

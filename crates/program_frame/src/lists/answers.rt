@@ -37,7 +37,7 @@ use std::io::{Read, Write};
 ///
 /// let mut taken = Vec::new(alloc);
 /// let (mut reader, mut writer) = (Marked::new(b"a\0".as_slice()), Marked::new(&mut taken));
-/// let listing = OnPlatform::<Unix>::new(Settings { task: Task::ListAll, max: 255 });
+/// let listing = OnPlatform::<Unix>::new(Settings::new(Task::ListAll, 255));
 /// let ended: Result<(), Fault> = run_list(alloc, &listing, &mut reader, &mut writer);
 /// assert!(rt; ended.is_ok());
 /// assert_eq!(rt; taken.as_slice(), b"a\n".as_slice());
@@ -80,7 +80,7 @@ pub fn run_list<T: ListTask, U, A: Allocator, R: Read, W: Write>(
 /// use program_frame::marked::Marked;
 ///
 /// let mut taken = Vec::new(alloc);
-/// let (mut reader, mut writer) = (Marked::new(b"..\0a".as_slice()), Marked::new(&mut taken));
+/// let (mut reader, mut writer) = (Marked::new(b"..\0a\0".as_slice()), Marked::new(&mut taken));
 /// let task = OnPlatform::<Unix>::new(Task::Normalize, 255);
 /// let mut refusals = KeepGoing::new("paths", &rt);
 /// let ended: Result<(), Fault> =

@@ -1,10 +1,11 @@
 //! Why a run over a list ends before the list does.
 ghost use Rattle.std.specs.Prelude.{◌≡◌, ℕ, List};
 ghost use Rattle.std.specs.Fmt.{WritesStyledOnOk};
-ghost use Rattle.program_frame.specs.ListFault.{index_text};
+ghost use Rattle.program_frame.specs.ListFault.{index_text, unended_text};
 
 use crate::ended::ProgramFault;
 use crate::fault::Failure;
+use crate::lists::options::ItemEnd;
 use os_str_bytes::write_number;
 use std::fmt;
 use std::fmt::Display as _;
@@ -59,8 +60,8 @@ pub enum ListFault<F> {
     Refused(u64, F),
     /// The item with this number, or the name that it encodes, has more than this many bytes.
     TooLong(u64, usize),
-    /// The item with this number is the last, and lacks the byte that has to end it.
-    Unended(u64),
+    /// The item with this number is the last, and lacks this byte, which has to end it.
+    Unended(u64, ItemEnd),
     /// The input has 2^64 - 1 bytes or more.
     TooMuch,
     /// What keeps the run from going on, whatever the items are.
@@ -87,10 +88,7 @@ impl<F: ItemRefusal> fmt::Display for ListFault<F> {
                 write_number(most, f)?;
                 f.write_str(" bytes")
             }
-            ListFault::Unended(number) => {
-                write_index::<F, W>(number, f)?;
-                f.write_str("no newline ends the line")
-            }
+            ListFault::Unended(number, end) => write_unended::<F, W>(number, end, f),
             ListFault::TooMuch => f.write_str("2^64 bytes of input or more"),
             ListFault::Run(why) => why.fmt(f),
         }
@@ -123,7 +121,7 @@ impl<F: ItemRefusal> ProgramFault for ListFault<F> {
         match self {
             ListFault::Refused(_, _)
             | ListFault::TooLong(_, _)
-            | ListFault::Unended(_)
+            | ListFault::Unended(_, _)
             | ListFault::TooMuch => 1,
             ListFault::Run(why) => why.status(),
         }
@@ -138,4 +136,28 @@ fn write_index<F: ItemRefusal, W: fmt::Write>(number: u64, f: &mut fmt::Formatte
     f.write_str(" ")?;
     write_number(number as usize, f)?;
     f.write_str(": ")
+}
+
+/// Writes which item lacks its end.
+fn write_unended<F: ItemRefusal, W: fmt::Write>(
+    number: u64,
+    end: ItemEnd,
+    f: &mut fmt::Formatter<W>,
+) -> fmt::Result
+    ensures { WritesStyledOnOk W.write_str_gives f.old result (unended_text F.item number end)
+        f.new }
+{
+    match end {
+        ItemEnd::Nul => {
+            f.write_str("no NUL ends ")?;
+            f.write_str(F::item())?;
+            f.write_str(" ")?;
+            write_number(number as usize, f)?;
+            f.write_str("; use find -print0 or git ls-files -z")
+        }
+        ItemEnd::Newline => {
+            write_index::<F, W>(number, f)?;
+            f.write_str("no newline ends the line")
+        }
+    }
 }

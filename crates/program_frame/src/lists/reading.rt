@@ -40,7 +40,7 @@ pub fn read_block<T: ListTask, N: Refusals<T::Refusal>, A: Allocator + Copy>(
 {
     let mut ended = count;
     let mut rest = block;
-    while let Some((last, after)) = split_at_end(task.end(), rest) {
+    while let Some((last, after)) = split_at_end(task.end().byte(), rest) {
         match end_item::<T, N, A>(
             alloc,
             task,

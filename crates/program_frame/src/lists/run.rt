@@ -46,11 +46,10 @@ const BLOCK: usize = 16384;
 /// use program_frame::lists::run::run;
 /// use program_frame::marked::Marked;
 ///
-/// let names: &[u8] = b"a\nb\0\xFF\0c";
+/// let names: &[u8] = b"a\nb\0\xFF\0c\0";
 /// let mut taken = Vec::new(alloc);
 /// let (mut reader, mut writer) = (Marked::new(names), Marked::new(&mut taken));
-/// let settings = Settings { task: Task::ListAll, max: 255 };
-/// let listing = OnPlatform::<Unix>::new(settings);
+/// let listing = OnPlatform::<Unix>::new(Settings::new(Task::ListAll, 255));
 /// assert!(rt; run(alloc, &listing, &mut reader, &mut writer) == Ok(()));
 /// assert_eq!(rt; taken.as_slice(), b"a\\u000Ab\n\\xFF\nc\n".as_slice());
 /// ```
@@ -102,7 +101,7 @@ pub fn run<T: ListTask, A: Allocator, R: Read, W: Write>(
 /// use program_frame::lists::run::run_with;
 /// use program_frame::marked::Marked;
 ///
-/// let paths: &[u8] = b"a/../b\0../c\0d/./e";
+/// let paths: &[u8] = b"a/../b\0../c\0d/./e\0";
 /// let mut taken = Vec::new(alloc);
 /// let (mut reader, mut writer) = (Marked::new(paths), Marked::new(&mut taken));
 /// let task = OnPlatform::<Unix>::new(Task::Normalize, 255);
@@ -276,7 +275,7 @@ fn finish<T: ListTask, N: Refusals<T::Refusal>, A: Allocator + Copy, W: Write>(
         return Ok(());
     }
     if !task.takes_unended() {
-        return Err(ListFault::Unended(count + 1));
+        return Err(ListFault::Unended(count + 1, task.end()));
     }
     let mut output = Vec::new(alloc);
     match write_at::<T, N, A>(alloc, task, memory, count + 1, begun, refusals, &mut output) {

@@ -1,8 +1,10 @@
 //! What is done with each item of a list.
 ghost use Rattle.std.specs.Prelude.{◌≡◌, ◌↔◌, ◌-◌, ◌^◌, ◌≤◌, ◌++◌, ℕ, List, length, min, IsTrue, OnOk, OnErr, IfErr};
+ghost use Rattle.program_frame.specs.ListOptions.{byte_of};
 ghost use Rattle.program_frame.specs.Rules.{ListRules, IsItemFault};
 
 use crate::lists::fault::ItemFault;
+use crate::lists::options::ItemEnd;
 use std::alloc::Allocator;
 
 /// What is done with each item of a list.
@@ -23,13 +25,14 @@ pub trait ListTask {
     /// ```
     /// use names_commands::task::{OnPlatform, Settings, Task};
     /// use os_str_bytes::Unix;
+    /// use program_frame::lists::options::ItemEnd;
     /// use program_frame::lists::task::ListTask;
     ///
-    /// let settings = Settings { task: Task::Check, max: 255 };
-    /// assert_eq!(rt; OnPlatform::<Unix>::new(settings).end(), 0);
+    /// let settings = Settings::new(Task::Check, 255);
+    /// assert!(rt; OnPlatform::<Unix>::new(settings).end() == ItemEnd::Nul);
     /// ```
-    fn end(&self) -> u8
-        ensures { result ≡ (rules self.now).end };
+    fn end(&self) -> ItemEnd
+        ensures { byte_of result ≡ (rules self.now).end };
 
     /// Whether the last item may lack the byte that ends it.
     ///
@@ -38,8 +41,8 @@ pub trait ListTask {
     /// use os_str_bytes::Unix;
     /// use program_frame::lists::task::ListTask;
     ///
-    /// let settings = Settings { task: Task::Check, max: 255 };
-    /// assert!(rt; OnPlatform::<Unix>::new(settings).takes_unended());
+    /// let settings = Settings::new(Task::Check, 255);
+    /// assert!(rt; !OnPlatform::<Unix>::new(settings).takes_unended());
     /// ```
     fn takes_unended(&self) -> bool
         ensures { IsTrue result ↔ (rules self.now).takes_unended };
@@ -51,7 +54,7 @@ pub trait ListTask {
     /// use os_str_bytes::Unix;
     /// use program_frame::lists::task::ListTask;
     ///
-    /// let settings = Settings { task: Task::Check, max: 255 };
+    /// let settings = Settings::new(Task::Check, 255);
     /// assert_eq!(rt; OnPlatform::<Unix>::new(settings).max(), 255);
     /// ```
     fn max(&self) -> usize
@@ -60,11 +63,11 @@ pub trait ListTask {
     /// How many bytes an item may have, or `usize::MAX` where that is less.
     ///
     /// ```
-    /// use names_commands::task::{LastLine, OnPlatform, Settings, Task};
+    /// use names_commands::task::{EmptyLine, OnPlatform, Settings, Task};
     /// use os_str_bytes::Unix;
     /// use program_frame::lists::task::ListTask;
     ///
-    /// let settings = Settings { task: Task::Join(LastLine::MustEnd), max: 255 };
+    /// let settings = Settings::new(Task::Join(EmptyLine::IsRejected), 255);
     /// assert_eq!(rt; OnPlatform::<Unix>::new(settings).longest_item(), 1530);
     /// ```
     fn longest_item(&self) -> usize
@@ -77,7 +80,7 @@ pub trait ListTask {
     /// use os_str_bytes::Unix;
     /// use program_frame::lists::task::ListTask;
     ///
-    /// let settings = Settings { task: Task::Check, max: 255 };
+    /// let settings = Settings::new(Task::Check, 255);
     /// let checking = OnPlatform::<Unix>::new(settings);
     /// let mut memory = checking.memory();
     /// let mut output = Vec::new(alloc);
@@ -98,7 +101,7 @@ pub trait ListTask {
     /// use os_str_bytes::Unix;
     /// use program_frame::lists::task::ListTask;
     ///
-    /// let settings = Settings { task: Task::ListAll, max: 255 };
+    /// let settings = Settings::new(Task::ListAll, 255);
     /// let mut output = Vec::new(alloc);
     /// let listing = OnPlatform::<Unix>::new(settings);
     /// let mut memory = listing.memory();

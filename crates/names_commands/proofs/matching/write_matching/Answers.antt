@@ -2,6 +2,7 @@ use Rattle.std.proofs.Common.{inl, inr, ◌++◌, ◌∷◌, [], refl, sym, ◌�
 use Rattle.std.proofs.lemmas.Result.{on_ok_weaker}
 use Rattle.os_ignore.specs.Ignores.{files_of}
 use Rattle.os_quote.specs.Escape.{IsLineEscape}
+use Rattle.program_frame.specs.ListOptions.{byte_of}
 use Rattle.names_commands.specs.Matching.{IsInForm, IsPickedBy}
 use Rattle.names_commands.proofs.matching.write_matching.Goals as goal
 
@@ -11,7 +12,7 @@ returns-then-not-picks-clause-ok g c =
     let other : ¬ (Picked c.args.item.now) = λ picked.
     let picks = c.in-Ok-picks.ensures.picks.1 (subst Picked (sym c.in-Ok.ensures.bytes) picked) in
     let never = sym picks ∙ c.if-not-picks.true in cc in
-    ([], ((c.in-Ok.ensures.formed, inr (other, refl)), sym (append-nil c.args.output.now.items)))
+    ([], ((c.in-Ok.ensures.formed, (c.in-Ok.ensures.whole, inr (other, refl))), sym (append-nil c.args.output.now.items)))
 
 pub returns-in-Line-clause-ok : goal.returns-in-Line-clause-ok
 returns-in-Line-clause-ok g c =
@@ -21,7 +22,7 @@ returns-in-Line-clause-ok g c =
     on_ok_weaker c.write_line.result
     (λ w.
     let line = subst (λ n. IsLineEscape P.units n w.0) c.in-Ok.ensures.bytes w.1.0 in
-    (w.0 ++ 0x0A ∷ [], ((c.in-Ok.ensures.formed, inl (picked, subst (λ f. IsInForm P f name (w.0 ++ 0x0A ∷ [])) (sym c.in-Line.is) (w.0, line, refl))), w.1.1)))
+    (w.0 ++ 0x0A ∷ [], ((c.in-Ok.ensures.formed, (c.in-Ok.ensures.whole, inl (picked, subst (λ f. IsInForm P f c.args.end name (w.0 ++ 0x0A ∷ [])) (sym c.in-Line.is) (w.0, line, refl)))), w.1.1)))
     c.write_line.ensures.line
 
 pub returns-in-Name-clause-ok : goal.returns-in-Name-clause-ok
@@ -30,7 +31,7 @@ returns-in-Name-clause-ok g c =
     let name = c.args.item.now in
     let picked = subst (IsPickedBy P c.args.picker.now.inverted c.args.picker.now.globs (files_of c.args.picker.now.ignore.now)) c.in-Ok.ensures.bytes (c.in-Ok-picks.ensures.picks.0 c.if-not-picks.false) in
     on_ok_weaker c.push_name.result
-    (λ e. (name ++ 0 ∷ [], ((c.in-Ok.ensures.formed, inl (picked, subst (λ f. IsInForm P f name (name ++ 0 ∷ [])) (sym c.in-Name.is) refl)), e)))
+    (λ e. (name ++ byte_of c.args.end ∷ [], ((c.in-Ok.ensures.formed, (c.in-Ok.ensures.whole, inl (picked, subst (λ f. IsInForm P f c.args.end name (name ++ byte_of c.args.end ∷ [])) (sym c.in-Name.is) refl))), e)))
     c.push_name.ensures.ok
 
 pub returns-in-Word-clause-ok : goal.returns-in-Word-clause-ok
@@ -39,5 +40,5 @@ returns-in-Word-clause-ok g c =
     let name = c.args.item.now in
     let picked = subst (IsPickedBy P c.args.picker.now.inverted c.args.picker.now.globs (files_of c.args.picker.now.ignore.now)) c.in-Ok.ensures.bytes (c.in-Ok-picks.ensures.picks.0 c.if-not-picks.false) in
     on_ok_weaker c.write_word.result
-    (λ w. (w.0, ((c.in-Ok.ensures.formed, inl (picked, subst (λ f. IsInForm P f name w.0) (sym c.in-Word.is) w.1.0)), w.1.1)))
+    (λ w. (w.0, ((c.in-Ok.ensures.formed, (c.in-Ok.ensures.whole, inl (picked, subst (λ f. IsInForm P f c.args.end name w.0) (sym c.in-Word.is) w.1.0))), w.1.1)))
     c.write_word.ensures.line

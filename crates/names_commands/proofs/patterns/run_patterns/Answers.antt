@@ -45,5 +45,5 @@ returns-clause-run g c =
     let globs_are : its.picker.globs ≡ globs = ap (λ k. k.globs) c.new-matching.ensures.picker in
     let inverted_is : its.picker.inverted ≡ plan.pick.inverted = ap (λ k. k.inverted) c.new-matching.ensures.picker in
     let files_are : files_of its.picker.ignore.now ≡ files = ap (λ k. files_of k.ignore.now) c.new-matching.ensures.picker in
-    let ran = matching_runs P plan.form its.form plan.max its.max plan.pick.inverted its.picker.inverted globs its.picker.globs files (files_of its.picker.ignore.now) input left old new c.run_list.result c.new-matching.ensures.form c.new-matching.ensures.max inverted_is globs_are files_are c.run_list.ensures.run in
-    inr (inr (written, are_written P o texts set.set.patterns.items c.in-Ok.ensures.1, same_but (g.F.Files.known c.args.files.now) g.row.A.Denot P plan.form plan.max plan.pick.inverted (IsChosenBy P globs) (IsChosen P o written) choose (map text_of c.args.names.now) input left old new c.run_list.result (inr (files, c.in-Ok-read_ignore.ensures, ran))))
+    let ran = matching_runs P plan.form its.form plan.list its.list plan.pick.inverted its.picker.inverted globs its.picker.globs files (files_of its.picker.ignore.now) input left old new c.run_list.result c.new-matching.ensures.form c.new-matching.ensures.list inverted_is globs_are files_are c.run_list.ensures.run in
+    inr (inr (written, are_written P o texts set.set.patterns.items c.in-Ok.ensures.1, same_but (g.F.Files.known c.args.files.now) g.row.A.Denot P plan.form plan.list plan.pick.inverted (IsChosenBy P globs) (IsChosen P o written) choose (map text_of c.args.names.now) input left old new c.run_list.result (inr (files, c.in-Ok-read_ignore.ensures, ran))))

@@ -5,25 +5,25 @@ use Rattle.names_commands.proofs.words.push_names.Goals as goal
 
 pub loop-word-preserved : goal.loop-word-preserved
 loop-word-preserved g c =
-    let max = c.args.max in
+    let list = c.args.list in
     let line = c.args.line.now in
     let old = c.args.names.now.items in
     let left = c.next.new.self in
-    let begun = subst (λ items. IsBegun max line items old c.loop-word.names.items) (c.in-Some.ensures.steps ∙ ap (λ item. item_bytes item ∷ left) c.in-Ok.is) c.loop-word.invariant in
-    one_begun max line left old c.loop-word.names.items c.push_name.new.names.items (word_bytes c.in-Ok.word) begun c.in-Ok-push_name.ensures.name c.in-Ok-push_name.ensures.ok
+    let begun = subst (λ items. IsBegun list line items old c.loop-word.names.items) (c.in-Some.ensures.steps ∙ ap (λ item. item_bytes item ∷ left) c.in-Ok.is) c.loop-word.invariant in
+    one_begun list line left old c.loop-word.names.items c.push_word.new.names.items (word_bytes c.in-Ok.word) begun c.in-Ok-push_word.ensures.name c.in-Ok-push_word.ensures.ok
 
-pub returns-in-Err-push_name-clause-fault : goal.returns-in-Err-push_name-clause-fault
-returns-in-Err-push_name-clause-fault g c =
-    let max = c.args.max in
+pub returns-in-Err-push_word-clause-fault : goal.returns-in-Err-push_word-clause-fault
+returns-in-Err-push_word-clause-fault g c =
+    let list = c.args.list in
     let line = c.args.line.now in
     let old = c.args.names.now.items in
     let left = c.next.new.self in
-    let begun = subst (λ items. IsBegun max line items old c.loop-word.names.items) (c.in-Some.ensures.steps ∙ ap (λ item. item_bytes item ∷ left) c.in-Ok.is) c.loop-word.invariant in
-    word_fault max line left old c.loop-word.names.items (word_bytes c.in-Ok.word) c.in-Err-push_name.fault begun c.in-Err-push_name.ensures.fault
+    let begun = subst (λ items. IsBegun list line items old c.loop-word.names.items) (c.in-Some.ensures.steps ∙ ap (λ item. item_bytes item ∷ left) c.in-Ok.is) c.loop-word.invariant in
+    word_fault list line c.requires left old c.loop-word.names.items (word_bytes c.in-Ok.word) c.in-Err-push_word.fault begun c.in-Err-push_word.ensures.fault
 
 pub returns-clause-ok : goal.returns-clause-ok
 returns-clause-ok g c =
-    let max = c.args.max in
+    let list = c.args.list in
     let line = c.args.line.now in
     let old = c.args.names.now.items in
-    all_begun max line old c.loop-word.names.items (subst (λ items. IsBegun max line items old c.loop-word.names.items) c.in-None.ensures.steps.0 c.loop-word.invariant)
+    all_begun list line c.requires old c.loop-word.names.items (subst (λ items. IsBegun list line items old c.loop-word.names.items) c.in-None.ensures.steps.0 c.loop-word.invariant)

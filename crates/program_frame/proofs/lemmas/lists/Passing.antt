@@ -54,7 +54,7 @@ module _ {F : Type 0} (list : ListRules F) (takes other : List ℕ → List ℕ 
   stops_with : (input output : List ℕ) (fault : ListFault F) → StopsOn ours input output fault → StopsOn theirs input output fault
   stops_with input output (Refused n why) s = stop_with start input output (Refused n why) s
   stops_with input output (TooLong n most) s = stop_with start input output (TooLong n most) s
-  stops_with input output (Unended n) s = stop_with start input output (Unended n) s
+  stops_with input output (Unended n end) s = stop_with start input output (Unended n end) s
   stops_with input output TooMuch s = (s.0, begins_with input output s.1)
   stops_with input output (Run why) s = begins_with input output s
 

@@ -12,7 +12,7 @@ use Rattle.program_frame.specs.Reading.{State, HasBegun, Reads, Stops, IsEnded, 
 pub ends_any : {F : Type 0} (stops : Type 0) (fault : ListFault F) → EndsRun ⊥ fault → EndsRun stops fault
 ends_any stops (Refused n why) e = absurd e
 ends_any stops (TooLong n most) e = tt
-ends_any stops (Unended n) e = tt
+ends_any stops (Unended n end) e = tt
 ends_any stops TooMuch e = tt
 ends_any stops (Run why) e = tt
 
@@ -80,7 +80,7 @@ module _ {F : Type 0} (list : ListRules F) where
   pub of_item : (number : ℕ) (item : List ℕ) (fault : ListFault F) → IsFaultAt list number item fault → IsRefused list number item fault
   of_item number item (Refused n why) h = h
   of_item number item (TooLong n most) h = h
-  of_item number item (Unended n) h = absurd h
+  of_item number item (Unended n end) h = absurd h
   of_item number item TooMuch h = absurd h
   of_item number item (Run why) h = h
 
@@ -108,7 +108,7 @@ module _ {F : Type 0} (list : ListRules F) where
       then_end : (f : ListFault F) (r : List ℕ) → IsFaultAt list (mid.count + 1) (mid.begun ++ last) f → IsEnded list f (list.end ∷ r)
       then_end (Refused n why) r h = inr (r, refl)
       then_end (TooLong n most) r h = tt
-      then_end (Unended n) r h = absurd h
+      then_end (Unended n end) r h = absurd h
       then_end TooMuch r h = tt
       then_end (Run why) r h = tt
 

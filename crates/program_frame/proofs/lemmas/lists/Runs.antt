@@ -128,7 +128,7 @@ module _ {F : Type 0} (list : ListRules F) where
   of_stops : (input text : List ℕ) (fault : ListFault F) → Stops list start input text fault → StopsOn list input text fault
   of_stops input text (Refused n why) q = q
   of_stops input text (TooLong n most) q = q
-  of_stops input text (Unended n) q = q
+  of_stops input text (Unended n end) q = q
   of_stops input text TooMuch q = absurd q.because
   of_stops input text (Run why) q = of_begins input text (stops_begin start input text (Run why) q)
 
@@ -140,7 +140,7 @@ module _ {F : Type 0} (list : ListRules F) where
   pub at_end : (f : ListFault F) → (n : ℕ) (item : List ℕ) → list.takes_unended → IsFaultAt list n item f → IsEnded list f []
   at_end (Refused m why) n item t h = inl (refl, t)
   at_end (TooLong m most) n item t h = tt
-  at_end (Unended m) n item t h = refl
+  at_end (Unended m end) n item t h = refl
   at_end TooMuch n item t h = tt
   at_end (Run why) n item t h = tt
 

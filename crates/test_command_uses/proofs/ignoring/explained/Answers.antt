@@ -7,6 +7,6 @@ use Rattle.test_command_uses.proofs.ignoring.explained.Goals as goal
 pub returns : goal.returns
 returns g c =
     let file = c.args.file in
-    program_explained c.one_outcome.ensures.next c.one_outcome.ensures.value g.row.A.Denot file.name.now file.bytes.now c.args.name.now c.requires.plain c.requires.whole c.requires.some _ c.requires.words _ _ _
-    (outcome_of c.execute.result) c.outcome.result c.outcome.ensures
+    program_explained c.one_outcome.ensures.next c.one_outcome.ensures.value g.row.A.Denot file.name.now file.bytes.now c.args.name.now c.requires.plain c.requires.whole _ c.requires.words _ _ _ c.args.names.now
+    (outcome_of c.execute.result) c.outcome.result c.requires.ended c.outcome.ensures
     (rw (c.new-names.ensures, c.new-reader.ensures.inner) at c.execute.ensures.run)

@@ -1,8 +1,8 @@
-use Rattle.std.proofs.Common.{refl, sym, ◌∙◌, subst}
+use Rattle.std.proofs.Common.{◌≡◌, Some, None, refl, sym, ◌∙◌, subst}
 use Rattle.std.proofs.lemmas.Result.{IfErr-weaker}
-use Rattle.path_building.specs.Checked.{IsJoinFault}
-use Rattle.paths_commands.specs.AtFault.{IsAtFault, LacksFault}
-use Rattle.paths_commands.specs.Task.{rules_of}
+use Rattle.path_building.specs.BaseViews.{base_style}
+use Rattle.path_building.specs.Faults.{IsNameFault}
+use Rattle.paths_commands.specs.Task.{component_of, rules_of}
 use Rattle.paths_commands.specs.declared.fault.Refusal.TheVariants.{NoJoin, NoJoinAt}
 use Rattle.paths_commands.specs.declared.task.Task.TheVariants.{JoinChecked}
 use Rattle.program_frame.specs.ListRun.{StopsOn}
@@ -16,11 +16,12 @@ returns-clause-at g c =
     let path = c.args.path.now in
     let base = c.args.base in
     IfErr-weaker c.ask.result _ _
-    (λ fault stopped number error index text is.
+    (λ fault stopped number error text is.
     let s = stopped (λ e. no_write number _ (sym is ∙ e)) in
-    let told = known_unjoined P S (JoinChecked base) 4096 base path s.0 number (NoJoinAt error index text) refl tt c.requires.whole (subst (λ f. StopsOn (rules_of P S (JoinChecked base) 4096) path s.0 f) is s.1.0) in
-    let same = sym told.1.1.1.0 in
-    (told.0, (subst (IsJoinFault S base.now path) same told.1.1.0.1, (subst (λ e. IsAtFault S e path index) same told.1.1.1.1.0, told.1.1.1.1.1))))
+    let found = known_unjoined P S (JoinChecked base) 4096 base path s.0 number (NoJoinAt error text) refl tt c.requires.whole (subst (λ f. StopsOn (rules_of P S (JoinChecked base) 4096) path s.0 f) is s.1.0) in
+    let same = sym found.1.1.1.0 in
+    let at = found.1.1.1.1 in
+    (found.0, (subst (IsNameFault (base_style base) path) same found.1.1.0.1, (at.0, (subst (λ e. component_of e ≡ Some at.0) same at.1.0, at.1.1)))))
     c.ask.ensures.stopped
 
 pub returns-clause-alone : goal.returns-clause-alone
@@ -32,7 +33,7 @@ returns-clause-alone g c =
     IfErr-weaker c.ask.result _ _
     (λ fault stopped number error is.
     let s = stopped (λ e. no_write number _ (sym is ∙ e)) in
-    let told = known_unjoined P S (JoinChecked base) 4096 base path s.0 number (NoJoin error) refl tt c.requires.whole (subst (λ f. StopsOn (rules_of P S (JoinChecked base) 4096) path s.0 f) is s.1.0) in
-    let same = sym told.1.1.1.0 in
-    (told.0, (subst (IsJoinFault S base.now path) same told.1.1.0.1, subst (λ e. LacksFault S e path) same told.1.1.1.1)))
+    let found = known_unjoined P S (JoinChecked base) 4096 base path s.0 number (NoJoin error) refl tt c.requires.whole (subst (λ f. StopsOn (rules_of P S (JoinChecked base) 4096) path s.0 f) is s.1.0) in
+    let same = sym found.1.1.1.0 in
+    (found.0, (subst (IsNameFault (base_style base) path) same found.1.1.0.1, subst (λ e. component_of e ≡ None) same found.1.1.1.1)))
     c.ask.ensures.stopped

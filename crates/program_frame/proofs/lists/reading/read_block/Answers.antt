@@ -1,4 +1,4 @@
-use Rattle.std.proofs.Common.{refl, subst, arith}
+use Rattle.std.proofs.Common.{refl, ◌∙◌, subst, arith}
 use Rattle.program_frame.specs.Items.{Lacks, IsCutAt}
 use Rattle.program_frame.specs.Rules.{passing}
 use Rattle.program_frame.proofs.lemmas.lists.Passing.{later_up_to}
@@ -15,7 +15,7 @@ loop-last-init g c = record {
 pub loop-last-preserved : goal.loop-last-preserved
 loop-last-preserved g c =
     let text = c.in-Ok.ensures.ok in
-    let cut = subst (λ x. IsCutAt x c.loop-last.rest.now c.in-Some.last.now c.in-Some.after.now) c.end.ensures c.in-Some.ensures in
+    let cut = subst (λ x. IsCutAt x c.loop-last.rest.now c.in-Some.last.now c.in-Some.after.now) (c.byte.ensures ∙ c.end.ensures) c.in-Some.ensures in
     let before = later_up_to (g.T.ListTask.rules c.args.task.now) _ (g.N.Refusals.passed c.end_item.new.refusals) c.in-Ok.ensures.more _ _ _ _ c.loop-last.invariant.up_to in record {
       up_to = after_item (passing (g.N.Refusals.passed c.end_item.new.refusals) (g.T.ListTask.rules c.args.task.now)) _ _ _ _ _ _ _ _ _ before cut text.1 text.2 refl _ c.in-Ok.ensures.none;
       more = omega (arith, c.loop-last.invariant.more, c.in-Ok.ensures.more);
@@ -25,7 +25,7 @@ loop-last-preserved g c =
 pub returns-in-Err : goal.returns-in-Err
 returns-in-Err g c =
     let list = passing (g.N.Refusals.passed c.end_item.new.refusals) (g.T.ListTask.rules c.args.task.now) in
-    let cut = subst (λ x. IsCutAt x c.loop-last.rest.now c.in-Some.last.now c.in-Some.after.now) c.end.ensures c.in-Some.ensures in
+    let cut = subst (λ x. IsCutAt x c.loop-last.rest.now c.in-Some.last.now c.in-Some.after.now) (c.byte.ensures ∙ c.end.ensures) c.in-Some.ensures in
     let before = later_up_to (g.T.ListTask.rules c.args.task.now) _ (g.N.Refusals.passed c.end_item.new.refusals) c.in-Err.ensures.more _ _ _ _ c.loop-last.invariant.up_to in record {
       ok = tt;
       fault = at_item list _ _ _ _ _ _ _ _ before cut c.in-Err.ensures.fault c.in-Err.ensures.unchanged;
@@ -37,7 +37,7 @@ returns-in-Err g c =
 pub returns-in-Ok-keep : goal.returns-in-Ok-keep
 returns-in-Ok-keep g c =
     let list = passing (g.N.Refusals.passed c.loop-last.refusals) (g.T.ListTask.rules c.args.task.now) in
-    let lacks = subst (λ x. Lacks x c.loop-last.rest.now) c.end.ensures c.in_default.ensures in record {
+    let lacks = subst (λ x. Lacks x c.loop-last.rest.now) (c.byte.ensures ∙ c.end.ensures) c.in_default.ensures in record {
       ok = at_end list _ _ _ _ _ _ c.loop-last.invariant.up_to lacks c.in-Ok-keep.ensures.kept c.in-Ok-keep.ensures.short refl;
       fault = tt;
       more = c.loop-last.invariant.more;
@@ -48,7 +48,7 @@ returns-in-Ok-keep g c =
 pub returns-in-Err-keep : goal.returns-in-Err-keep
 returns-in-Err-keep g c =
     let list = passing (g.N.Refusals.passed c.loop-last.refusals) (g.T.ListTask.rules c.args.task.now) in
-    let lacks = subst (λ x. Lacks x c.loop-last.rest.now) c.end.ensures c.in_default.ensures in record {
+    let lacks = subst (λ x. Lacks x c.loop-last.rest.now) (c.byte.ensures ∙ c.end.ensures) c.in_default.ensures in record {
       ok = tt;
       fault = not_kept list _ _ _ _ _ _ c.loop-last.invariant.up_to lacks c.in-Err-keep.ensures.fault refl;
       more = c.loop-last.invariant.more;

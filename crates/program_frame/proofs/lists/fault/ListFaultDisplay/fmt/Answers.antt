@@ -18,17 +18,8 @@ returns-in_ok-write_number-in-TooLong-clause-styled g c = λ flush ok.
     let end = c.write_str-in-TooLong.ensures.styled number.flush ok in
     has_written_styled_of_eq _ _ _ _ _ (sym (ap (text_of g.F.ItemRefusal.item g.F.ItemRefusal.text_of) c.in-TooLong.is)) (has_written_styled_append _ _ _ _ _ _ head (has_written_styled_append _ _ _ _ _ _ longer (has_written_styled_append _ _ _ _ _ _ number end)))
 
-pub returns-in_ok-write_index-in-Unended-clause-styled : goal.returns-in_ok-write_index-in-Unended-clause-styled
-returns-in_ok-write_index-in-Unended-clause-styled g c = λ flush ok.
-    let head = c.in_ok-write_index-in-Unended.ensures flush (refl {a = true}) in
-    let end = c.write_str-in-Unended.ensures.styled head.flush ok in
-    has_written_styled_of_eq _ _ _ _ _ (sym (ap (text_of g.F.ItemRefusal.item g.F.ItemRefusal.text_of) c.in-Unended.is)) (has_written_styled_append _ _ _ _ _ _ head end)
-
 pub returns-in_ok-write_index-in-Refused-clause-writes : goal.returns-in_ok-write_index-in-Refused-clause-writes
 returns-in_ok-write_index-in-Refused-clause-writes g c = λ plain ok. plainly plain (returns-in_ok-write_index-in-Refused-clause-styled g c plain.flush ok)
 
 pub returns-in_ok-write_number-in-TooLong-clause-writes : goal.returns-in_ok-write_number-in-TooLong-clause-writes
 returns-in_ok-write_number-in-TooLong-clause-writes g c = λ plain ok. plainly plain (returns-in_ok-write_number-in-TooLong-clause-styled g c plain.flush ok)
-
-pub returns-in_ok-write_index-in-Unended-clause-writes : goal.returns-in_ok-write_index-in-Unended-clause-writes
-returns-in_ok-write_index-in-Unended-clause-writes g c = λ plain ok. plainly plain (returns-in_ok-write_index-in-Unended-clause-styled g c plain.flush ok)

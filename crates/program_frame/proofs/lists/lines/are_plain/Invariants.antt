@@ -1,6 +1,6 @@
 use Rattle.std.specs.Prelude.{IsTrue}
 use Rattle.os_quote.specs.Plain.{IsPlainUpTo}
-use Rattle.program_frame.proofs.lists.lines.is_plain.Given as goal
+use Rattle.program_frame.proofs.lists.lines.are_plain.Given as goal
 
 -- the bytes so far are plain where it is true
 abbrev pub invariant-loop-byte : goal.invariant-loop-byte

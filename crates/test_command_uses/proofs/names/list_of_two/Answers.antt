@@ -1,0 +1,5 @@
+use Rattle.test_command_uses.proofs.KnownLists.{usual_of_two}
+use Rattle.test_command_uses.proofs.names.list_of_two.Goals as goal
+
+pub returns-in-Ok : goal.returns-in-Ok
+returns-in-Ok c = usual_of_two _ _ c.in-Ok.request c.in-Ok.ensures.request
