@@ -2,10 +2,11 @@
 ghost use Rattle.std.specs.Prelude.{[], map, IfErr, IfOk};
 ghost use Rattle.std.specs.Option.{option_map};
 ghost use Rattle.path_rules.specs.Views.{item_of};
-ghost use Rattle.path_building.specs.Checked.{IsBelowBase, IsCheckedJoin, IsJoinFault};
+ghost use Rattle.path_building.specs.Checked.{IsBelowBase, IsCheckedJoin};
 ghost use Rattle.path_building.specs.CheckedEnd.{IsCheckedJoinEnded};
 ghost use Rattle.path_building.specs.Cleaned.{IsCleaned};
 ghost use Rattle.path_building.specs.Collected.{ArePushed};
+ghost use Rattle.path_building.specs.Faults.{IsJoinFault};
 ghost use Rattle.path_building.specs.FileStem.{IsStemSet};
 ghost use Rattle.path_building.specs.Normalized.{IsNormalized, IsNormalizeFault};
 ghost use Rattle.path_building.specs.Relative.{IsRelativeFrom};

@@ -4,6 +4,7 @@ use Rattle.wtf8_core.specs.Truncated.{IsTruncated}
 use Rattle.wtf8_core.proofs.lemmas.buffers.Truncated.{whole}
 use Rattle.os_quote.specs.Escape.{IsEscapeBy}
 use Rattle.os_quote.specs.Unescaped.{IsUnescapedBy}
+use Rattle.os_quote.specs.declared.form.Form.{Form}
 use Rattle.osbytes_c.specs.Answers.{Writes, IsDone, IsWritten}
 
 pub written : {Wanted : List ℕ → Type 0} {status count : ℕ} {list given old new : List ℕ} → Wanted list → given ≡ list → IsDone status (IsTruncated given old new count) (length old) count → IsWritten status Wanted old new count
@@ -18,8 +19,8 @@ there {Wanted} {count} {old} {new} w =
     subst Wanted (sym (whole w.0.0 old new count t (omega (arith, w.1, t.same_length)))) w.0.1.0
 
 -- the same of the string with an escape
-pub unescaped_there : {shows : ℕ → Bool} {formed : List ℕ → Type 0} {units : List ℕ → List ℕ} {text old new : List ℕ} {count : ℕ}
-    → IsUnescapedBy shows formed units text old new count × (count ≤ length old) → formed (take count new) × IsEscapeBy shows units (take count new) text
-unescaped_there {shows} {formed} {units} {text} {old} {new} {count} w =
+pub unescaped_there : {form : Form} {formed : List ℕ → Type 0} {units : List ℕ → List ℕ} {text old new : List ℕ} {count : ℕ}
+    → IsUnescapedBy form formed units text old new count × (count ≤ length old) → formed (take count new) × IsEscapeBy form units (take count new) text
+unescaped_there {form} {formed} {units} {text} {old} {new} {count} w =
     let t = w.0.written in
-    subst (λ s. formed s × IsEscapeBy shows units s text) (sym (whole w.0.string old new count t (omega (arith, w.1, t.same_length)))) (w.0.escape w.1)
+    subst (λ s. formed s × IsEscapeBy form units s text) (sym (whole w.0.string old new count t (omega (arith, w.1, t.same_length)))) (w.0.escape w.1)

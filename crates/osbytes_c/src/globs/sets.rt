@@ -250,6 +250,7 @@ fn keep_too(other: &mut HeldGlobs, globs: &Globs) -> u32
 pub extern "C" fn osb_core_globs_free(held: &mut HeldGlobs) -> u32
     ensures none { held.new.globs ≡ None }
     ensures was { (result ≡ 0) ↔ (is_some held.old.globs ≡ true) }
+    ensures answers { IsOneOf (0 ∷ 26 ∷ []) result }
 {
     if !is_full(held) {
         return EMPTY;

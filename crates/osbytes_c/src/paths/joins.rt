@@ -1,17 +1,16 @@
 //! A path after another, and how a path is reached from another.
 ghost use Rattle.std.specs.Prelude.{◌≡◌, ◌≢◌, ◌<◌, ◌↔◌, ◌∷◌, [], Some, None};
-ghost use Rattle.path_building.specs.declared.checked.JoinError.TheVariants as why;
 ghost use Rattle.path_building.specs.Checked.{IsCheckedJoin};
 ghost use Rattle.path_building.specs.Join.{IsJoin};
 ghost use Rattle.path_building.specs.Relative.{IsRelativeFrom};
 ghost use Rattle.osbytes_c.specs.Answers.{IsOneOf, IsWritten};
-ghost use Rattle.osbytes_c.specs.PathBuilding.{IsJoinReason, reason_number};
+ghost use Rattle.osbytes_c.specs.PathBuilding.{IsJoinReason, no_memory, reason_number};
 ghost use Rattle.osbytes_c.specs.PathSpans.{style_on};
 
 use crate::built::write_list;
 use crate::paths::predicates::style_of;
 use crate::status::{BAD_PATH, NO_MEMORY, NO_PLATFORM, NONE};
-use path_building::{JoinError, join, join_checked, relative_from};
+use path_building::{BaseError, JoinError, NameError, join, join_checked, relative_from};
 use std::alloc::Global;
 
 /// Writes a path after a base into `out`, as far as there is room, and counts its bytes.
@@ -40,7 +39,8 @@ pub extern "C" fn osb_core_path_join(
 
 /// Writes a path below a base, or a number for why there is none. 1: the path has a prefix. 2: it
 /// has a root. 3: one of its `..` leaves the base. 4: a name of a Windows path has a colon. 5: one
-/// is reserved. 6: the base isn't a place of its own. 7: the path has a NUL. 8: the base has one.
+/// is reserved. 6: the base of Windows is incomplete or has a reserved name. 7: the path has a NUL.
+/// 8: the base has one.
 #[unsafe(no_mangle)]
 pub extern "C" fn osb_core_path_join_checked(
     alloc: Global,
@@ -68,19 +68,20 @@ pub extern "C" fn osb_core_path_join_checked(
 
 /// The status of a path that isn't joined, and the number of the reason.
 fn refused(error: JoinError, reason: &mut u32) -> u32
-    ensures path { result ≡ 12 → (error ≢ why.Memory) × (reason.new ≡ reason_number error) }
+    ensures path { result ≡ 12 → (error ≢ no_memory) × (reason.new ≡ reason_number error) }
     ensures answers { IsOneOf (11 ∷ 12 ∷ []) result }
 {
     *reason = match error {
-        JoinError::Prefix => 1,
-        JoinError::Root => 2,
-        JoinError::Leaves => 3,
-        JoinError::Stream => 4,
-        JoinError::Reserved => 5,
-        JoinError::Base => 6,
-        JoinError::Nul(_) => 7,
-        JoinError::BaseNul(_) => 8,
-        JoinError::Memory => return NO_MEMORY,
+        JoinError::Name(NameError::Prefix) => 1,
+        JoinError::Name(NameError::Root) => 2,
+        JoinError::Name(NameError::Leaves(_)) => 3,
+        JoinError::Name(NameError::Stream(_)) => 4,
+        JoinError::Name(NameError::Reserved(_)) => 5,
+        JoinError::Base(BaseError::Incomplete) => 6,
+        JoinError::Base(BaseError::Reserved) => 6,
+        JoinError::Name(NameError::Nul(_)) => 7,
+        JoinError::Base(BaseError::Nul(_)) => 8,
+        JoinError::Name(NameError::Memory) => return NO_MEMORY,
     };
     BAD_PATH
 }

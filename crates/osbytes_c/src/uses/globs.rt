@@ -1,6 +1,7 @@
 //! For trying: what a caller of the call that matches path patterns concludes, in each outcome.
-ghost use Rattle.std.specs.Prelude.{◌≡◌, ◌≢◌, ◌<◌, take, IfOk, IfErr};
-ghost use Rattle.osbytes_c.specs.GlobSets.{IsAsked};
+ghost use Rattle.std.specs.Prelude.{◌≡◌, ◌≢◌, ◌<◌, ◌↔◌, ◌∷◌, [], None, is_some, false, true, take, IfOk, IfErr};
+ghost use Rattle.osbytes_c.specs.Answers.{IsOneOf};
+ghost use Rattle.osbytes_c.specs.GlobSets.{IsAnswer, IsAsked};
 ghost use Rattle.osbytes_c.specs.Globs.{AreMatchesTold, AreNoOptions, HasUnstring, IsGlobFault, glob_options};
 ghost use Rattle.osbytes_c.specs.ItemLists.{HasOther};
 ghost use Rattle.osbytes_c.specs.Platforms.{formed_on, units_on};
@@ -8,6 +9,7 @@ ghost use Rattle.osbytes_c.specs.Platforms.{formed_on, units_on};
 use crate::globs::places::HeldGlobs;
 use crate::globs::sets::{
     osb_core_globs_free, osb_core_globs_is_match, osb_core_globs_matches, osb_core_globs_new,
+    osb_core_globs_share,
 };
 use crate::globs::{GlobFault, osb_core_glob_matches};
 use crate::status::DONE;
@@ -91,4 +93,30 @@ pub fn told_kept(
         DONE => Ok(count),
         _ => Err(status),
     }
+}
+
+/// What a place that shares the set of another returns for a path once the other is freed, which is
+/// what that one would have returned. Else why it isn't shared.
+pub fn asked_shared(held: &mut HeldGlobs, other: &mut HeldGlobs, path: &[u8]) -> Result<u32, u32>
+    ensures told { IfOk result (IsAnswer path.now held.old.globs) }
+    ensures none { IfErr result (λ status. status ≡ 26 → is_some held.old.globs ≡ false) }
+    ensures full { IfErr result (λ status. status ≡ 25 → is_some other.old.globs ≡ true) }
+    ensures answers { IfErr result (IsOneOf (11 ∷ 25 ∷ 26 ∷ [])) }
+{
+    let shared = osb_core_globs_share(held, other);
+    if shared != DONE {
+        return Err(shared);
+    }
+    let _freed = osb_core_globs_free(held);
+    Ok(osb_core_globs_is_match(other, path))
+}
+
+/// Whether there was a set. It is freed, and then there is none to free.
+pub fn is_freed(held: &mut HeldGlobs) -> bool
+    ensures was { (result ≡ true) ↔ (is_some held.old.globs ≡ true) }
+    ensures none { held.new.globs ≡ None }
+{
+    let freed = osb_core_globs_free(held);
+    let again = osb_core_globs_free(held);
+    freed == DONE && again == 26
 }

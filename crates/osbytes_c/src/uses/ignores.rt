@@ -1,5 +1,5 @@
 //! For trying: what a caller of the call that reads ignore files concludes, in each outcome.
-ghost use Rattle.std.specs.Prelude.{◌≡◌, ◌<◌, ◌∷◌, [], ℕ, List, length, take, true, IfOk, IfErr};
+ghost use Rattle.std.specs.Prelude.{◌≡◌, ◌<◌, ◌↔◌, ◌∷◌, [], ℕ, List, None, is_some, length, take, true, IfOk, IfErr};
 ghost use Rattle.osbytes_c.specs.Answers.{IsOneOf};
 ghost use Rattle.osbytes_c.specs.IgnoreSets.{IsDecidedOf};
 ghost use Rattle.osbytes_c.specs.Ignores.{AreToldOf};
@@ -51,4 +51,14 @@ pub fn is_decided(
     let decided = osb_core_ignores_match(held, path, is_dir, decision);
     let _freed = osb_core_ignores_free(held);
     added == DONE && decided == DONE
+}
+
+/// Whether files were kept. They are freed, and then there are none to free.
+pub fn is_freed(held: &mut HeldIgnores) -> bool
+    ensures was { (result ≡ true) ↔ (is_some held.old.ignores ≡ true) }
+    ensures none { held.new.ignores ≡ None }
+{
+    let freed = osb_core_ignores_free(held);
+    let again = osb_core_ignores_free(held);
+    freed == DONE && again == 26
 }
