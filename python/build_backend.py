@@ -1,7 +1,7 @@
 """Builds the Python package, as pip calls it (PEP 517), with nothing but Python.
 
-A wheel has the sources, the shared library, and the extension module if there are a C compiler and Python's headers. The
-library is that of lib/PROCESSOR in an unpacked source distribution, or the one that OSBYTES_LIBRARY names. CC names the
+A wheel has the sources, the shared library, and the extension module if there are a C compiler and Python's headers, except
+for Windows. The library is that of lib/PROCESSOR in an unpacked source distribution, or the one that OSBYTES_LIBRARY names. CC names the
 compiler.
 """
 
@@ -27,10 +27,12 @@ from typing import Any, Iterable
 HERE = Path(__file__).resolve().parent
 # In a source distribution these are beside this file, and in the repository not.
 HEADERS = (HERE / "osbytes.h", HERE.parent / "c" / "include" / "osbytes.h")
-LICENSES = tuple(folder / name for folder in (HERE, HERE.parent) for name in ("LICENSE.md", "LICENSE", "NOTICE"))
+LICENSE_FILES = ("LICENSE.md", "LICENSE-APACHE", "LICENSE-MIT", "NOTICE")
+LICENSES = tuple(folder / name for folder in (HERE, HERE.parent) for name in LICENSE_FILES)
 # A fixed time, so that the same sources give the same files.
 MADE = (2026, 1, 1, 0, 0, 0)
-FLAGS = ("-std=gnu11", "-O2", "-fPIC", "-shared", "-Wall")
+# The module names no C library, as libosbytes doesn't, so it runs with glibc and with musl.
+FLAGS = ("-std=gnu11", "-O2", "-fPIC", "-shared", "-nostdlib", "-Wall")
 FIELD = re.compile(r'^(name|version|description|requires-python|license) = "(.*)"$', re.M)
 CLASSIFIER = re.compile(r'^    "(.* :: .*)",$', re.M)
 
@@ -40,14 +42,14 @@ def fields() -> dict[str, str]:
     return dict(FIELD.findall((HERE / "pyproject.toml").read_text(encoding="utf-8")))
 
 
-def metadata() -> str:
-    """Returns what an index shows of the package."""
+def metadata(label: str = "", note: str = "") -> str:
+    """Returns what an index shows of the package, with a label after the version and a note before its page."""
     project = fields()
     classifiers = CLASSIFIER.findall((HERE / "pyproject.toml").read_text(encoding="utf-8"))
     lines = [
         "Metadata-Version: 2.4",
         f"Name: {project['name']}",
-        f"Version: {project['version']}",
+        f"Version: {project['version']}{label}",
         f"Summary: {project['description']}",
         *(f"Classifier: {classifier}" for classifier in classifiers),
         f"Requires-Python: {project['requires-python']}",
@@ -55,7 +57,7 @@ def metadata() -> str:
         *(f"License-File: {path.name}" for path in licenses()),
         "Description-Content-Type: text/markdown",
     ]
-    return "\n".join(lines) + "\n\n" + (HERE / "README.md").read_text(encoding="utf-8")
+    return "\n".join(lines) + "\n\n" + note + (HERE / "README.md").read_text(encoding="utf-8")
 
 
 def licenses() -> list[Path]:
@@ -73,7 +75,7 @@ def compiler_for(processor: str) -> str:
     return os.environ.get("CC", "cc") if processor == platform.machine() else f"{processor}-linux-gnu-gcc"
 
 
-def extension(compiler: str) -> bytes | None:
+def extension(compiler: str, source: Path = HERE / "osbytes" / "_fast.c") -> bytes | None:
     """Returns the extension module, or None if it can't be compiled here."""
     header = next((path for path in HEADERS if path.exists()), None)
     includes = {sysconfig.get_path("include"), sysconfig.get_path("platinclude")}
@@ -82,25 +84,31 @@ def extension(compiler: str) -> bytes | None:
     with tempfile.TemporaryDirectory() as room:
         made = Path(room, "_fast.abi3.so")
         words = [compiler, *FLAGS, f"-I{header.parent}", *(f"-I{include}" for include in includes)]
-        ran = subprocess.run([*words, str(HERE / "osbytes" / "_fast.c"), "-o", str(made)], stderr=subprocess.PIPE, text=True)
+        ran = subprocess.run([*words, str(source), "-o", str(made)], stderr=subprocess.PIPE, text=True)
         if ran.returncode:
             print(f"osbytes: without the extension module: {ran.stderr.strip()[-400:]}", file=sys.stderr)
             return None
         return made.read_bytes()
 
 
-def make_wheel(folder: Path, library: Path, tag: str, compiler: str) -> Path:
-    """Makes a wheel with a library, for the platform of a tag."""
+def make_wheel(folder: Path, library: Path, tag: str, compiler: str = "", label: str = "", note: str = "") -> Path:
+    """Makes a wheel with a library, for the platforms of a tag, which dots divide. For Windows it has no extension module.
+
+    Label and note are those of `metadata`.
+    """
     project = fields()
-    name = f"osbytes-{project['version']}"
+    name = f"osbytes-{project['version']}{label}"
     info = f"{name}.dist-info"
     entries = {f"osbytes/{path.name}": path.read_bytes() for path in sources() if path.suffix != ".c"}
-    entries["osbytes/libosbytes.so"] = library.read_bytes()
-    if (compiled := extension(compiler)) is not None:
+    is_windows = tag.endswith("-win_amd64")
+    entries["osbytes/osbytes.dll" if is_windows else "osbytes/libosbytes.so"] = library.read_bytes()
+    if not is_windows and (compiled := extension(compiler)) is not None:
         entries["osbytes/_fast.abi3.so"] = compiled
     entries.update({f"{info}/licenses/{path.name}": path.read_bytes() for path in licenses()})
-    entries[f"{info}/METADATA"] = metadata().encode()
-    entries[f"{info}/WHEEL"] = f"Wheel-Version: 1.0\nGenerator: osbytes\nRoot-Is-Purelib: false\nTag: {tag}\n".encode()
+    entries[f"{info}/METADATA"] = metadata(label, note).encode()
+    before, _, platforms = tag.rpartition("-")
+    tags = "".join(f"Tag: {before}-{platform}\n" for platform in platforms.split("."))
+    entries[f"{info}/WHEEL"] = f"Wheel-Version: 1.0\nGenerator: osbytes\nRoot-Is-Purelib: false\n{tags}".encode()
     records = "".join(record_of(path, content) for path, content in entries.items())
     entries[f"{info}/RECORD"] = f"{records}{info}/RECORD,,\n".encode()
     file = folder / f"{name}-{tag}.whl"

@@ -67,7 +67,8 @@
  * It may run in a signal handler, too, except for the calls that take memory by malloc: those that
  * build paths (osb_path_join to osb_path_with_added_extension), osb_glob_matches and
  * osb_ignore_matches, which free it before they return, and osb_globs_new .. and osb_ignores_new ..,
- * which keep it until osb_globs_free and osb_ignores_free.
+ * which keep it until osb_globs_free and osb_ignores_free. Patterns and ignore files that are kept may
+ * be used by any number of threads at once, until one of them frees them (osb_globs, osb_ignores).
  *
  * What a caller owes, since no call can test it:
  *   - (at, len) is len readable bytes, (out, room) is room writable items, for the whole call;
@@ -85,9 +86,13 @@
  * stays as it is. A result that is cut off may end within a character, a token or a surrogate pair.
  * With any other status the buffer's content isn't specified, and no count is written.
  *
- * The library is for Linux, on x86-64 and on aarch64. On x86-64 it uses the vector instructions that
- * the processor has (those of x86-64-v2 and x86-64-v3). It detects them once, before main or while
- * it is loaded.
+ * The library is for Linux, on x86-64 and on aarch64, and for Windows on x86-64. On x86-64 it uses the
+ * vector instructions that the processor has (those of x86-64-v2 and x86-64-v3). It detects them
+ * once, before main or while it is loaded.
+ *
+ * On Windows no macro is needed. For osbytes.dll MinGW links libosbytes.dll.a and MSVC osbytes.lib:
+ * cl /I include outside.c lib\osbytes.lib. Without it either links libosbytes.a, which takes malloc
+ * from the program's own runtime.
  */
 #ifndef OSBYTES_H
 #define OSBYTES_H
@@ -111,9 +116,9 @@
 extern "C" {
 #endif
 
-/* The version of this header, 0.2.0, as one number. The shared library's name has its first two parts, which change if
+/* The version of this header, 0.3.0, as one number. The shared library's name has its first two parts, which change if
  * a program that was compiled with the header before them no longer fits the library. */
-#define OSB_VERSION 200
+#define OSB_VERSION 300
 
 /* Returns the version of the library, as OSB_VERSION is that of the header: compare OSB_VERSION / 100 with
  * osb_version() / 100. */
@@ -149,6 +154,7 @@ typedef enum osb_status {
     OSB_TOO_LONG = 21,     /* what the _bound call returns is past SIZE_MAX */
     OSB_BAD_OPTION = 22,   /* there is no such option */
     OSB_BAD_EXTENSION = 23, /* the extension has a separator */
+    OSB_EMPTY = 26,         /* a set or ignore files keep nothing: no call leaves them so */
     OSB_BAD_POINTER = 32   /* null, too long, not aligned, or overlapping */
 } osb_status;
 
@@ -245,9 +251,10 @@ size_t osb_escape_bound(size_t len);
 OSB_NODISCARD osb_status osb_escape(osb_platform platform, const char *at, size_t len, char *out,
                                     size_t room, size_t *count, osb_fault *fault);
 /* Writes the escape of a string for a log line or a terminal, as osb_escape does. In addition, each
- * character that is hidden or changes how the others are shown is \uHHHH or \u{HHHHH}. These are the
- * characters of the categories Cc, Cf, Zl, Zp and Zs except the space, those that Unicode calls
- * default ignorable, and U+2800. */
+ * character that is hidden or changes how the others are shown is \uHHHH or \u{HHHHH}, and so is a
+ * space at the end. Hidden are the categories Cc, Cf, Co, Zl, Zp and Zs except the space, and what Unicode
+ * calls default ignorable. So are noncharacters, the blanks U+2800, U+13441, U+13442 and U+1D159, and all from
+ * U+40000 on. It doesn't find names that look alike. */
 OSB_NODISCARD osb_status osb_escape_line(osb_platform platform, const char *at, size_t len,
                                          char *out, size_t room, size_t *count, osb_fault *fault);
 
@@ -444,14 +451,16 @@ OSB_NODISCARD osb_status osb_path_join(osb_platform platform, const char *base, 
                                        const char *at, size_t len, char *out, size_t room,
                                        size_t *count);
 
-/* Why a path isn't below a base: the first of these that holds, in the order 8, 6, 7, 1 to 5. */
+/* Why a path isn't below a base: the first of these that holds, in the order 8, 6, 7, 1, 2. Of 3 to 5 it is that
+ * of the first component at fault. */
 typedef enum osb_join_reason {
     OSB_JOIN_PREFIX = 1,   /* the path has a prefix */
     OSB_JOIN_ROOT = 2,     /* it has a root */
     OSB_JOIN_LEAVES = 3,   /* a `..` has no name of the path before it to take away */
     OSB_JOIN_STREAM = 4,   /* a name of a Windows path has a colon */
-    OSB_JOIN_RESERVED = 5, /* a name of a Windows path is reserved, as nul.txt */
-    OSB_JOIN_BASE = 6,     /* the base of Windows isn't a place of its own, as \\server or \\?\ */
+    OSB_JOIN_RESERVED = 5, /* a name of a Windows path is reserved, as nul.txt, has one of <>"|?* or a
+                            * control character, or ends with a space or a dot, which Windows removes */
+    OSB_JOIN_BASE = 6,     /* the base of Windows is incomplete, as \\server, or has a reserved name, as C:\nul */
     OSB_JOIN_NUL = 7,      /* the path has a NUL, at which every system ends it */
     OSB_JOIN_BASE_NUL = 8  /* the base has one */
 } osb_join_reason;
@@ -478,8 +487,9 @@ OSB_NODISCARD osb_status osb_path_relative(osb_platform platform, const char *at
  * that begins with \\?\ keeps all its components. */
 OSB_NODISCARD osb_status osb_path_normalize(osb_platform platform, const char *at, size_t len,
                                             char *out, size_t room, size_t *count);
-/* Writes the path cleaned, as Go's filepath.Clean and Python's normpath do: also without a `.` at the start
- * and a `..` at a root, and each other `..` without a name before it stays. The empty path is `.`.
+/* Writes the path cleaned, as Go's path.Clean does: also without a `.` at the start and a `..` at a root, and
+ * each other `..` without a name before it stays. The empty path is `.`. Two slashes at the start become one,
+ * which Python's normpath keeps. What the prefix of a Windows path is follows Rust's std.
  * A share and a drive are written with \, but //?/share with /. A path that begins with \\?\ is kept.
  * OSB_OK, OSB_NO_ROOM, OSB_NO_MEMORY, OSB_BAD_PLATFORM. */
 OSB_NODISCARD osb_status osb_path_clean(osb_platform platform, const char *at, size_t len,
@@ -559,8 +569,8 @@ OSB_NODISCARD osb_status osb_glob_matches(osb_platform platform, uint32_t option
                                           osb_glob_fault *fault);
 
 /* A set of patterns that is compiled once. It has memory of malloc's from osb_globs_new or osb_globs_share
- * to osb_globs_free. One call at a time may use a set: of two threads each takes its own by osb_globs_share,
- * or they take turns. Sets that share their patterns may be used at once. */
+ * to osb_globs_free. Any number of threads may match with a set and share it at once, and none waits for
+ * another. It is freed once no call uses it. */
 typedef struct osb_globs osb_globs;
 
 /* Compiles patterns, and keeps them in `*globs`, which has to be freed: OSB_OK, OSB_NO_MEMORY,
@@ -572,14 +582,14 @@ OSB_NODISCARD osb_status osb_globs_new(osb_platform platform, uint32_t options,
                                        osb_glob_fault *fault);
 /* Whether one of the patterns of a set matches a path: 1, 0, -OSB_FAULTY (it isn't a string of the set's
  * platform). It takes no memory. */
-OSB_NODISCARD int osb_globs_is_match(osb_globs *globs, const char *path, size_t len);
+OSB_NODISCARD int osb_globs_is_match(const osb_globs *globs, const char *path, size_t len);
 /* Writes for each path whether one of the patterns of a set matches it, as osb_glob_matches does: OSB_OK,
  * OSB_NO_MEMORY, OSB_FAULTY (a path isn't a string of the set's platform). */
-OSB_NODISCARD osb_status osb_globs_matches(osb_globs *globs, const osb_view *paths, size_t len,
+OSB_NODISCARD osb_status osb_globs_matches(const osb_globs *globs, const osb_view *paths, size_t len,
                                            bool *matched);
-/* Makes another set with the same compiled patterns, for another thread, which has to be freed, too: OSB_OK,
- * OSB_NO_MEMORY. The patterns are kept until the last set that has them is freed. */
-OSB_NODISCARD osb_status osb_globs_share(osb_globs *globs, osb_globs **other);
+/* Makes another set with the same compiled patterns, for a thread that may use them longer, which has to be
+ * freed, too: OSB_OK, OSB_NO_MEMORY. The patterns are kept until the last set that has them is freed. */
+OSB_NODISCARD osb_status osb_globs_share(const osb_globs *globs, osb_globs **other);
 /* Frees a set, or nothing if the pointer is null. */
 void osb_globs_free(osb_globs *globs);
 
@@ -604,7 +614,9 @@ OSB_NODISCARD osb_status osb_ignore_matches(const char *file, size_t file_len,
                                             osb_verdict *verdicts);
 
 /* The ignore files of a tree, in several directories, compiled once. They have memory of malloc's from
- * osb_ignores_new to osb_ignores_free. One call at a time may use them. */
+ * osb_ignores_new to osb_ignores_free. Any number of threads may match with them and add to them at once.
+ * Calls that match don't wait for each other. One that adds waits until those have ended, and others
+ * wait until it has, by giving way to other threads. They are freed once no call uses them. */
 typedef struct osb_ignores osb_ignores;
 
 /* What ignore files decide for a path. */
@@ -622,7 +634,7 @@ OSB_NODISCARD osb_status osb_ignores_new(osb_ignores **ignores);
 OSB_NODISCARD osb_status osb_ignores_add(osb_ignores *ignores, const char *directory,
                                          size_t directory_len, const char *file, size_t file_len);
 /* Writes what the files decide for a path, which is relative to the top of the tree, as git does: OSB_OK. It takes
- * no memory. */
+ * no memory. Files that are added meanwhile count or don't. */
 OSB_NODISCARD osb_status osb_ignores_match(osb_ignores *ignores, const char *path, size_t len,
                                            bool is_dir, osb_decision *decision);
 /* Frees ignore files, or nothing if the pointer is null. */
@@ -637,13 +649,16 @@ size_t osb_shell_bound(size_t len);
  * which osb_shell_join quotes. The shell's locale may be C or of UTF-8, GBK, Big5, Shift-JIS, an EUC or a
  * charset of one byte. In GB18030 bash with the GNU C library misreads a quote after a byte from 81 (hex)
  * on and a digit that begin no character. Aliases, functions and options that a user has set may change
- * what a word means. */
+ * what a word means. The word is for scripts, eval and sh -c. It has the name's control characters, and a
+ * terminal acts on these, in quotes too, so that a part of the name may run as a command: at a prompt paste only
+ * words of osb_shell_quote_line. */
 OSB_NODISCARD osb_status osb_shell_quote(const char *at, size_t len, char *out, size_t room,
                                          size_t *count, size_t *index);
 /* Writes a name of Unix as a word on one line, for a terminal, of the shells that read $'..'
- * (POSIX.1-2024): bash, zsh, ksh93, mksh and busybox, in the same locales. OSB_OK, OSB_NO_ROOM, OSB_HAS_NUL,
- * OSB_TOO_LONG, as osb_shell_quote. No backslash follows a byte from 80 (hex) on, with which GBK or
- * Shift-JIS would read it as one character. */
+ * (POSIX.1-2024): bash, zsh, ksh93, mksh and busybox, in the same locales. OSB_OK, OSB_NO_ROOM,
+ * OSB_HAS_NUL, OSB_TOO_LONG, as osb_shell_quote. It has no control character, and may be pasted at a
+ * prompt. No backslash follows a byte from 80 (hex) on, with which GBK or Shift-JIS would read it as one
+ * character. */
 OSB_NODISCARD osb_status osb_shell_quote_line(const char *at, size_t len, char *out, size_t room,
                                               size_t *count, size_t *index);
 /* Writes a name of Unix as a word of fish, in the same locales and in GB18030: OSB_OK, OSB_NO_ROOM,
@@ -653,13 +668,16 @@ OSB_NODISCARD osb_status osb_fish_quote(const char *at, size_t len, char *out, s
 /* Writes text (UTF-8) as a single-quoted string of PowerShell: OSB_OK, OSB_NO_ROOM, OSB_HAS_NUL,
  * OSB_TOO_LONG, as osb_shell_quote, and OSB_FAULTY, with which `*index` is the index from which on the
  * bytes aren't UTF-8: a Windows string with a lone surrogate isn't. PowerShell before 7.3 drops quotation
- * marks of a string that it passes to another program. */
+ * marks of a string that it passes to another program. The text must reach PowerShell as UTF-16, as UTF-8
+ * with a byte order mark, or by -EncodedCommand: 5.1 reads a script without the mark as Windows-1252, in which
+ * letters such as U+0412 end the string. */
 OSB_NODISCARD osb_status osb_powershell_quote(const char *at, size_t len, char *out, size_t room,
                                               size_t *count, size_t *index);
 
 /* Writes the words of names (osb_shell_quote) with a space between them, a line that every POSIX shell reads
  * as these names. A first name that is a reserved word, or an alias that a shell begins with, is quoted, so that
- * it is run as a command: OSB_OK, OSB_NO_ROOM, OSB_HAS_NUL, OSB_TOO_LONG. With OSB_HAS_NUL `*which` is the number of
+ * it is run as a command: OSB_OK, OSB_NO_ROOM, OSB_HAS_NUL, OSB_TOO_LONG. The line isn't for a prompt if it has
+ * control characters (osb_shell_quote). With OSB_HAS_NUL `*which` is the number of
  * the first name that has a NUL, and `*index` the index of its first one; both may be null. A sum past
  * SIZE_MAX is OSB_TOO_LONG, too. Without names the line is empty. A bound is that of each name, and one more
  * for each. */
@@ -697,22 +715,27 @@ size_t osb_words_bound(size_t len);
  * the 0 bytes, too: the words are the strings of C in the first `*count` bytes, one after the other. A byte
  * by which some POSIX shell in C or UTF-8 expands or does something else is rejected, unless OSB_SPECIALS is
  * given: | & ; < > ( ) $ * ? [ { } ~ ! ` and CR outside quotes, # = ^ first in a word, $ ! ` in double quotes.
- * Blanks beyond ASCII are part of a word, which yash takes for blanks. `fault`
+ * Blanks beyond ASCII are part of a word, which yash takes for blanks. A line with control characters may be
+ * read differently where it is typed at a prompt. `fault`
  * may be null; it is written with OSB_BAD_LINE and with OSB_HAS_NUL. */
 OSB_NODISCARD osb_status osb_shell_words(uint32_t options, const char *line, size_t len, char *out,
                                          size_t room, size_t *count, osb_line_fault *fault);
 
 /* A command line of Windows is 16-bit units, as CreateProcessW takes them, and the calls that write one
- * count units: `room` and `*count`, too. It is read as the C runtime of 2015 and later reads it. What
- * goes in are strings of Windows: OSB_FAULTY where they are none. With OSB_HAS_NUL and OSB_HAS_QUOTE
- * `*index` is the byte index of the first one. `index` and `fault` may be null. */
+ * count units: `room` and `*count`, too. It is read as the C runtime of 2008 and later reads it.
+ * CommandLineToArgvW reads each line that is written here the same. It reads other lines differently:
+ * there two quotation marks within a quoted part end it, and a program's name that begins with a
+ * quotation mark ends at the next one. What goes in are strings of Windows: OSB_FAULTY where they are
+ * none. With OSB_HAS_NUL and OSB_HAS_QUOTE `*index` is the byte index of the first one. `index` and
+ * `fault` may be null. */
 
 /* The maximum number of units of the text of an argument or of a program's name with `len` bytes; SIZE_MAX
  * past that. */
 size_t osb_windows_bound(size_t len);
 
 /* Writes an argument so that it is read as this one, whatever blank or end comes after it: OSB_OK,
- * OSB_FAULTY, OSB_NO_ROOM, OSB_HAS_NUL, OSB_TOO_LONG. cmd.exe reads lines by other rules. */
+ * OSB_FAULTY, OSB_NO_ROOM, OSB_HAS_NUL, OSB_TOO_LONG. cmd.exe reads lines by other rules. A program that is
+ * linked with setargv.obj expands * and ? in an argument without quotation marks, as *.txt. */
 OSB_NODISCARD osb_status osb_windows_quote(const char *at, size_t len, uint16_t *out, size_t room,
                                            size_t *count, size_t *index, osb_fault *fault);
 /* Writes a program's name, with which a line begins, in quotation marks; also OSB_HAS_QUOTE. A line is this,

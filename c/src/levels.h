@@ -9,7 +9,12 @@
  * It is included by osbytes.c after the declarations of the exports. OSB_HIGHEST is the highest level that is
  * chosen, for tests. CPUID is asked by hand, since __builtin_cpu_supports needs a part of libgcc. */
 #include <cpuid.h>
+#ifdef _WIN32
+#define WIN32_LEAN_AND_MEAN
+#include <windows.h>
+#else
 #include <sys/mman.h>
+#endif
 
 #ifndef OSB_HIGHEST
 #define OSB_HIGHEST 3
@@ -34,8 +39,8 @@
     each(ignores_match) each(ignores_free)
 
 #define DECLARED(name)                                                                             \
-    __attribute__((visibility("hidden"))) __typeof__(osb_core_##name) osb_core_##name##_v1,        \
-        osb_core_##name##_v2, osb_core_##name##_v3;
+    OSB_HIDDEN __typeof__(osb_core_##name) osb_core_##name##_v1, osb_core_##name##_v2,             \
+        osb_core_##name##_v3;
 EXPORTS(DECLARED)
 
 #define POINTER(name) __typeof__(osb_core_##name) *name;
@@ -80,10 +85,20 @@ static void take_highest(void) {
     EXPORTS(TAKE_V3)
 }
 
+#ifdef _WIN32
+static void choose(void) {
+    DWORD before;
+    take_highest();
+    VirtualProtect(&chosen, PAGE, PAGE_READONLY, &before);
+}
+/* The functions that the start-up code of mingw-w64, and that of MSVC, calls before main and in DllMain. */
+__attribute__((section(".CRT$XCL"), used)) static void (*const chosen_at_start)(void) = choose;
+#else
 __attribute__((constructor(101))) static void choose(void) {
     take_highest();
     mprotect(&chosen, PAGE, PROT_READ);
 }
+#endif
 
 /* From here on the name of an export is the one that is chosen. */
 #define CHOSEN(name) __atomic_load_n(&chosen.name, __ATOMIC_RELAXED)

@@ -87,7 +87,13 @@ _Static_assert(sizeof(osb_glob_fault) == 24 && offsetof(osb_glob_fault, index) =
                "osb_glob_fault");
 _Static_assert(sizeof(osb_option) == 24 && offsetof(osb_option, text) == 8, "osb_option");
 
+/* No symbol is exported unless it is named to the linker on Windows, whose objects have no visibility. */
+#ifdef _WIN32
+#define OSB_HIDDEN
+#else
+#define OSB_HIDDEN __attribute__((visibility("hidden")))
 #pragma GCC visibility push(hidden)
+#endif
 uint32_t osb_core_check(uint32_t platform, const char *at, size_t len, osb_fault *fault);
 void osb_core_start(struct core_open *opened);
 uint32_t osb_core_feed(struct core_open *opened, const char *at, size_t len, osb_fault *fault);
@@ -188,6 +194,12 @@ uint32_t osb_core_windows_arguments(const char *line, size_t len, uint16_t *out,
                                     size_t *count, size_t *index, osb_fault *fault);
 uint32_t osb_core_option(uint32_t options, const char *word, size_t len, struct core_option *read);
 uint32_t osb_core_flag(const char *word, size_t len, size_t at, struct core_option *read);
+/* On Windows a struct of two words is returned in memory in C, and in two registers by the exports' compiler,
+ * which compiles two functions between them: windows.ll. */
+#ifdef _WIN32
+#define rattle_alloc osb_edge_alloc
+#define rattle_realloc osb_edge_realloc
+#endif
 struct core_block rattle_alloc(size_t len, size_t align);
 struct core_block rattle_realloc(void *at, size_t kept, size_t len, size_t align);
 void rattle_dealloc(void *at);
@@ -223,7 +235,9 @@ uint32_t osb_core_chunks_fill(const char *at, size_t len, size_t from, size_t ad
 uint32_t osb_core_symbols_fill(uint32_t platform, const char *at, size_t len, size_t from,
                                size_t address, osb_symbol *out, size_t room,
                                struct core_filled *filled);
+#ifndef _WIN32
 #pragma GCC visibility pop
+#endif
 
 #ifdef __x86_64__
 #include "levels.h"
@@ -315,6 +329,7 @@ const char *osb_status_text(osb_status status) {
     case OSB_TOO_LONG: return "the string is too long";
     case OSB_BAD_OPTION: return "there is no such option";
     case OSB_BAD_EXTENSION: return "the extension has a separator";
+    case OSB_EMPTY: return "nothing is kept there";
     case OSB_BAD_POINTER: return "a pointer or a length is rejected";
     default: return "there is no such status";
     }
@@ -1268,30 +1283,45 @@ osb_status osb_globs_new(osb_platform platform, uint32_t options, const osb_view
     return status;
 }
 
-int osb_globs_is_match(osb_globs *globs, const char *path, size_t len) {
-    if (globs == NULL || is_bad(path, len)) return answer(OSB_BAD_POINTER);
-    return answer(osb_core_globs_is_match(&globs->held, bytes(path), len));
+/* A place of its own for a call that leaves the set as it is. An export moves what is kept out of its place and back, so
+ * of the calls that run at once on one set each has a copy of its place. None writes to the set, and they count who shares
+ * it atomically. */
+static struct core_held lent_globs(const osb_globs *globs, void **set) {
+    *set = globs->set;
+    return (struct core_held){globs->held.full, set};
 }
 
-osb_status osb_globs_matches(osb_globs *globs, const osb_view *paths, size_t len, bool *matched) {
+int osb_globs_is_match(const osb_globs *globs, const char *path, size_t len) {
+    if (globs == NULL || is_bad(path, len)) return answer(OSB_BAD_POINTER);
+    void *set;
+    struct core_held lent = lent_globs(globs, &set);
+    return answer(osb_core_globs_is_match(&lent, bytes(path), len));
+}
+
+osb_status osb_globs_matches(const osb_globs *globs, const osb_view *paths, size_t len,
+                             bool *matched) {
     size_t count = 0;
     osb_view *own;
     if (globs == NULL || is_bad(matched, len) || are_bad_words(paths, len, matched, len))
         return OSB_BAD_POINTER;
     paths = without_null(paths, len, &own);
+    void *set;
+    struct core_held lent = lent_globs(globs, &set);
     osb_status status = OSB_NO_MEMORY;
     if (paths != NULL)
-        status = osb_core_globs_matches(&globs->held, paths, len,
+        status = osb_core_globs_matches(&lent, paths, len,
                                         len == 0 ? (uint8_t *)no_room : (uint8_t *)matched, len, &count);
     free(own);
     return status;
 }
 
-osb_status osb_globs_share(osb_globs *globs, osb_globs **other) {
+osb_status osb_globs_share(const osb_globs *globs, osb_globs **other) {
     if (globs == NULL || other == NULL) return OSB_BAD_POINTER;
     osb_globs *made = empty_globs();
     if (made == NULL) return OSB_NO_MEMORY;
-    osb_status status = osb_core_globs_share(&globs->held, &made->held);
+    void *set;
+    struct core_held lent = lent_globs(globs, &set);
+    osb_status status = osb_core_globs_share(&lent, &made->held);
     if (status == OSB_OK) *other = made;
     else free(made);
     return status;
@@ -1303,17 +1333,62 @@ void osb_globs_free(osb_globs *globs) {
     free(globs);
 }
 
-/* Ignore files that are kept, in the same way. What the exports keep is a vector: three words. */
+/* What the exports keep of ignore files: a vector, three words. */
+struct core_files {
+    void *words[3];
+};
+
+/* Ignore files that are kept, in the same way. */
 struct osb_ignores {
     struct core_held held;
-    void *files[3];
+    struct core_files files;
+    uint32_t users; /* how many calls read the files, and ADDING if one adds to them or waits to */
 };
+
+enum { ADDING = 1 << 30 };
+
+/* Lets another thread run. */
+#ifdef _WIN32
+__declspec(dllimport) int __stdcall SwitchToThread(void);
+#define give_way SwitchToThread
+#else
+#include <sched.h>
+#define give_way sched_yield
+#endif
+
+/* Begins to read the files, beside others that read them, while no call adds to them. */
+static void begin_reading(osb_ignores *ignores) {
+    uint32_t users = __atomic_load_n(&ignores->users, __ATOMIC_RELAXED);
+    for (;;) {
+        if ((users & ADDING) != 0) {
+            give_way();
+            users = __atomic_load_n(&ignores->users, __ATOMIC_RELAXED);
+        } else if (__atomic_compare_exchange_n(&ignores->users, &users, users + 1, true,
+                                               __ATOMIC_ACQUIRE, __ATOMIC_RELAXED)) {
+            return;
+        }
+    }
+}
+
+static void end_reading(osb_ignores *ignores) {
+    __atomic_fetch_sub(&ignores->users, 1, __ATOMIC_RELEASE);
+}
+
+/* Begins to add to the files, once those that read them have ended. No other call begins meanwhile. */
+static void begin_adding(osb_ignores *ignores) {
+    while ((__atomic_fetch_or(&ignores->users, ADDING, __ATOMIC_ACQUIRE) & ADDING) != 0) give_way();
+    while (__atomic_load_n(&ignores->users, __ATOMIC_ACQUIRE) != ADDING) give_way();
+}
+
+static void end_adding(osb_ignores *ignores) {
+    __atomic_store_n(&ignores->users, 0, __ATOMIC_RELEASE);
+}
 
 osb_status osb_ignores_new(osb_ignores **ignores) {
     if (ignores == NULL) return OSB_BAD_POINTER;
     osb_ignores *made = malloc(sizeof *made);
     if (made == NULL) return OSB_NO_MEMORY;
-    *made = (osb_ignores){{false, made->files}, {NULL, NULL, NULL}};
+    *made = (osb_ignores){{false, &made->files}, {{NULL, NULL, NULL}}, 0};
     osb_status status = osb_core_ignores_new(&made->held);
     if (status == OSB_OK) *ignores = made;
     else free(made);
@@ -1324,13 +1399,22 @@ osb_status osb_ignores_add(osb_ignores *ignores, const char *directory, size_t d
                            const char *file, size_t file_len) {
     if (ignores == NULL || is_bad(directory, directory_len) || is_bad(file, file_len))
         return OSB_BAD_POINTER;
-    return osb_core_ignores_add(&ignores->held, bytes(directory), directory_len, bytes(file), file_len);
+    begin_adding(ignores);
+    osb_status status =
+        osb_core_ignores_add(&ignores->held, bytes(directory), directory_len, bytes(file), file_len);
+    end_adding(ignores);
+    return status;
 }
 
 osb_status osb_ignores_match(osb_ignores *ignores, const char *path, size_t len, bool is_dir,
                              osb_decision *decision) {
     if (ignores == NULL || decision == NULL || is_bad(path, len)) return OSB_BAD_POINTER;
-    return osb_core_ignores_match(&ignores->held, bytes(path), len, is_dir, decision);
+    begin_reading(ignores);
+    struct core_files files = ignores->files;
+    struct core_held lent = {ignores->held.full, &files};
+    osb_status status = osb_core_ignores_match(&lent, bytes(path), len, is_dir, decision);
+    end_reading(ignores);
+    return status;
 }
 
 void osb_ignores_free(osb_ignores *ignores) {

@@ -189,10 +189,10 @@ def escape(call: Call, platform: int, string: bytes) -> bytes:
     return out.raw[: length.value]
 
 
-# the characters that Unicode 18.0 hides or takes for controls: the first and the last of each range
+# the characters that are hidden by Unicode 18.0: the first and the last of each range
 HIDDEN = """0-1F 7F-A0 AD 34F 600-605 61C 6DD 70F 890-891 8E2 115F-1160 1680 17B4-17B5 180B-180F 2000-200F
-    2028-202F 205F-206F 2800 3000 3164 FE00-FE0F FEFF FFA0 FFF0-FFFB 110BD 110CD 13430-1343F 1BCA0-1BCA3
-    1D173-1D17A E0000-E0FFF"""
+    2028-202F 205F-206F 2800 3000 3164 E000-F8FF FDD0-FDEF FE00-FE0F FEFF FFA0 FFF0-FFFB FFFE-FFFF 110BD 110CD
+    13430-1343F 13441-13442 1BCA0-1BCA3 1D159 1D173-1D17A 1FFFE-1FFFF 2FFFE-2FFFF 3FFFE-3FFFF 40000-10FFFF"""
 RANGES = [(int(words[0], 16), int(words[-1], 16)) for words in (word.split("-") for word in HIDDEN.split())]
 
 
@@ -214,7 +214,10 @@ def escape_by_python(platform: int, string: bytes, on_line: bool) -> bytes:
         return character
 
     text = string.decode("utf-8", "surrogateescape" if platform == UNIX else "surrogatepass")
-    return "".join(map(written, text)).encode()
+    shown = "".join(map(written, text))
+    if on_line and shown.endswith(" "):
+        shown = shown[:-1] + r"\u0020"
+    return shown.encode()
 
 
 def unescape(call: Call, platform: int, escape: bytes) -> tuple[int, bytes | int | None]:

@@ -877,12 +877,17 @@ static void status_texts(void) {
     static const osb_status all[] = {
         OSB_OK, OSB_FAULTY, OSB_NO_ROOM, OSB_NONE, OSB_ENDED, OSB_BAD_ESCAPE, OSB_NO_STRING,
         OSB_HAS_NUL, OSB_BAD_LINE, OSB_HAS_QUOTE, OSB_UNEXPECTED, OSB_NO_MEMORY, OSB_BAD_PATH, OSB_BAD_PLATFORM, OSB_BAD_PATTERN,
-        OSB_BAD_INDEX, OSB_BAD_FAULT, OSB_BAD_STATE, OSB_TOO_LONG, OSB_BAD_OPTION, OSB_BAD_EXTENSION, OSB_BAD_POINTER, 15,
+        OSB_BAD_INDEX, OSB_BAD_FAULT, OSB_BAD_STATE, OSB_TOO_LONG, OSB_BAD_OPTION, OSB_BAD_EXTENSION, OSB_EMPTY,
+        OSB_BAD_POINTER, 15,
     };
     size_t count = sizeof all / sizeof *all;
     for (size_t i = 0; i < count; i++)
         for (size_t j = 0; j < count; j++)
             EXPECT((strcmp(osb_status_text(all[i]), osb_status_text(all[j])) == 0) == (i == j));
+    for (size_t i = 0; i < count; i++) {
+        const char *text = osb_status_text(all[i]);
+        EXPECT(strstr(text, "  ") == NULL && text[0] >= 'a' && text[0] <= 'z' && strchr(" .", text[strlen(text) - 1]) == NULL);
+    }
     EXPECT(strcmp(osb_status_text(0xFFFFFFFF), osb_status_text(15)) == 0);
     EXPECT(strcmp(osb_status_text(OSB_TOO_LONG), "the string is too long") == 0);
 }
@@ -2371,7 +2376,9 @@ bool osb_inside(void);
 
 int main(void) {
 #ifdef OSB_INSIDE
-    EXPECT(osb_inside());
+    const size_t before = blocks; /* MinGW's start-up code copies the arguments */
+    EXPECT(osb_inside() && blocks == before);
+    if (failed > 0) return 1; /* some wrong edges would wait for ever */
 #endif
     checks();
     escapes();

@@ -110,7 +110,7 @@ from ._paths import (
 )
 from ._strings import UNIX, WASM, WINDOWS, OsName, OsString, Platform
 
-__version__ = "0.2.0"
+__version__ = "0.3.0"
 
 __all__ = [
     "UNIX",

@@ -5,7 +5,8 @@ usage: python -m osbytes [NAME ..]
 
 Without arguments the names are read from standard input, each ended by a NUL byte, as `find -print0` writes them. A name
 is printed as soon as it has arrived. `join` reverses it: it reads lines from standard input, and writes the names, each
-ended by a NUL byte. To print the name `join` itself, or one that begins with a dash, write `--` before the names.
+ended by a NUL byte. To print the name `join` itself, or one that begins with a dash, write `--` before the names. On
+Windows the arguments are strings of Windows; what is read is bytes, as on Unix.
 
 Exit status: 0 success, 1 invalid input, 2 usage, 4 I/O error (silent on a closed pipe).
 """
@@ -16,10 +17,12 @@ import os
 import sys
 from typing import Iterator
 
-from . import OsBytesError, __version__, escape_line, unescape_line
+from . import UNIX, WINDOWS, OsBytesError, Platform, __version__, escape_line, unescape_line
 
 BLOCK = 1 << 16
 INVALID, USAGE, IO = 1, 2, 4
+# The platform whose strings the arguments are.
+HERE = WINDOWS if os.name == "nt" else UNIX
 
 
 def items_in(file: int, end: bytes) -> Iterator[list[bytes]]:
@@ -51,9 +54,9 @@ def complain(text: str) -> None:
         pass
 
 
-def list_names(groups: Iterator[list[bytes]]) -> int:
+def list_names(groups: Iterator[list[bytes]], platform: Platform) -> int:
     for names in groups:
-        write("".join(escape_line(name) + "\n" for name in names).encode())
+        write("".join(escape_line(name, platform) + "\n" for name in names).encode())
     return 0
 
 
@@ -83,12 +86,12 @@ def run(words: list[str]) -> int:
         return join_names(items_in(0, b"\n"))
     if words and words[0] != "--" and (words[0] == "join" or any(word.startswith("-") for word in words)):
         unknown = words[1] if words[0] == "join" else next(word for word in words if word.startswith("-"))
-        complain(f"unexpected argument {escape_line(unknown)} (see --help)")
+        complain(f"unexpected argument {escape_line(unknown, HERE)} (see --help)")
         return USAGE
     if words:
         names = words[1:] if words[0] == "--" else words
-        return list_names(iter([[os.fsencode(name) for name in names]]))
-    return list_names(items_in(0, b"\0"))
+        return list_names(iter([[os.fsencode(name) for name in names]]), HERE)
+    return list_names(items_in(0, b"\0"), UNIX)
 
 
 def main() -> int:

@@ -48,6 +48,7 @@ _CHECK, _LOSSY, _ESCAPE, _ESCAPE_LINE, _FIND, _RFIND, _CONTAINS, _STARTS, _ENDS 
 )
 _COMPARE = address_of(library.osb_compare)
 _SPLIT, _SPLIT_FILL = address_of(library.osb_split_start), address_of(library.osb_split_fill)
+_RSPLIT, _RSPLIT_FILL = address_of(library.osb_rsplit_start), address_of(library.osb_rsplit_fill)
 
 
 def encode(string: AnyOsName, platform: Platform = UNIX) -> bytes:
@@ -225,8 +226,9 @@ def escape(string: AnyOsName, platform: Platform = UNIX) -> str:
 def escape_line(string: AnyOsName, platform: Platform = UNIX) -> str:
     """Returns the escape of a string on one line, for logs and terminals. `unescape_line` reverses it.
 
-    As `escape`, but characters that don't show, or that move what is shown (control characters, line separators,
-    bidirectional controls and such), are also written `\\\\uHHHH` or `\\\\u{HHHHH}`.
+    As `escape`, but characters that don't show, or that move what is shown, are also written `\\\\uHHHH` or `\\\\u{HHHHH}`.
+    These are control characters, line separators, bidirectional controls, private use and such, and a space at the end. It
+    doesn't find names that look alike.
 
     Raises `FaultError` if the argument isn't a string of the platform.
 
@@ -471,6 +473,11 @@ def rsplit(string: bytes, pattern: OsString, maxsplit: int = -1) -> list[bytes]:
     >>> rsplit(b"a,b,c", ","), rsplit(b"a,b,c", ",", 1)
     ([b'a', b'b', b'c'], [b'a,b', b'c'])
     """
+    if maxsplit == -1:
+        parts = quick.pieces(_RSPLIT, _RSPLIT_FILL, string, pattern)
+        if parts is not NotImplemented:
+            parts.reverse()
+            return parts
     found, taken, is_more = _pieces(library.osb_rsplit_start, library.osb_rsplit_fill, string, pattern, maxsplit)
     found.reverse()
     return [string[: len(string) - taken], *found] if is_more else found

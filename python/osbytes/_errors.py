@@ -2,7 +2,12 @@
 
 from __future__ import annotations
 
-from typing import Any
+from typing import TYPE_CHECKING, Any
+
+if TYPE_CHECKING:
+    from ._globs import GlobFaultKind
+    from ._lines import LineKind
+    from ._path_building import JoinReason
 
 
 class OsBytesError(ValueError):
@@ -46,7 +51,7 @@ class NoStringError(OsBytesError):
 class JoinError(OsBytesError):
     """The path isn't below its base. `reason` is a `JoinReason`. If it is a NUL, `index` is the first one."""
 
-    reason: Any = None
+    reason: JoinReason | None = None
 
 
 class ConvertError(OsBytesError):
@@ -63,7 +68,7 @@ class GlobError(OsBytesError):
     """A pattern is malformed. `which` is the pattern's number in the list, and `kind`, a `GlobFaultKind`, is the error at
     `index`."""
 
-    kind: Any = None
+    kind: GlobFaultKind | None = None
 
 
 class NulError(OsBytesError):
@@ -90,4 +95,4 @@ class MissingValueError(OsBytesError):
 class LineError(OsBytesError):
     """The line isn't a list of words. `kind` is a `LineKind`: what begins at `index`."""
 
-    kind: Any = None
+    kind: LineKind | None = None

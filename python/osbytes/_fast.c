@@ -3,7 +3,7 @@
  * Each function takes the address of a call of the library first. It returns NotImplemented, and leaves the call to
  * Python, where a type is another one, a string is long, or the status is anything but success (or that there is no such
  * part). So it raises no exception of its own, and Python makes each decision about errors. Python code that runs in other
- * threads waits meanwhile.
+ * threads waits meanwhile. A call by ctypes in another thread may use the same set or ignore files, which the library allows.
  *
  * It is written for the stable ABI: one file serves each Python from 3.10 on. */
 #define PY_SSIZE_T_CLEAN
@@ -56,8 +56,8 @@ static PyObject *made(const char *at, size_t len, int is_text) {
     return it != NULL ? it : left();
 }
 
-/* Makes a call that writes into (out, room, &count), and makes its result of what it wrote. */
-#define WRITTEN(is_text, call)                                                                    \
+/* Makes a call that writes into (out, room, &count), frees what it read, and makes its result of what it wrote. */
+#define WRITTEN(is_text, freed, call)                                                              \
     do {                                                                                           \
         char short_out[ROOM], *out = short_out, *longer = NULL;                                    \
         size_t room = ROOM, count = 0;                                                             \
@@ -67,6 +67,7 @@ static PyObject *made(const char *at, size_t len, int is_text) {
             room = count;                                                                          \
             status = call;                                                                         \
         }                                                                                          \
+        freed;                                                                                     \
         PyObject *result = status == OSB_OK     ? made(out, count, is_text)                        \
                            : status == OSB_NONE ? Py_NewRef(Py_None)                               \
                                                 : left();                                          \
@@ -78,39 +79,62 @@ static PyObject *word(PyObject *self, PyObject *const *args, Py_ssize_t n) {
     string name;
     if (n != 2 || !read_string(args[1], &name)) return left();
     size_t index;
-    WRITTEN(name.is_text, CALL(osb_shell_quote)(name.at, name.len, out, room, &count, &index));
+    WRITTEN(name.is_text, (void)0, CALL(osb_shell_quote)(name.at, name.len, out, room, &count, &index));
 }
 
-/* A line of the words of a list of names, which are all str or all bytes. */
-static PyObject *line(PyObject *self, PyObject *const *args, Py_ssize_t n) {
-    osb_view views[64];
-    string name = {NULL, 0, 1};
-    if (n != 2 || !PyList_Check(args[1]) || PyList_Size(args[1]) > 64) return left();
-    Py_ssize_t names = PyList_Size(args[1]);
-    for (Py_ssize_t it = 0; it < names; it++) {
-        int is_text = name.is_text;
-        if (!read_string(PyList_GetItem(args[1], it), &name) || (it > 0 && name.is_text != is_text)) return left();
-        views[it] = (osb_view){name.at, (size_t)name.len};
+/* A list of strings that are all str or all bytes. Its views are of the strings, which the list keeps meanwhile. */
+typedef struct {
+    osb_view few[64], *views;
+    size_t count;
+    int is_text;
+} list;
+
+static int read_list(PyObject *given, list *out) {
+    string item;
+    if (!PyList_Check(given)) return 0;
+    out->count = (size_t)PyList_Size(given);
+    out->is_text = 1;
+    out->views = out->count <= 64 ? out->few : PyMem_Malloc(out->count * sizeof *out->views);
+    for (size_t it = 0; out->views != NULL && it < out->count; it++) {
+        int is_read = read_string(PyList_GetItem(given, (Py_ssize_t)it), &item);
+        if (!is_read || (it > 0 && item.is_text != out->is_text)) {
+            if (out->views != out->few) PyMem_Free(out->views);
+            return 0;
+        }
+        out->is_text = item.is_text;
+        out->views[it] = (osb_view){item.at, (size_t)item.len};
     }
-    WRITTEN(name.is_text, CALL(osb_shell_join)(views, (size_t)names, out, room, &count, NULL, NULL));
+    return out->views != NULL;
+}
+
+static void forget(list *it) {
+    if (it->views != it->few) PyMem_Free(it->views);
+}
+
+/* A line of the words of a list of names. */
+static PyObject *line(PyObject *self, PyObject *const *args, Py_ssize_t n) {
+    list names;
+    if (n != 2 || !read_list(args[1], &names)) return left();
+    WRITTEN(names.is_text, forget(&names), CALL(osb_shell_join)(names.views, names.count, out, room, &count, NULL, NULL));
 }
 
 /* A command line of Windows of a list of words, which are all str. */
 static PyObject *wide_line(PyObject *self, PyObject *const *args, Py_ssize_t n) {
-    osb_view views[64];
-    uint16_t out[ROOM];
+    uint16_t short_out[ROOM], *out = short_out, *wider = NULL;
     size_t count = 0;
-    string name;
-    if (n != 2 || !PyList_Check(args[1]) || PyList_Size(args[1]) > 64) return left();
-    Py_ssize_t names = PyList_Size(args[1]);
-    for (Py_ssize_t it = 0; it < names; it++) {
-        if (!read_string(PyList_GetItem(args[1], it), &name) || !name.is_text) return left();
-        views[it] = (osb_view){name.at, (size_t)name.len};
+    list words;
+    if (n != 2 || !read_list(args[1], &words)) return left();
+    osb_status status = OSB_BAD_OPTION;
+    if (words.is_text)
+        status = CALL(osb_windows_command_line)(words.views, words.count, out, ROOM, &count, NULL, NULL, NULL);
+    if (status == OSB_NO_ROOM && (wider = PyMem_Malloc(count * sizeof *wider)) != NULL) {
+        out = wider;
+        status = CALL(osb_windows_command_line)(words.views, words.count, out, count, &count, NULL, NULL, NULL);
     }
-    if (CALL(osb_windows_command_line)(views, (size_t)names, out, ROOM, &count, NULL, NULL, NULL) != OSB_OK)
-        return left();
+    forget(&words);
     int order = -1; /* the processors of the wheels are little-endian */
-    PyObject *it = PyUnicode_DecodeUTF16((const char *)out, 2 * (Py_ssize_t)count, NULL, &order);
+    PyObject *it = status != OSB_OK ? NULL : PyUnicode_DecodeUTF16((const char *)out, 2 * (Py_ssize_t)count, NULL, &order);
+    PyMem_Free(wider);
     return it != NULL ? it : left();
 }
 
@@ -118,7 +142,7 @@ static PyObject *text(PyObject *self, PyObject *const *args, Py_ssize_t n) {
     string of;
     osb_platform platform;
     if (n != 3 || !read_platform(args[1], &platform) || !read_string(args[2], &of)) return left();
-    WRITTEN(1, CALL(osb_escape)(platform, of.at, of.len, out, room, &count, NULL));
+    WRITTEN(1, (void)0, CALL(osb_escape)(platform, of.at, of.len, out, room, &count, NULL));
 }
 
 static PyObject *built(PyObject *self, PyObject *const *args, Py_ssize_t n) {
@@ -126,7 +150,7 @@ static PyObject *built(PyObject *self, PyObject *const *args, Py_ssize_t n) {
     osb_platform platform;
     if (n != 3 || !read_platform(args[1], &platform) || !read_string(args[2], &path)) return left();
     if (!is_valid(&path, platform)) return left();
-    WRITTEN(path.is_text, CALL(osb_path_clean)(platform, path.at, path.len, out, room, &count));
+    WRITTEN(path.is_text, (void)0, CALL(osb_path_clean)(platform, path.at, path.len, out, room, &count));
 }
 
 /* Reads a platform and two strings of one type. */
@@ -140,7 +164,7 @@ static PyObject *joined(PyObject *self, PyObject *const *args, Py_ssize_t n) {
     string a, b;
     osb_platform platform;
     if (!read_two(args, n, &platform, &a, &b)) return left();
-    WRITTEN(a.is_text, CALL(osb_path_join)(platform, a.at, a.len, b.at, b.len, out, room, &count));
+    WRITTEN(a.is_text, (void)0, CALL(osb_path_join)(platform, a.at, a.len, b.at, b.len, out, room, &count));
 }
 
 /* The kind and the text of each component, one after the other. */
@@ -242,31 +266,75 @@ static PyObject *contained(PyObject *self, PyObject *const *args, Py_ssize_t n) 
     return of_test((int)CALL(osb_contains)(of.at, of.len, pattern.at, pattern.len));
 }
 
+/* Whether a string has no NUL. */
+static int is_without_nul(osb_view it) {
+    return memchr(it.at, 0, it.len) == NULL;
+}
+
 static PyObject *matched(PyObject *self, PyObject *const *args, Py_ssize_t n) {
     string path;
     osb_platform platform;
     if (n != 4 || !read_platform(args[2], &platform) || !read_string(args[3], &path)) return left();
-    void *globs = PyLong_AsVoidPtr(args[1]);
-    if (globs == NULL || memchr(path.at, 0, (size_t)path.len) != NULL) return left();
-    /* the lock of the interpreter keeps other calls on the set away */
-    return of_test(((int (*)(void *, const char *, size_t))PyLong_AsVoidPtr(args[0]))(globs, path.at, path.len));
+    const osb_globs *globs = PyLong_AsVoidPtr(args[1]);
+    if (globs == NULL || !is_without_nul((osb_view){path.at, (size_t)path.len})) return left();
+    return of_test(CALL(osb_globs_is_match)(globs, path.at, (size_t)path.len));
+}
+
+/* A bool for each path of a list. */
+static PyObject *all_matched(PyObject *self, PyObject *const *args, Py_ssize_t n) {
+    list paths;
+    if (n != 3 || !read_list(args[2], &paths)) return left();
+    const void *globs = PyLong_AsVoidPtr(args[1]);
+    bool *told = PyMem_Malloc(paths.count + 1);
+    osb_status status = globs == NULL || told == NULL ? OSB_NO_MEMORY : OSB_OK;
+    for (size_t it = 0; status == OSB_OK && it < paths.count; it++)
+        if (!is_without_nul(paths.views[it])) status = OSB_HAS_NUL;
+    if (status == OSB_OK) status = CALL(osb_globs_matches)(globs, paths.views, paths.count, told);
+    forget(&paths);
+    PyObject *made = status == OSB_OK ? PyList_New((Py_ssize_t)paths.count) : NULL;
+    for (size_t it = 0; made != NULL && it < paths.count; it++)
+        PyList_SetItem(made, (Py_ssize_t)it, PyBool_FromLong(told[it]));
+    PyMem_Free(told);
+    return made != NULL ? made : left();
+}
+
+/* The kind, the line and the file of the verdict on each path of a list, one after the other. A path that begins with . is
+ * left to Python, and with it the list. One that ends with / is a directory. */
+static PyObject *decided(PyObject *self, PyObject *const *args, Py_ssize_t n) {
+    list paths;
+    if (n != 3 || !read_list(args[2], &paths)) return left();
+    osb_ignores *ignores = PyLong_AsVoidPtr(args[1]);
+    PyObject *made = ignores == NULL ? NULL : PyList_New(3 * (Py_ssize_t)paths.count);
+    for (size_t it = 0; made != NULL && it < paths.count; it++) {
+        osb_view path = paths.views[it];
+        osb_decision decision;
+        bool is_dir = path.len > 0 && path.at[path.len - 1] == '/';
+        if (path.len == 0 || path.at[0] == '.' || !is_without_nul(path) ||
+            CALL(osb_ignores_match)(ignores, path.at, path.len - is_dir, is_dir, &decision) != OSB_OK) {
+            Py_CLEAR(made);
+            break;
+        }
+        const size_t numbers[] = {decision.kind, decision.line, decision.file};
+        for (size_t i = 0; i < 3 && made != NULL; i++) {
+            PyObject *number = PyLong_FromSize_t(numbers[i]);
+            if (number == NULL) Py_CLEAR(made);
+            else PyList_SetItem(made, (Py_ssize_t)(3 * it + i), number);
+        }
+    }
+    forget(&paths);
+    return made != NULL ? made : left();
 }
 
 /* Leaves a path that begins with ./ or ends with / to Python. */
 static PyObject *ignored(PyObject *self, PyObject *const *args, Py_ssize_t n) {
     string path;
-    struct {
-        uint32_t kind;
-        size_t file, line;
-    } decision;
+    osb_decision decision;
     if (n != 4 || !PyBool_Check(args[3]) || !read_string(args[2], &path)) return left();
-    void *ignores = PyLong_AsVoidPtr(args[1]);
+    osb_ignores *ignores = PyLong_AsVoidPtr(args[1]);
     if (ignores == NULL || path.len == 0 || path.at[0] == '.' || path.at[path.len - 1] == '/') return left();
-    if (memchr(path.at, 0, (size_t)path.len) != NULL) return left();
-    osb_status (*call)(void *, const char *, size_t, bool, void *) =
-        (osb_status(*)(void *, const char *, size_t, bool, void *))PyLong_AsVoidPtr(args[0]);
-    osb_status status = call(ignores, path.at, (size_t)path.len, args[3] == Py_True, &decision);
-    return status == OSB_OK ? PyBool_FromLong(decision.kind == 1) : left();
+    if (!is_without_nul((osb_view){path.at, (size_t)path.len})) return left();
+    osb_status status = CALL(osb_ignores_match)(ignores, path.at, (size_t)path.len, args[3] == Py_True, &decision);
+    return status == OSB_OK ? PyBool_FromLong(decision.kind == OSB_IGNORED) : left();
 }
 
 static PyObject *pieces(PyObject *self, PyObject *const *args, Py_ssize_t n) {
@@ -295,8 +363,8 @@ static PyObject *pieces(PyObject *self, PyObject *const *args, Py_ssize_t n) {
 
 #define NAMED(name) {#name, (PyCFunction)(void (*)(void))name, METH_FASTCALL, NULL}
 static PyMethodDef methods[] = {
-    NAMED(built), NAMED(checked), NAMED(compared), NAMED(components), NAMED(contained), NAMED(found), NAMED(holds),
-    NAMED(ignored), NAMED(joined), NAMED(line), NAMED(matched), NAMED(ordered), NAMED(part), NAMED(pieces), NAMED(rest),
+    NAMED(all_matched), NAMED(built), NAMED(checked), NAMED(compared), NAMED(components), NAMED(contained),
+    NAMED(decided), NAMED(found), NAMED(holds), NAMED(ignored), NAMED(joined), NAMED(line), NAMED(matched), NAMED(ordered), NAMED(part), NAMED(pieces), NAMED(rest),
     NAMED(text), NAMED(wide_line), NAMED(word), {NULL, NULL, 0, NULL},
 };
 static PyModuleDef_Slot slots[] = {{0, NULL}};

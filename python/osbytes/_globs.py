@@ -4,13 +4,12 @@ from __future__ import annotations
 
 from ctypes import addressof, c_bool, c_void_p
 from enum import IntEnum, IntFlag
-from threading import Lock
 from typing import Any, Iterable
 
 from . import _quick as quick
 from ._errors import GlobError, NulError
 from ._library import BAD_OPTION, BAD_PATTERN, HAS_NUL, NO_MEMORY, GlobFault, Views, address_of, is_so, library
-from ._strings import UNIX, WINDOWS, AnyOsName, Platform, as_platform, done, index_in, read_all, read_valid, said
+from ._strings import UNIX, WINDOWS, AnyOsName, Platform, as_platform, done, index_in, only_list, read_all, read_valid, said
 
 
 class GlobFlag(IntFlag):
@@ -37,6 +36,7 @@ class GlobFaultKind(IntEnum):
 
 
 _IS_MATCH = address_of(library.osb_globs_is_match)
+_MATCHES = address_of(library.osb_globs_matches)
 
 
 def without_nul(raw: bytes, errors: str | None, which: int | None = None) -> bytes:
@@ -82,7 +82,7 @@ class GlobSet:
             raise TypeError(f"expected GlobFlag or None, not {type(flags).__name__}")
         if flags is not None and not 0 <= flags < 2 * GlobFlag.ANY_CASE:
             raise ValueError(said(BAD_OPTION))
-        self._platform, self._lock = platform, Lock()
+        self._platform = platform
         self._flags = GlobFlag(usual if flags is None else flags)
         self._patterns, views, errors = _list_of(patterns, platform)
         made, fault = c_void_p(), GlobFault()
@@ -111,19 +111,17 @@ class GlobSet:
         return repr(self._patterns)
 
     def matches(self, paths: Iterable[AnyOsName]) -> list[bool]:
-        """Returns for each path whether it matches, in a fraction of the time of as many calls of `is_match`."""
+        """Returns for each path whether it matches, by one call of the library: faster than `is_match` from about ten paths on."""
+        only_list(paths)
+        paths = list(paths)
+        answers = quick.all_matched(_MATCHES, self._handle or 0, paths)
+        if answers is not NotImplemented:
+            return answers
         _, views, _ = _list_of(paths, self._platform)
-        other, told = c_void_p(), (c_bool * views.count)()
-        # a call on one handle excludes others, so a long one has a handle of its own
-        with self._lock:
-            status = library.osb_globs_share(self._handle, addressof(other))
+        told = (c_bool * views.count)()
+        status = library.osb_globs_matches(self._handle, views.at, views.count, addressof(told))
         if status == NO_MEMORY:
             raise MemoryError
-        done(status)
-        try:
-            status = library.osb_globs_matches(other.value, views.at, views.count, addressof(told))
-        finally:
-            library.osb_globs_free(other.value)
         done(status)
         return list(told)
 
@@ -137,8 +135,7 @@ class GlobSet:
             return answer
         raw, errors = read_valid(path, self._platform)
         without_nul(raw, errors)
-        with self._lock:
-            return is_so(library.osb_globs_is_match(self._handle, raw, len(raw)))
+        return is_so(library.osb_globs_is_match(self._handle, raw, len(raw)))
 
 
 class Glob(GlobSet):

@@ -11,7 +11,7 @@ from typing import Any, Iterable, NamedTuple
 from . import _quick as quick
 from ._globs import without_nul
 from ._library import NO_MEMORY, Decision, address_of, library
-from ._strings import UNIX, AnyOsName, OsString, done, read, read_all
+from ._strings import UNIX, AnyOsName, OsString, done, only_list, read, read_all
 
 _MATCH = address_of(library.osb_ignores_match)
 
@@ -85,6 +85,7 @@ class Ignore:
         if not isinstance(text, (str, bytes)):
             raise TypeError(f"expected str or bytes, not {type(text).__name__}")
         file, place = read(text, UNIX)[0], _from_top(without_nul(*read(directory, UNIX)))
+        # so that the files are listed in the order of their numbers
         with self._lock:
             status = library.osb_ignores_add(self._handle, place, len(place), file, len(file))
             if status == NO_MEMORY:
@@ -98,15 +99,14 @@ class Ignore:
             self.add(file.read(), directory)
 
     def __reduce__(self) -> tuple[Any, ...]:
-        return _remade, (self._files,)
+        return _remade, (self._files.copy(),)
 
     def __repr__(self) -> str:
         return f"<Ignore of {self._files!r}>"
 
     def _verdict(self, path: bytes, is_dir: bool) -> Verdict:
         decision, raw = Decision(), _from_top(path)
-        with self._lock:
-            done(library.osb_ignores_match(self._handle, raw, len(raw), is_dir or path.endswith(b"/"), addressof(decision)))
+        done(library.osb_ignores_match(self._handle, raw, len(raw), is_dir or path.endswith(b"/"), addressof(decision)))
         return Verdict(_KINDS[decision.kind], decision.line, decision.file)
 
     def verdict(self, path: AnyOsName, is_dir: bool = False) -> Verdict:
@@ -115,6 +115,12 @@ class Ignore:
 
     def matched(self, paths: Iterable[AnyOsName]) -> list[Verdict]:
         """Returns what the lines decide for each path. Raises `NulError` if one has a NUL."""
+        only_list(paths)
+        paths = list(paths)
+        numbers = quick.decided(_MATCH, self._handle or 0, paths)
+        if numbers is not NotImplemented:
+            each = iter(numbers)
+            return [Verdict(_KINDS[kind], line, file) for kind, line, file in zip(each, each, each)]
         items, errors = read_all(paths, UNIX)
         given = [without_nul(item, errors, which) for which, item in enumerate(items)]
         return [self._verdict(item, False) for item in given]

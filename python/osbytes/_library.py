@@ -181,7 +181,6 @@ STATUSES: dict[str, Sequence[Any]] = {
     "osb_path_with_added_extension": PATHS,
     "osb_globs_new": [c_uint32, c_uint32, AT, c_size_t, AT, AT],
     "osb_globs_matches": [AT, AT, c_size_t, AT],
-    "osb_globs_share": [AT, AT],
     "osb_ignores_new": [AT],
     "osb_ignores_add": [AT, *STRING, *STRING],
     "osb_ignores_match": [AT, *STRING, c_bool, AT],
@@ -215,7 +214,13 @@ TESTS: dict[str, Sequence[Any]] = {
 
 def load(name: str) -> CDLL:
     """Loads the library, and gives each call its types."""
-    found = CDLL(name)
+    try:
+        found = CDLL(name)
+    except OSError as why:
+        raise ImportError(
+            f"libosbytes can't be loaded: {why}. An installed wheel has it: `tools/release/release --only python FOLDER` makes one in "
+            "a checkout. OSBYTES_LIBRARY names another libosbytes.so"
+        ) from None
     typed: list[tuple[str, Sequence[Any], Any]] = [(call, types, c_uint32) for call, types in STATUSES.items()]
     typed += [(call, types, c_int) for call, types in TESTS.items()]
     typed += [("osb_version", [], c_uint32), ("osb_status_text", [c_uint32], c_char_p), ("osb_globs_free", [AT], None)]
@@ -226,7 +231,9 @@ def load(name: str) -> CDLL:
     return found
 
 
-library = load(os.environ.get("OSBYTES_LIBRARY") or str(Path(__file__).with_name("libosbytes.so")))
+# The name of the file beside this one.
+FILE = "osbytes.dll" if os.name == "nt" else "libosbytes.so"
+library = load(os.environ.get("OSBYTES_LIBRARY") or str(Path(__file__).with_name(FILE)))
 
 Call = Callable[..., int]
 
@@ -324,7 +331,7 @@ def written(call: Callable[[Room], int], need: int, width: int = 1) -> tuple[int
 
 
 def version() -> str:
-    """Returns the version of libosbytes, as `0.2.0`.
+    """Returns the version of libosbytes, as `0.3.0`.
 
     >>> version().count(".")
     2

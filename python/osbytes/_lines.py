@@ -2,16 +2,17 @@
 
 from __future__ import annotations
 
+import os
 from array import array
 from ctypes import addressof
 from enum import IntEnum
-from typing import Any, AnyStr, Iterable
+from typing import Any, AnyStr, Iterable, overload
 
 from . import _quick as quick
 from ._calls import from_wide
 from ._errors import FaultError, LineError, NulError, QuoteError
 from ._library import BAD_LINE, FAULTY, HAS_NUL, HAS_QUOTE, Call, LineFault, Room, Views, address_of, library, written
-from ._strings import UNIX, WINDOWS, AnyOsName, OsName, done, index_in, only_list, read, read_all, read_valid, returned, said
+from ._strings import UNIX, WINDOWS, AnyOsName, OsName, OsString, done, index_in, only_list, read, read_all, read_valid, returned, said
 
 
 class LineKind(IntEnum):
@@ -62,6 +63,9 @@ def shell_quote(name: OsName[AnyStr]) -> AnyStr:
     the GNU C library misreads a quote after a byte from 0x81 on and a digit that begin no character. First on a line
     `if` or `time` is a reserved word, which `shell_join` quotes. Raises `NulError` if the name has a NUL.
 
+    The word is for scripts, `eval` and `sh -c`. It has the control characters of the name, and a terminal acts on these, in
+    quotes too, so that a part of the name may run as a command. At a prompt paste only words of `shell_quote_line`.
+
     >>> shell_quote("it's")
     "'it'\\\\''s'"
     """
@@ -74,7 +78,8 @@ def shell_quote(name: OsName[AnyStr]) -> AnyStr:
 def shell_quote_line(name: OsName[AnyStr]) -> AnyStr:
     """Returns a name as such a word on one line, for bash, zsh, ksh93, mksh and busybox, which read `$'..'`.
 
-    The locales are those of `shell_quote`: no backslash follows a byte from 0x80 on. Raises as `shell_quote` does.
+    It has no control character, and may be pasted at a prompt. The locales are those of `shell_quote`: no backslash
+    follows a byte from 0x80 on. Raises as `shell_quote` does.
 
     >>> shell_quote_line("a\\n")
     "$'a\\\\n'"
@@ -100,6 +105,9 @@ def fish_quote(name: OsName[AnyStr]) -> AnyStr:
 def powershell_quote(name: AnyOsName) -> str:
     """Returns a name of Windows as a single-quoted string of PowerShell.
 
+    Write a script with it as UTF-16 or with a byte order mark (`utf-8-sig`), or pass it by `-EncodedCommand`. Windows
+    PowerShell 5.1 reads a script without the mark as Windows-1252, in which letters such as U+0412 end the string.
+
     Raises `FaultError` if it isn't a text, as with a lone surrogate, and `NulError` if it has a NUL.
 
     >>> powershell_quote("it's")
@@ -119,19 +127,31 @@ def powershell_quote(name: AnyOsName) -> str:
     return str(room.written("strict"))
 
 
-def shell_join(names: Iterable[OsName[AnyStr]]) -> AnyStr:
+@overload
+def shell_join(names: Iterable[str | os.PathLike[str]]) -> str: ...
+
+
+@overload
+def shell_join(names: Iterable[bytes | os.PathLike[bytes]]) -> bytes: ...
+
+
+@overload
+def shell_join(names: Iterable[OsString]) -> OsString: ...
+
+
+def shell_join(names: Iterable[AnyOsName]) -> OsString:
     """Returns a line of the words of names of Unix, with a space between them, which a shell reads as these names.
 
     A first name that is a reserved word, or an alias that a shell begins with, is quoted, so that it is run as a command.
     The names are all `str` or all `bytes`; without any the line is the empty `str`. Raises `NulError`, with `which` and
-    `index`, if a name has a NUL.
+    `index`, if a name has a NUL. A line with control characters isn't safe to paste at a prompt (`shell_quote`).
 
     >>> shell_join(["cp", "a b", ""])
     "cp 'a b' ''"
     """
     only_list(names)
     names = list(names)
-    quoted: AnyStr = quick.line(_JOIN, names)
+    quoted: OsString = quick.line(_JOIN, names)
     if quoted is not NotImplemented:
         return quoted
     words, errors = read_all(names, UNIX)
@@ -144,7 +164,7 @@ def shell_join(names: Iterable[OsName[AnyStr]]) -> AnyStr:
     if status == HAS_NUL:
         raise _with_nul(words[room.which], room.index, errors, room.which)
     done(status)
-    line: AnyStr = room.written(errors)
+    line: OsString = room.written(errors)
     return line
 
 
@@ -154,7 +174,7 @@ def shell_words(line: OsName[AnyStr], *, specials: bool = False, dollar_quotes: 
     A character by which some POSIX shell in C or UTF-8 expands or does something else is rejected, or means itself if
     `specials` is true. These are ``| & ; < > ( ) $ * ? [ { } ~ ! ` `` and a carriage return outside quotes, `# = ^` first in a
     word, and ``$ ! ` `` in double quotes. Blanks beyond ASCII are part of a word, but yash takes them for blanks. `$'..'` is
-    read if `dollar_quotes` is true.
+    read if `dollar_quotes` is true. A line with control characters may be read differently where it is typed at a prompt.
 
     Raises `LineError` if the line isn't a list of words, and `NulError` if it has a NUL.
 
@@ -205,8 +225,9 @@ def _one_wide(call: Call, need: int, raw: bytes, errors: str | None) -> bytes:
 def windows_quote(argument: OsName[AnyStr]) -> AnyStr:
     """Returns the text of an argument in a command line of Windows, from which a program reads this argument.
 
-    Programs of the C runtime and most others read it so, but `cmd.exe` reads lines by rules of its own. Raises `NulError`
-    if it has a NUL.
+    Programs of the C runtime and most others read it so, but `cmd.exe` reads lines by rules of its own. A program that is
+    linked with `setargv.obj` expands `*` and `?` in an argument without quotation marks, as `*.txt`. Raises `NulError` if it
+    has a NUL.
 
     >>> windows_quote("a b\\\\")
     '"a b\\\\\\\\"'
@@ -253,7 +274,10 @@ def windows_command_line(program: OsName[AnyStr], arguments: Iterable[OsName[Any
 
 
 def windows_arguments(line: OsName[AnyStr]) -> list[AnyStr]:
-    """Returns the program's name and the arguments of a command line of Windows, as the C runtime of 2015 and later reads it.
+    """Returns the program's name and the arguments of a command line of Windows, as the C runtime of 2008 and later reads it.
+
+    `CommandLineToArgvW` reads some lines differently: there two quotation marks within a quoted part end it, and a program's
+    name that begins with a quotation mark ends at the next one.
 
     Raises `NulError` if it has a NUL.
 

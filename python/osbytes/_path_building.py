@@ -91,7 +91,8 @@ def path_join_checked(base: OsName[AnyStr], path: OsName[AnyStr], platform: Plat
     """Returns a path below a base, with `.` and `..` resolved, for names that come from an archive or a request.
 
     Raises `JoinError`, with the reason, if the path has a prefix or a root, or a `..` would leave the base, and on Windows
-    also if a name has a colon or is reserved, or the base isn't a place of its own, as `\\\\server`. A NUL in either is
+    also if a name has a colon, is reserved as `nul.txt`, has one of `<>"|?*` or a control character or ends with a space or a
+    dot, which Windows rejects or removes, or the base isn't a place of its own, as `\\\\server`. A NUL in either is
     rejected, with its index. The file system isn't read, so a symbolic link below the base can still lead elsewhere.
 
     >>> path_join_checked("/srv/files", "./a/../b//c")
@@ -144,7 +145,9 @@ def path_normalize(path: OsName[AnyStr], platform: Platform = UNIX) -> AnyStr | 
 
 
 def path_clean(path: OsName[AnyStr], platform: Platform = UNIX) -> AnyStr:
-    """Returns the path cleaned, as `os.path.normpath` does. A `..` without a name before it is kept, but not at a root.
+    """Returns the path cleaned, as Go's `path.Clean` does, and as `os.path.normpath` does but for two slashes at the start,
+    which become one. What the prefix of a Windows path is follows Rust's std. A `..` without a name before it is kept, but
+    not at a root.
 
     >>> path_clean("./../a//b/.."), path_clean("/.."), path_clean("")
     ('../a', '/', '.')

@@ -1,14 +1,16 @@
-"""Paths as objects with the names of `pathlib.PurePath`, of either platform on any platform."""
+"""Paths as objects with the names of `pathlib.PurePath` (README.md lists the differences), of either platform on any platform."""
 
 from __future__ import annotations
 
 import os
 from functools import total_ordering
-from typing import Any, ClassVar, TypeVar
+from typing import Any, ClassVar, Sequence, TypeVar, overload
+from urllib.parse import quote_from_bytes
 
 from ._calls import decode
-from ._errors import OsBytesError
-from ._path_building import path_convert, path_join, path_join_checked, path_relative, path_with_extension
+from ._errors import JoinError, OsBytesError
+from ._globs import Glob, GlobFlag
+from ._path_building import JoinReason, path_convert, path_join, path_join_checked, path_relative, path_with_extension
 from ._paths import (
     Kind,
     parts_of,
@@ -160,9 +162,9 @@ class OsPath:
         return self._with(self._names[:-1]) if self._names else self
 
     @property
-    def parents(self: P) -> tuple[P, ...]:
-        """The parent, its parent, and so on."""
-        return tuple(self._with(self._names[:end]) for end in range(len(self._names) - 1, -1, -1))
+    def parents(self: P) -> Sequence[P]:
+        """The parent, its parent, and so on. Each is made when it is used."""
+        return Parents(self)
 
     @property
     def name(self) -> str:
@@ -179,6 +181,53 @@ class OsPath:
     def stem(self) -> str:
         """The name without its suffix."""
         return self.name[: len(self.name) - len(self.suffix)]
+
+    @property
+    def suffixes(self) -> list[str]:
+        """The suffixes of the name, as `.tar` and `.gz` of `x.tar.gz`. Dots at its start begin none."""
+        return [f".{suffix}" for suffix in self.name.lstrip(".").split(".")[1:]]
+
+    def as_posix(self) -> str:
+        """Returns the text of the path with `/` as its separator."""
+        return str(self).replace(self._separator, "/")
+
+    def as_uri(self) -> str:
+        """Returns the `file:` URI of the path (RFC 8089), whose bytes are escaped. Raises `OsBytesError` if it isn't absolute."""
+        if not self.is_absolute():
+            raise OsBytesError("relative path can't be expressed as a file URI")
+        raw = read_valid(self.as_posix(), self.platform)[0]
+        if self._drive[1:] == ":":
+            return f"file:///{self._drive}{quote_from_bytes(raw[2:])}"
+        return ("file:" if self._drive else "file://") + quote_from_bytes(raw)
+
+    def is_reserved(self) -> bool:
+        """Returns whether Windows reserves a name of the path, as `nul.txt`, rejects or changes it, as `os.path.isreserved` of
+        Python 3.13 does. On Unix none is reserved."""
+        return self.platform is WINDOWS and any(_is_reserved(name) for name in self._names)
+
+    def match(self, pattern: AnyOsName) -> bool:
+        """Returns whether the last names match those of a pattern. If it has an anchor, that is equal and all names match.
+
+        Names are matched by the patterns of `Glob`, without separators and escapes: `{a,b}` is either, and upper and lower
+        case differ, also on Windows. `**` is `*`. Raises `GlobError` if a name of the pattern is malformed, and `OsBytesError` if there is none.
+        """
+        wanted = self._made(self._read(pattern))
+        if not wanted.anchor and not wanted._names:
+            raise OsBytesError("empty pattern")
+        count = len(wanted._names)
+        if wanted.anchor and (wanted._key()[:2] != self._key()[:2] or count != len(self._names)) or count > len(self._names):
+            return False
+        last = self._names[len(self._names) - count :]
+        return all(Glob(own, 0, self.platform).is_match(name) for own, name in zip(wanted._names, last))
+
+    def full_match(self, pattern: AnyOsName) -> bool:
+        """Returns whether the whole path matches a pattern, in which `**` is any number of names. Else as `match`."""
+        wanted = self._made(self._read(pattern))
+        if wanted._key()[:2] != self._key()[:2]:
+            return False
+        if not self._names:
+            return all(name == "**" for name in wanted._names)
+        return Glob("/".join(wanted._names), GlobFlag.SLASH, self.platform).is_match("/".join(self._names))
 
     def is_absolute(self) -> bool:
         """Returns whether the path has a root, and on Windows a drive too."""
@@ -247,6 +296,42 @@ class OsPath:
     def convert(self, to: type[Q]) -> Q:
         """Returns the path of the class `to` that has the same components. Raises `ConvertError` if there is none."""
         return to(path_convert(self._text, platform=self.platform, to=to.platform))
+
+
+class Parents(Sequence[P]):
+    """The parents of a path."""
+
+    __slots__ = ("_path",)
+
+    def __init__(self, path: P) -> None:
+        self._path = path
+
+    def __len__(self) -> int:
+        return len(self._path._names)
+
+    @overload
+    def __getitem__(self, index: int) -> P: ...
+
+    @overload
+    def __getitem__(self, index: slice) -> tuple[P, ...]: ...
+
+    def __getitem__(self, index: int | slice) -> P | tuple[P, ...]:
+        if isinstance(index, slice):
+            return tuple(self[it] for it in range(*index.indices(len(self))))
+        names = range(len(self) - 1, -1, -1)[index]
+        return self._path._with(self._path._names[:names])
+
+    def __repr__(self) -> str:
+        return f"<{type(self._path).__name__}.parents>"
+
+
+def _is_reserved(name: str) -> bool:
+    """Returns whether Windows reserves a name or changes it."""
+    try:
+        path_join_checked(".", name, WINDOWS)
+    except JoinError as error:
+        return error.reason in (JoinReason.PREFIX, JoinReason.RESERVED, JoinReason.STREAM)
+    return False
 
 
 class UnixPath(OsPath):

@@ -37,6 +37,7 @@ def calls(a: Any, b: Any, of: osbytes.Platform, number: int) -> list[Callable[[]
         lambda: osbytes.rfind(a, b),
         lambda: osbytes.contains(a, b),
         lambda: osbytes.split(a, b),
+        lambda: osbytes.rsplit(a, b),
         lambda: osbytes.compare(a, b),
         lambda: osbytes.starts_with(a, b, of),
         lambda: osbytes.ends_with(a, b, of),
@@ -59,7 +60,12 @@ def calls(a: Any, b: Any, of: osbytes.Platform, number: int) -> list[Callable[[]
         lambda: osbytes.path_with_extension(a, b, of),
         lambda: osbytes.path_with_added_extension(a, b, of),
         lambda: GLOBS.is_match(a),
+        lambda: GLOBS.matches([a, b] * number),
+        lambda: GLOBS.matches(iter([a] * number)),
+        lambda: GLOBS.matches(a),
         lambda: IGNORE.is_ignored(a, number % 2 == 0),
+        lambda: IGNORE.matched([a, b] * number),
+        lambda: IGNORE.matched(f"{a!r}/" for _ in range(number)),
         lambda: (osbytes.WindowsPath(a) / b).parts,
     ]
 

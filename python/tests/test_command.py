@@ -54,6 +54,13 @@ class Names(unittest.TestCase):
             self.assertEqual((ran.returncode, ran.stdout), (2, b""))
             self.assertEqual(ran.stderr.decode(), f"osbytes: unexpected argument {unexpected} (see --help)\n")
 
+    def test_platform(self) -> None:
+        """Names are printed as strings of the platform, as the arguments are on Windows."""
+        code = "import osbytes, osbytes.__main__ as it; it.list_names(iter([[b'a\\xed\\xa0\\xbd']]), osbytes.%s)"
+        for platform, printed in (("WINDOWS", b"a\\uD83D\n"), ("UNIX", b"a\\xED\\xA0\\xBD\n")):
+            ran = subprocess.run([sys.executable, "-c", code % platform], stdout=subprocess.PIPE, check=True)
+            self.assertEqual(ran.stdout, printed)
+
     def test_streams(self) -> None:
         """Each name is printed when it has arrived, and not when the input ends."""
         for words, first, shown, second, after in (

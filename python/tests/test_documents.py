@@ -40,6 +40,7 @@ text: str = osbytes.shell_quote("a")
 raw: bytes = osbytes.shell_quote(b"a")
 quoted: str = osbytes.shell_quote(pathlib.Path("a"))
 line: str = osbytes.shell_join(["a", "b"])
+mixed_line: str = osbytes.shell_join(["a", pathlib.Path("b")])
 words: list[bytes] = osbytes.shell_words(b"a b")
 parent: str | None = osbytes.path_parent("a/b", WINDOWS)
 joined: bytes = osbytes.path_join(b"a", b"b", platform=UNIX)
@@ -54,6 +55,14 @@ answers: list[bool] = globs.matches([pathlib.Path("a"), "b"])
 verdict: osbytes.Verdict = osbytes.Ignore("*.o").verdict("a.o")
 platform: Platform = osbytes.WASM
 value: str = osbytes.Options(["-a", "b"]).value()
+
+
+def joined_line(names: list[OsString]) -> OsString:
+    return osbytes.shell_join(names)
+
+
+def reason_of(error: osbytes.JoinError) -> osbytes.JoinReason | None:
+    return error.reason
 
 
 def shown(names: Iterator[OsString]) -> list[str]:

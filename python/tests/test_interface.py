@@ -4,12 +4,12 @@ from __future__ import annotations
 
 import copy
 import inspect
+import ntpath
 import os
 import pickle
 import random
 import subprocess
 import sys
-import threading
 import unittest
 from concurrent.futures import ProcessPoolExecutor
 from pathlib import Path, PurePosixPath, PureWindowsPath
@@ -391,26 +391,6 @@ class Objects(unittest.TestCase):
         glob = pickle.loads(pickle.dumps(Glob("*.c", platform=WINDOWS)))
         self.assertEqual((type(glob), glob.is_match("a.c"), glob.is_match("b\\a.c")), (Glob, True, False))
 
-    def test_threads(self) -> None:
-        globs, wrong = GlobSet([f"*.{number}" for number in range(50)]), []
-
-        def ask(own: int) -> None:
-            paths = [f"a.{number}" for number in range(100)]
-            for _ in range(100):
-                if globs.matches(paths) != [number < 50 for number in range(100)]:
-                    wrong.append(own)
-                if globs.is_match(f"b.{own}") != (own < 50):
-                    wrong.append(own)
-                if osbytes.escape(f"\\{own}" * own) != f"\\\\{own}" * own:
-                    wrong.append(own)
-
-        threads = [threading.Thread(target=ask, args=(own,)) for own in (1, 7, 49, 51, 99)]
-        for thread in threads:
-            thread.start()
-        for thread in threads:
-            thread.join()
-        self.assertEqual(wrong, [])
-
     def test_options(self) -> None:
         options = Options(["-a", "b", "-c"])
         next(options)
@@ -478,6 +458,8 @@ class Paths(unittest.TestCase):
                     self.assertEqual(str(path.joinpath(other, "c")), str(wanted.joinpath(other, "c")))
                 for base in (other, *path.parents):
                     theirs = python(str(base))
+                    if sys.version_info >= (3, 12) and theirs.drive and not theirs.root and wanted.root:
+                        continue  # C:\\ is no longer below C: there
                     self.assertEqual(path.is_relative_to(base), wanted.is_relative_to(theirs), (text, base))
                     if wanted.is_relative_to(theirs):
                         self.assertEqual(str(path.relative_to(base)), str(wanted.relative_to(theirs)))
@@ -486,6 +468,46 @@ class Paths(unittest.TestCase):
                 self.assertEqual(path == of(other), wanted == python(other))
                 if of is osbytes.UnixPath and path.root == of(other).root:
                     self.assertEqual(path < of(other), wanted < python(other))
+
+    def test_more_beside_pathlib(self) -> None:
+        unix, windows = ["/", "/", "a", "b.txt", ".x", "x.tar.gz"], ["\\", "/", "a", "b.txt", ".x", "x.tar.gz", "nul", "C:", "a."]
+        for of, python, pieces in ((osbytes.UnixPath, PurePosixPath, unix), (osbytes.WindowsPath, PureWindowsPath, windows)):
+            patterns = self.made_up([*pieces, "*", "?", "**", "/**/"], 5)
+            for text, pattern in zip(self.made_up(pieces, 4), patterns):
+                path, wanted = of(text), python(text)
+                if str(path) != str(wanted):
+                    continue
+                self.assertEqual(path.as_posix(), wanted.as_posix())
+                if path.is_absolute():
+                    self.assertEqual(path.as_uri(), wanted.as_uri())
+                else:
+                    self.assertRaises(ValueError, path.as_uri)
+                if not path.name.endswith("."):
+                    self.assertEqual(path.suffixes, wanted.suffixes, text)
+                if of is osbytes.UnixPath:
+                    self.assertIs(path.is_reserved(), False)
+                elif sys.version_info >= (3, 13):
+                    self.assertEqual(path.is_reserved(), ntpath.isreserved(text), text)
+                own = of(pattern)
+                if own.anchor or not own.parts or str(own) != str(python(pattern)):
+                    continue
+                if not wanted.anchor or len(own.parts) < len(path.parts):
+                    self.assertEqual(path.match(pattern), wanted.match(pattern), (text, pattern))
+                if path.parts and not wanted.anchor and hasattr(wanted, "full_match"):
+                    self.assertEqual(path.full_match(pattern), wanted.full_match(pattern), (text, pattern))
+        path = osbytes.UnixPath("/usr/lib/x.tar.gz")
+        parents = path.parents
+        self.assertEqual([str(it) for it in (parents[0], parents[-1], *parents[1:])], ["/usr/lib", "/", "/usr", "/"])
+        self.assertRaises(IndexError, parents.__getitem__, 3)
+        self.assertEqual((len(parents), repr(parents), path.parent in parents), (3, "<UnixPath.parents>", True))
+        self.assertEqual(str(osbytes.UnixPath("a/" * 20_000).parents[-2]), "a")
+        self.assertEqual([path.match(it) for it in ("*.gz", "lib/*", "/usr/*", "/usr/**/*", "*/lib/*")], [True, True, False, True, True])
+        self.assertEqual([path.full_match(it) for it in ("*.gz", "/usr/**", "/**/*.gz", "**")], [False, True, True, False])
+        self.assertEqual([path.match(it) for it in ("*.{xz,gz}", b"*.g[x-z]", "*.GZ")], [True, True, False])
+        self.assertRaises(osbytes.GlobError, path.match, "[a")
+        self.assertRaises(OsBytesError, path.match, "")
+        self.assertEqual(osbytes.UnixPath("/a b/\udcff").as_uri(), "file:///a%20b/%FF")
+        self.assertEqual(osbytes.WindowsPath("c:/work").match("C:\\w*"), True)
 
     def test_beside_the_library(self) -> None:
         """The text of a path has its components, and paths are equal exactly if the library compares them so."""

@@ -77,6 +77,7 @@ class BesidePython(unittest.TestCase):
             line = osbytes.escape_line(string)
             self.assertEqual(osbytes.unescape_line(line), string)
             self.assertEqual(len(line.splitlines()), 1 if string else 0)
+            self.assertEqual(line.rstrip(), line)
             self.assertEqual(b"".join(part + text.encode() for part, text in osbytes.chunks(string)), string)
 
     def test_file_system_names(self) -> None:

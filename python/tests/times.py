@@ -27,6 +27,9 @@ THREE = ["cp", "a b", "c'd"]
 GLOB, IGNORE = osbytes.Glob("*.rs", 0), osbytes.Ignore("*.log\ntarget/\n!keep.log\n" * 9)
 COMPILED = re.compile(fnmatch.translate("*.rs"))
 UNIX_PATH = getattr(osbytes, "UnixPath", None)
+MADE_PATH, OWN_PATH = UNIX_PATH(PATH) if UNIX_PATH else None, PurePosixPath(PATH)
+LINES = b"/usr/share/doc/readme.txt\n" * 40_000
+MANY = [f"src/lib/a b{number}.rs" for number in range(1000)]
 
 ROWS: list[tuple[str, Callable[[], Any], str, Callable[[], Any] | None]] = [
     ("`shell_quote`", lambda: osbytes.shell_quote(NAME), "`shlex.quote`", lambda: shlex.quote(NAME)),
@@ -42,6 +45,9 @@ ROWS: list[tuple[str, Callable[[], Any], str, Callable[[], Any] | None]] = [
     ("`contains`", lambda: osbytes.contains(SHOWN, "."), "`in`", lambda: b"." in SHOWN),
     ("`starts_with`", lambda: osbytes.starts_with(SHOWN, b"src"), "`bytes.startswith`", lambda: SHOWN.startswith(b"src")),
     ("`compare`", lambda: osbytes.compare(SHOWN, OTHER), "`<`", lambda: SHOWN < OTHER),
+    ("`rsplit` of 3", lambda: osbytes.rsplit(SHOWN, "/"), "`bytes.rsplit`", lambda: SHOWN.rsplit(b"/")),
+    ("`symbols` of 14 bytes", lambda: list(osbytes.symbols(SHOWN)), "`list`", lambda: list(NAME)),
+    ("`to_units`", lambda: osbytes.to_units(SHOWN), "`list` of `encode(utf-16)`", lambda: list(memoryview(NAME.encode("utf-16-le")).cast("H"))),
     ("`split` of 3", lambda: osbytes.split(SHOWN, "/"), "`bytes.split`", lambda: SHOWN.split(b"/")),
     ("`path_parent`", lambda: osbytes.path_parent(PATH), "`posixpath.dirname`", lambda: posixpath.dirname(PATH)),
     ("`path_file_name`", lambda: osbytes.path_file_name(PATH), "`posixpath.basename`", lambda: posixpath.basename(PATH)),
@@ -50,9 +56,14 @@ ROWS: list[tuple[str, Callable[[], Any], str, Callable[[], Any] | None]] = [
     ("`path_relative`", lambda: osbytes.path_relative(PATH, BASE), "`posixpath.relpath`", lambda: posixpath.relpath(PATH, BASE)),
     ("`path_components`", lambda: osbytes.path_components(PATH), "`PurePosixPath.parts`", lambda: PurePosixPath(PATH).parts),
     ("`UnixPath(..).parent`", (lambda: UNIX_PATH(PATH).parent) if UNIX_PATH else lambda: None, "`PurePosixPath(..).parent`", lambda: PurePosixPath(PATH).parent),
+    ("`UnixPath(..) / \"a\"`", (lambda: MADE_PATH / "a") if UNIX_PATH else lambda: None, "`PurePosixPath(..) / \"a\"`", lambda: OWN_PATH / "a"),
+    ("`UnixPath.with_suffix`", (lambda: MADE_PATH.with_suffix(".md")) if UNIX_PATH else lambda: None, "`PurePosixPath.with_suffix`", lambda: OWN_PATH.with_suffix(".md")),
     ("`Glob.is_match`", lambda: GLOB.is_match("a/b.rs"), "`fnmatchcase`", lambda: fnmatch.fnmatchcase("a/b.rs", "*.rs")),
+    ("`GlobSet.matches` of 1000", lambda: GLOB.matches(MANY), "a loop of `fnmatchcase`", lambda: [fnmatch.fnmatchcase(name, "*.rs") for name in MANY]),
+    ("`shell_join` of 1000", lambda: osbytes.shell_join(MANY), "`shlex.join`", lambda: shlex.join(MANY)),
     ("`Ignore.is_ignored`, 27 lines", lambda: IGNORE.is_ignored("a/b.rs"), "", None),
     ("`escape_line` of 1 MB", lambda: osbytes.escape_line(LONG), "`decode(.., backslashreplace)`", lambda: LONG.decode("utf-8", "backslashreplace")),
+    ("`escape_line` of 1 MB in lines", lambda: osbytes.escape_line(LINES), "`decode(.., backslashreplace)`", lambda: LINES.decode("utf-8", "backslashreplace")),
     ("`shell_quote` of 1 MB", lambda: osbytes.shell_quote(MEGABYTE), "`shlex.quote`", lambda: shlex.quote(MEGABYTE)),
     ("`split` of 1 MB", lambda: osbytes.split(LONG, "/"), "`bytes.split`", lambda: LONG.split(b"/")),
     ("`to_units` of 1 MB", lambda: osbytes.to_units(LONG), "`list` of `encode(utf-16)`", lambda: list(memoryview(MEGABYTE.encode("utf-16-le")).cast("H"))),
