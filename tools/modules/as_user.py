@@ -6,7 +6,7 @@ import re
 import subprocess
 from pathlib import Path
 
-from sources import ROOT
+from handed_on import LICENCE
 
 CLEAN = {"PATH": "/usr/bin:/bin", "LANG": "C.UTF-8"}
 
@@ -43,6 +43,6 @@ def dead_links(top: Path) -> list[str]:
 
 def check_links(top: Path) -> None:
     """Fails where a link of a document of an archive leads to no file of it, or a document is missing at its top."""
-    wanted = ["README.md", "CHANGES.md", *(name for name in ("LICENSE.md", "NOTICE") if (ROOT / name).exists())]
+    wanted = ["README.md", "CHANGES.md", *LICENCE]
     if missing := [name for name in wanted if not (top / name).exists()] + dead_links(top):
         raise Failure(f"the archive lacks {', '.join(missing)}")

@@ -11,7 +11,7 @@ import hashlib
 import re
 import subprocess
 from pathlib import Path
-from typing import Iterator
+from typing import Iterator, NamedTuple
 
 from compiling import CRATES, LIST, PARTS, built, is_current, stamp_beside, stamps
 from replacing import copy_folder
@@ -22,8 +22,27 @@ PROJECT = "os_str_bytes"
 LOGIC = "logic dac8208d650f15bf"
 # The file with the sums of the sources that were copied into a repository: `sha256sum -c` reads it at the top.
 SUMS = f"crates/{PROJECT}.sha256"
+# What each copy that is handed on has: the terms, the texts of both licences and the copyright lines.
+LICENCE = ("LICENSE.md", "LICENSE-APACHE", "LICENSE-MIT", "NOTICE")
+# The same, in one file, beside the libraries that were copied into a repository.
+LICENCE_BESIDE = f"crates/{PROJECT}.licence"
 ROW = re.compile(r"([0-9a-f]{64})  (.+)")
 VERSION = re.compile(r"^# .* version (\S+)$", re.M)
+
+
+class Mark(NamedTuple):
+    """What a file states of the gate: a label after the version in its name, and a note before its page."""
+
+    label: str = ""
+    note: str = ""
+
+
+PASSED = Mark()
+NO_GATE = Mark(
+    "+nogate",
+    "**No gate has passed on these files.** They were made from what was proved for them alone, by "
+    "`tools/release/release --only`, and weren't tested.\n\n",
+)
 
 
 class Refusal(Exception):
@@ -100,11 +119,18 @@ def version_in(text: str) -> str:
     return found[1] if found else "unnumbered"
 
 
+def licence_text() -> str:
+    """Returns the terms, the texts of both licences and the copyright lines, one after the other."""
+    return "\n\n".join((ROOT / name).read_text(encoding="utf-8") for name in LICENCE)
+
+
 def gather(room: Path) -> None:
     """Copies the libraries of this checkout for users into an empty folder: sources, and their built form."""
     of = libraries()
     lines = lines_of(LIST.read_text(encoding="utf-8"))
     (room / "crates.txt").write_text("".join(f"{lines[name]}\n" for name in of), encoding="utf-8")
+    (room / "crates").mkdir()
+    (room / LICENCE_BESIDE).write_text(licence_text(), encoding="utf-8")
     for name in of:
         for part in PARTS:
             if (CRATES / name / part).is_dir():

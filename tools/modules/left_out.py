@@ -1,7 +1,7 @@
 """What a gate leaves out because the machine lacks a tool.
 
 A tool that leaves something out prints a line, and writes it into the file that LEFT_OUT in the environment names.
-./test keeps these lines in out/passed, and tools/release/release fails if there are any.
+./test --all keeps these lines in out/passed, and tools/release/release fails if there are any.
 """
 
 from __future__ import annotations

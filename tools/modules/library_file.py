@@ -7,7 +7,7 @@ import shutil
 import tempfile
 from pathlib import Path
 
-from handed_on import files_below, gather, libraries, version
+from handed_on import PASSED, PROJECT, Mark, files_below, gather, libraries, version
 from packages import with_links
 from released import pack
 from sources import ROOT
@@ -15,7 +15,7 @@ from sources import ROOT
 # What a user of the file runs, and what that reads beside the documents.
 COMMANDS = ("tools/release/use", "tools/prove/prove")
 READ = ("crates/examples/stdout",)
-DOCUMENTS = ("*.md", "NOTICE", "VERSION", "docs/*.md", "docs/*.svg", "docs/api/*.md")
+DOCUMENTS = ("*.md", "LICENSE-*", "NOTICE", "VERSION", "docs/*.md", "docs/*.svg", "docs/api/*.md")
 IMPORTED = re.compile(r"^from (\w+) import", re.M)
 
 
@@ -33,7 +33,7 @@ def documents() -> list[Path]:
     return [path for pattern in (*DOCUMENTS, *(f"crates/{name}/README.md" for name in libraries())) for path in sorted(ROOT.glob(pattern))]
 
 
-def lay_out(room: Path) -> None:
+def lay_out(room: Path, mark: Mark) -> None:
     """Copies what the file has into an empty folder. A document's link to anything else becomes plain text."""
     gather(room)
     copied = [*tools(), *documents(), *(ROOT / path for path in READ)]
@@ -44,12 +44,14 @@ def lay_out(room: Path) -> None:
     there = {str(path.relative_to(room)): str(path.relative_to(room)) for path in files_below(room)}
     for name in filter(lambda it: it.endswith(".md"), places):
         text = (room / name).read_text(encoding="utf-8")
-        (room / name).write_text(with_links(text, name, there), encoding="utf-8")
+        note = mark.note if name == "README.md" else ""
+        (room / name).write_text(note + with_links(text, name, there), encoding="utf-8")
 
 
-def make_file(folder: Path, name: str) -> Path:
+def make_file(folder: Path, mark: Mark = PASSED) -> Path:
     """Makes the file in a folder."""
+    name = f"{PROJECT}-{version()}{mark.label}.tar.xz"
     with tempfile.TemporaryDirectory(prefix="release-", dir=folder) as room:
-        lay_out(Path(room))
+        lay_out(Path(room), mark)
         pack(Path(room), folder / name, version())
     return folder / name

@@ -1,10 +1,11 @@
-"""The files for users without the kit: an archive of the C library, a Python package, and an archive of the programs.
+"""The files for users without the kit: archives of the C library, a Python package, and an archive of the programs.
 
 The first two are made from a folder in which `tools/check/c-library` has built libosbytes.a, the shared object and its
-name. The archive has the header, man pages made from the header's comments, the pkg-config file, c/GUIDE.md and the
-examples, and at its top a README, the changes and the licence. A link of a document to a file that isn't in the archive
-becomes plain text. The Python package is a wheel of the sources in python/osbytes with the shared object beside them.
-The archive of the programs has them, their man pages and completions, a README and the licence.
+name, and in its folder `windows` the DLL. An archive has the header, the libraries, files for pkg-config and CMake,
+c/GUIDE.md and the examples, and at its top a README, the changes and the licence. For Linux it also has man pages made
+from the header's comments. A link of a document to a file that isn't in the archive becomes plain text. The Python package
+is a wheel of the sources in python/osbytes with the shared library beside them. The archive of the programs has them, their
+man pages and completions, a README and the licence.
 """
 
 from __future__ import annotations
@@ -16,11 +17,12 @@ import posixpath
 import re
 import sys
 import tarfile
+import zipfile
 from pathlib import Path
 from typing import NamedTuple
 
-from compiling import built
-from handed_on import Refusal, sum_of, version
+from found_by import found_by
+from handed_on import LICENCE, PASSED, Mark, sum_of, version
 from program_pages import PROGRAMS, files_of
 from roff import as_roff, as_shown, page
 from sources import ROOT
@@ -40,8 +42,9 @@ STATUS = re.compile(r"^    (OSB_\w+) = \d+,?\s+/\* (.*?) \*/", re.S | re.M)
 # The lines on the syntax of patterns.
 SYNTAX = re.compile(r"^// Path patterns\..*?\n(?!//)", re.S | re.M)
 LINK = re.compile(r"\[([^\]]*)\]\(([^)#\s]+)(#[^)\s]*)?\)")
-# glibc 2.17 has everything that the library requires, and is the one of this tag.
-TAG = "py3-none-manylinux2014_{}"
+# The libraries of a wheel name no C library, and glibc 2.17 and musl 1.1 have what they take: the ones of this tag.
+TAG = "py3-none-manylinux2014_{0}.musllinux_1_1_{0}"
+WINDOWS_TAG = "py3-none-win_amd64"
 
 
 class Entry(NamedTuple):
@@ -136,23 +139,11 @@ def man_pages() -> dict[str, str]:
     return {"osbytes": library, **pages}
 
 
-def pkg_config() -> str:
-    """Returns a pkg-config file that is right wherever the archive is unpacked."""
-    return f"""prefix=${{pcfiledir}}/../..
-Name: osbytes
-Description: strings of operating systems, of any platform on any platform
-Version: {version()}
-Cflags: -I${{prefix}}/include
-Libs: -L${{prefix}}/lib -losbytes
-"""
-
-
 # The documents and the examples of the archive, by where they are in the repository, and where in it.
 DOCUMENTS = {
     "c/README.md": "README.md",
     "CHANGES.md": "CHANGES.md",
-    "LICENSE.md": "LICENSE.md",
-    "NOTICE": "NOTICE",
+    **{name: name for name in LICENCE},
     "c/GUIDE.md": "share/doc/osbytes/GUIDE.md",
     "c/examples/names.c": "share/doc/osbytes/names.c",
     "c/examples/below.c": "share/doc/osbytes/below.c",
@@ -201,11 +192,39 @@ def library_entries(built: Path) -> dict[str, Entry]:
         "lib/libosbytes.a": Entry((built / "libosbytes.a").read_bytes()),
         f"lib/{soname}": Entry((built / soname).read_bytes(), 0o755),
         "lib/libosbytes.so": Entry(b"", 0o777, soname),
-        "lib/pkgconfig/osbytes.pc": Entry(pkg_config().encode()),
+        **{path: Entry(text.encode()) for path, text in found_by("Linux").items()},
     }
     for name, text in man_pages().items():
         entries[f"share/man/man3/{name}.3"] = Entry(text.encode())
     return with_sums(entries, "share/doc/osbytes/SHA256SUMS")
+
+
+def marked(entries: dict[str, Entry], mark: Mark) -> dict[str, Entry]:
+    """Returns the files of an archive, with the note of a mark before the page at its top."""
+    page = entries["README.md"]
+    return {**entries, "README.md": page._replace(content=mark.note.encode() + page.content)}
+
+
+def windows_entries(built: Path) -> dict[str, Entry]:
+    """Returns what the archive has of a library that is built for Windows in a folder, by paths in it."""
+    entries = {
+        **documents(DOCUMENTS),
+        "bin/osbytes.dll": Entry((built / "osbytes.dll").read_bytes(), 0o755),
+        **{f"lib/{name}": Entry((built / name).read_bytes()) for name in ("libosbytes.a", "libosbytes.dll.a", "osbytes.lib")},
+        **{path: Entry(text.encode()) for path, text in found_by("Windows").items()},
+    }
+    return with_sums(entries, "share/doc/osbytes/SHA256SUMS")
+
+
+def zip_entries(folder: Path, top: str, entries: dict[str, Entry]) -> Path:
+    """Makes a zip file of these files in a folder, and returns it."""
+    file = folder / f"{top}.zip"
+    with zipfile.ZipFile(file, "w", zipfile.ZIP_DEFLATED) as made:
+        for path, entry in entries.items():
+            member = zipfile.ZipInfo(f"{top}/{path}", build_backend.MADE)
+            member.external_attr = entry.mode << 16
+            made.writestr(member, entry.content, zipfile.ZIP_DEFLATED, 9)
+    return file
 
 
 def pack_entries(folder: Path, top: str, entries: dict[str, Entry]) -> Path:
@@ -222,54 +241,48 @@ def pack_entries(folder: Path, top: str, entries: dict[str, Entry]) -> Path:
     return file
 
 
-def make_archive(built: Path, folder: Path, processor: str) -> Path:
+def make_archive(built: Path, folder: Path, processor: str, mark: Mark = PASSED) -> Path:
     """Makes the archive of a library that is built in a folder."""
-    return pack_entries(folder, f"libosbytes-{version()}-linux-{processor}", library_entries(built))
+    return pack_entries(folder, f"libosbytes-{version()}{mark.label}-linux-{processor}", marked(library_entries(built), mark))
 
 
-def make_wheel(built: Path, folder: Path, processor: str) -> Path:
+def make_wheel(built: Path, folder: Path, processor: str, mark: Mark = PASSED) -> Path:
     """Makes the Python package with a library that is built in a folder."""
-    return build_backend.make_wheel(folder, built / "libosbytes.so", TAG.format(processor), build_backend.compiler_for(processor))
+    by = build_backend.compiler_for(processor)
+    return build_backend.make_wheel(folder, built / "libosbytes.so", TAG.format(processor), by, *mark)
+
+
+def make_for_windows(built: Path, folder: Path) -> list[Path]:
+    """Makes the archive and the wheel of a library that is built for Windows in a folder."""
+    archive = zip_entries(folder, f"libosbytes-{version()}-windows-x86_64", windows_entries(built))
+    return [archive, build_backend.make_wheel(folder, built / "osbytes.dll", WINDOWS_TAG)]
 
 
 def make_packages(built: Path, folder: Path) -> list[Path]:
-    """Makes the archives and the wheels of what is built in a folder, for each processor that is there, and the
-    source distribution of the Python package."""
+    """Makes the archives and the wheels of what is built in a folder, for each processor that is there and for Windows,
+    and the source distribution of the Python package."""
     rooms = {"x86_64": built, "aarch64": built / "aarch64"}
     there = {processor: room for processor, room in rooms.items() if (room / "libosbytes.so").exists()}
     made = [make(room, folder, processor) for processor, room in there.items() for make in (make_archive, make_wheel)]
+    if (built / "windows" / "osbytes.dll").exists():
+        made += make_for_windows(built / "windows", folder)
     libraries = [(processor, room / "libosbytes.so") for processor, room in there.items()]
     return [*made, build_backend.make_sdist(folder, libraries)] if libraries else made
 
 
-# The documents of the archive of the programs, the programs, and what the archive's README states about glibc.
+# The documents of the archive of the programs.
 PROGRAM_DOCUMENTS = {
     "docs/programs/README.md": "README.md",
     "CHANGES.md": "CHANGES.md",
-    "LICENSE.md": "LICENSE.md",
-    "NOTICE": "NOTICE",
+    **{name: name for name in LICENCE},
 }
-PROGRAM_PLACES = {name: built(name) for name in PROGRAMS}
 # Where tools/release/program-archive leaves the sums of the programs that it has used.
 TRIED_PROGRAMS = ROOT / "out" / "programs"
-NEEDS_GLIBC = re.compile(r"glibc (\d+)\.(\d+)")
-GLIBC = re.compile(rb"\0GLIBC_(\d+)\.(\d+)(?:\.\d+)?(?=\0)")
-NEEDED = re.compile(rb"(?<=\0)lib[\w.+-]+\.so(?:\.\d+)*(?=\0)")
 
 
 def sums_of_programs(places: dict[str, Path]) -> list[str]:
     """Returns a line for each program that is there: its sum and its name."""
     return [f"{sum_of(place)}  {name}" for name, place in places.items() if place.exists()]
-
-
-def refuse_newer(name: str, content: bytes) -> None:
-    """Stops if a program needs another library than glibc's, or a newer glibc than the archive's README states."""
-    said = NEEDS_GLIBC.search((ROOT / "docs/programs/README.md").read_text(encoding="utf-8"))
-    newest = max(((int(it[1]), int(it[2])) for it in GLIBC.finditer(content)), default=None)
-    if newest is None or set(NEEDED.findall(content)) != {b"libc.so.6"}:
-        raise Refusal(f"{name} is not a program that needs libc.so.6 alone")
-    if newest != (int(said[1]), int(said[2])):
-        raise Refusal(f"{name} needs glibc {newest[0]}.{newest[1]}, and docs/programs/README.md says {said[0]}")
 
 
 def program_entries(programs: dict[str, bytes]) -> dict[str, Entry]:
@@ -280,10 +293,7 @@ def program_entries(programs: dict[str, bytes]) -> dict[str, Entry]:
     return with_sums(entries, "share/doc/osbytes-programs/SHA256SUMS")
 
 
-def make_programs(places: dict[str, Path], folder: Path, is_proved: bool = True) -> Path:
+def make_programs(places: dict[str, Path], folder: Path, mark: Mark = PASSED) -> Path:
     """Makes the archive of the programs, which are at these places, for Linux on x86-64."""
     programs = {name: place.read_bytes() for name, place in places.items()}
-    if is_proved:
-        for name, content in programs.items():
-            refuse_newer(name, content)
-    return pack_entries(folder, f"osbytes-programs-{version()}-linux-x86_64", program_entries(programs))
+    return pack_entries(folder, f"osbytes-programs-{version()}{mark.label}-linux-x86_64", marked(program_entries(programs), mark))

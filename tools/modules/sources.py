@@ -172,7 +172,7 @@ class Call(NamedTuple):
         for at in range(self.at, len(self.lines)):
             line = self.lines[at].strip()
             is_stated = is_stated or line == "where" or CLAUSE.match(line) is not None
-            if not is_stated:
+            if not is_stated and not line.startswith("//"):
                 head.append(line)
             if line == "{" or not is_stated and line.endswith("{"):
                 return " ".join(head), at
