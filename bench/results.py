@@ -4,25 +4,12 @@ from __future__ import annotations
 
 import re
 import statistics
-from typing import Iterator, NamedTuple
+from typing import NamedTuple
 
 TITLE = re.compile(r"### ((?:Hard )?\w+)(?:.* beside (\w+))?")
 TIME = re.compile(r"[\d.]+$")
 OVER = re.compile(r"Ours/(.+)")
 CRATE = "os_str_bytes"
-
-
-class Line(NamedTuple):
-    """A line of a table: its family, what was timed, and our time over the crate's and over std's, where it has them.
-
-    A family is the tables whose titles begin with the same word, or with `Hard` and the same word. Where a title says
-    `beside` and a name, the crate of that name is meant.
-    """
-
-    family: str
-    name: str
-    of_crate: float | None
-    of_std: float | None
 
 
 class Found(NamedTuple):
@@ -33,7 +20,7 @@ class Found(NamedTuple):
 
 
 class Ratios(NamedTuple):
-    """The ratios of a family over the crate, or over std."""
+    """The ratios of a family over a peer."""
 
     found: list[Found]
 
@@ -48,22 +35,6 @@ class Ratios(NamedTuple):
     @property
     def worst(self) -> Found:
         return max(self.found, key=lambda it: it.ratio)
-
-
-def ratio(ours: str, theirs: str) -> float | None:
-    return float(ours) / float(theirs) if theirs else None
-
-
-def lines_of(text: str) -> Iterator[Line]:
-    """Yields the lines of the tables of a text."""
-    family = ""
-    for row in text.splitlines():
-        if title := TITLE.match(row):
-            family = title[1]
-        cells = [cell.strip() for cell in row.split("|")[1:-1]]
-        if len(cells) >= 7 and TIME.match(cells[2]):
-            call, of, ours, crate, _, std, *_ = cells
-            yield Line(family, f"{call}: {of}", ratio(ours, crate), ratio(ours, std))
 
 
 def peers_of(text: str) -> dict[str, dict[str, Ratios]]:
@@ -85,12 +56,17 @@ def peers_of(text: str) -> dict[str, dict[str, Ratios]]:
     return peers
 
 
-def families_of(text: str) -> dict[str, tuple[Ratios, Ratios]]:
-    """Returns the ratios of each family, over the crate and over std, in the order of the tables."""
-    families: dict[str, tuple[Ratios, Ratios]] = {}
-    for line in lines_of(text):
-        both = families.setdefault(line.family, (Ratios([]), Ratios([])))
-        for ratios, found in zip(both, (line.of_crate, line.of_std)):
-            if found is not None:
-                ratios.found.append(Found(found, line.name))
-    return families
+class Row(NamedTuple):
+    """What a summary has of a family beside a peer: lines, the median, how many are above 1, and the worst."""
+
+    rows: int
+    median: float
+    above_one: int
+    worst: float
+
+
+def summary_rows(text: str, title: str) -> dict[str, Row]:
+    """Returns the rows of a table of a summary, by their families, in its order."""
+    table = re.search(rf"^### {re.escape(title)}\n\n((?:\|.*\n)+)", text, re.M)
+    lines = [[cell.strip() for cell in line.split("|")[1:-1]] for line in table[1].splitlines()[2:]]
+    return {name: Row(int(rows), float(median), int(above), float(worst)) for name, rows, median, above, worst, _ in lines}
