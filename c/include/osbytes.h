@@ -630,7 +630,8 @@ typedef struct osb_decision {
 OSB_NODISCARD osb_status osb_ignores_new(osb_ignores **ignores);
 /* Adds the content of an ignore file in a directory, which is relative to the top of the tree, without a / at
  * its end, and empty at the top: OSB_OK, OSB_NO_MEMORY, with which the files stay as they were. No line is a
- * fault. Its lines match paths below that directory, and come after those of the directories above it. */
+ * fault. Its lines match paths below that directory, and come after those of the directories above it and of the
+ * files in it that were added before. Git adds the user's own file, .git/info/exclude and those of the tree. */
 OSB_NODISCARD osb_status osb_ignores_add(osb_ignores *ignores, const char *directory,
                                          size_t directory_len, const char *file, size_t file_len);
 /* Writes what the files decide for a path, which is relative to the top of the tree, as git does: OSB_OK. It takes

@@ -20,11 +20,12 @@ import osbytes
 
 README = Path(os.environ.get("OSBYTES_README") or Path(__file__).resolve().parent.parent / "README.md")
 FILES = {
-    ".gitignore": "*.o\n/target/\nbuild/\n!keep.o\n**/cache\n# a comment\n",
+    ".gitignore": "*.o\n/target/\nbuild/\n!keep.o\n**/cache\n# a comment\n!d.both\n",
     "src/.gitignore": "*.tmp\n!a.o\n/gen\n",
     "src/deep/.gitignore": "!b.tmp\n",
 }
 NAMES = ["a.o", "keep.o", "a.c", "target/x", "src/target/x", "src/a.o", "src/b.o", "src/b.tmp", "src/gen/x", "src/deep/gen/x"]
+NAMES += ["a.user", "b.user", "src/a.user", "src/c.both", "d.both"]
 NAMES += ["src/deep/b.tmp", "src/deep/c.tmp", "x/build/y", "x/cache/y", "x/#a", "x/b\nc", "x/d e", "b.tmp"]
 # A file of a user, whose types are checked, too.
 USER = '''
@@ -124,15 +125,17 @@ class Readme(unittest.TestCase):
     def test_walkers(self) -> None:
         ours, plain = self.programs()
         code = [line for line in ours.splitlines() if line.strip()]
-        self.assertLessEqual(len(code), 20)
-        with TemporaryDirectory() as top:
+        self.assertLessEqual(len(code), 30)
+        with TemporaryDirectory() as top, TemporaryDirectory() as home:
             for name in NAMES:
                 Path(top, name).parent.mkdir(parents=True, exist_ok=True)
                 Path(top, name).touch()
             for name, text in FILES.items():
                 Path(top, name).write_text(text)
-            for words in (["init", "-q"], ["config", "core.excludesFile", "/dev/null"]):
+            for words in (["init", "-q"], ["config", "core.excludesFile", f"{home}/user"]):
                 subprocess.run(["git", "-C", top, *words], check=True)
+            Path(home, "user").write_text("*.user\n!*.both\n")
+            Path(top, ".git/info/exclude").write_text("!b.user\n*.both\n")
             listed = subprocess.run(["git", "-C", top, "ls-files", "-coz", "--exclude-standard"], check=True, stdout=subprocess.PIPE)
             wanted = sorted(osbytes.escape_line(name) for name in listed.stdout.split(b"\0")[:-1])
             self.assertGreater(len(wanted), 8)
