@@ -2,12 +2,13 @@
 
 from __future__ import annotations
 
+import ctypes
 from enum import IntEnum
 from typing import Any, AnyStr
 
 from . import _quick as quick
 from ._errors import ConvertError, ExtensionError, JoinError
-from ._library import BAD_EXTENSION, BAD_PATH, NONE, Call, address_of, library, written
+from ._library import BAD_EXTENSION, BAD_PATH, NONE, Call, JoinFault, address_of, library, written
 from ._strings import ERRORS, UNIX, AnyOsName, OsName, Platform, as_platform, done, index_in, read_two, read_valid, returned, said
 
 _JOIN, _RELATIVE, _WITH_FILE_NAME, _WITH_EXTENSION, _WITH_ADDED = map(
@@ -24,7 +25,8 @@ _NORMALIZE, _CLEAN = map(address_of, (library.osb_path_normalize, library.osb_pa
 
 
 class JoinReason(IntEnum):
-    """Why a path isn't below a base."""
+    """Why a path isn't below a base. `RESERVED` is also a name that has one of `<>"|?*` or a control character, or ends with a
+    space or a dot."""
 
     PREFIX = 1
     ROOT = 2
@@ -40,8 +42,8 @@ _REASONS = {
     JoinReason.PREFIX: "the path has a prefix",
     JoinReason.ROOT: "the path has a root",
     JoinReason.LEAVES: "the path leaves the base",
-    JoinReason.STREAM: "a name of the path has a colon",
-    JoinReason.RESERVED: "a name of the path is reserved on Windows",
+    JoinReason.STREAM: "the path has a colon",
+    JoinReason.RESERVED: "the path has a name that Windows reserves, rejects or changes",
     JoinReason.BASE: "the base isn't a place of its own",
     JoinReason.NUL: "the path has a NUL",
     JoinReason.BASE_NUL: "the base has a NUL",
@@ -92,8 +94,9 @@ def path_join_checked(base: OsName[AnyStr], path: OsName[AnyStr], platform: Plat
 
     Raises `JoinError`, with the reason, if the path has a prefix or a root, or a `..` would leave the base, and on Windows
     also if a name has a colon, is reserved as `nul.txt`, has one of `<>"|?*` or a control character or ends with a space or a
-    dot, which Windows rejects or removes, or the base isn't a place of its own, as `\\\\server`. A NUL in either is
-    rejected, with its index. The file system isn't read, so a symbolic link below the base can still lead elsewhere.
+    dot, which Windows rejects or removes, or the base isn't a place of its own, as `\\\\server`. `component` is the number
+    of the first component at fault. A NUL in either is rejected, with its index. The file system isn't read, so a symbolic
+    link below the base can still lead elsewhere.
 
     >>> path_join_checked("/srv/files", "./a/../b//c")
     '/srv/files/b/c'
@@ -101,19 +104,27 @@ def path_join_checked(base: OsName[AnyStr], path: OsName[AnyStr], platform: Plat
     platform = as_platform(platform)
     a, b, errors = read_two(base, path, platform)
     call: Call = library.osb_path_join_checked
+    fault = JoinFault()
     status, room = written(
-        lambda room: call(platform, a, len(a), b, len(b), room.out_at, room.size, room.count_at, room.index_at),
+        lambda room: call(platform, a, len(a), b, len(b), room.out_at, room.size, room.count_at, ctypes.addressof(fault)),
         len(a) + len(b) + 4,
     )
     if status == BAD_PATH:
-        # the call writes 32 bits
-        reason = JoinReason(room.index & 0xFFFFFFFF)
-        nul_in = {JoinReason.NUL: b, JoinReason.BASE_NUL: a}.get(reason)
-        index = None if nul_in is None else index_in(nul_in, nul_in.find(b"\0"), errors)
-        raise JoinError(_REASONS[reason], reason=reason, index=index)
+        raise _refusal(fault, a, b, errors)
     done(status)
     made: AnyStr = room.written(errors)
     return made
+
+
+def _refusal(fault: JoinFault, base: bytes, path: bytes, errors: str | None) -> JoinError:
+    """Returns the error for a path that isn't below a base."""
+    reason = JoinReason(fault.reason)
+    if reason in (JoinReason.NUL, JoinReason.BASE_NUL):
+        text = path if reason == JoinReason.NUL else base
+        return JoinError(_REASONS[reason], reason=reason, index=index_in(text, fault.index, errors))
+    if reason in (JoinReason.LEAVES, JoinReason.STREAM, JoinReason.RESERVED):
+        return JoinError(f"{_REASONS[reason]} at component {fault.index}", reason=reason, component=fault.index)
+    return JoinError(_REASONS[reason], reason=reason)
 
 
 def path_relative(path: OsName[AnyStr], base: OsName[AnyStr], platform: Platform = UNIX) -> AnyStr | None:
