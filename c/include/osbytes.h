@@ -496,8 +496,10 @@ OSB_NODISCARD osb_status osb_path_relative(osb_platform platform, const char *at
 OSB_NODISCARD osb_status osb_path_normalize(osb_platform platform, const char *at, size_t len,
                                             char *out, size_t room, size_t *count);
 /* Writes the path cleaned, as Go's path.Clean does: also without a `.` at the start and a `..` at a root, and
- * each other `..` without a name before it stays. The empty path is `.`. Two slashes at the start become one,
- * which Python's normpath keeps. What the prefix of a Windows path is follows Rust's std.
+ * each other `..` without a name before it stays. The empty path is `.`. On Unix two slashes at the start become
+ * one, which Python's posixpath.normpath keeps. On Windows the result is that of ntpath.normpath, but what the
+ * prefix of a path is follows Rust's std, and nothing is resolved of a path that begins with \\.\ or //?/, with a
+ * name that has a colon, or with two separators and no prefix, as \\server.
  * A share and a drive are written with \, but //?/share with /. A path that begins with \\?\ is kept.
  * OSB_OK, OSB_NO_ROOM, OSB_NO_MEMORY, OSB_BAD_PLATFORM. */
 OSB_NODISCARD osb_status osb_path_clean(osb_platform platform, const char *at, size_t len,

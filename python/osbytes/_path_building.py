@@ -4,12 +4,12 @@ from __future__ import annotations
 
 import ctypes
 from enum import IntEnum
-from typing import Any, AnyStr
+from typing import Any, AnyStr, overload
 
 from . import _quick as quick
 from ._errors import ConvertError, ExtensionError, JoinError
 from ._library import BAD_EXTENSION, BAD_PATH, NONE, Call, JoinFault, address_of, library, written
-from ._strings import ERRORS, UNIX, AnyOsName, OsName, Platform, as_platform, done, index_in, read_two, read_valid, returned, said
+from ._strings import ERRORS, UNIX, AnyOsName, OsName, OsString, Platform, as_platform, done, index_in, read_two, read_valid, said
 
 _JOIN, _RELATIVE, _WITH_FILE_NAME, _WITH_EXTENSION, _WITH_ADDED = map(
     address_of,
@@ -74,7 +74,19 @@ def _of_one(call: Call, path: AnyOsName, platform: Platform) -> Any:
     return room.written(errors)
 
 
-def path_join(base: OsName[AnyStr], path: OsName[AnyStr], platform: Platform = UNIX) -> AnyStr:
+@overload
+def path_join(base: OsName[str], path: OsName[str], platform: Platform = UNIX) -> str: ...
+
+
+@overload
+def path_join(base: OsName[bytes], path: OsName[bytes], platform: Platform = UNIX) -> bytes: ...
+
+
+@overload
+def path_join(base: OsString, path: OsString, platform: Platform = UNIX) -> OsString: ...
+
+
+def path_join(base: AnyOsName, path: AnyOsName, platform: Platform = UNIX) -> OsString:
     """Returns a path after a base, as Rust's `Path::join` and `os.path.join` do.
 
     A path with a prefix replaces the base, and one with a root all but the base's prefix. Both arguments are `str`, or
@@ -83,13 +95,25 @@ def path_join(base: OsName[AnyStr], path: OsName[AnyStr], platform: Platform = U
     >>> path_join("/usr", "lib"), path_join("/usr", "/lib"), path_join("C:", "a", Platform.WINDOWS)
     ('/usr/lib', '/lib', 'C:a')
     """
-    made = quick.joined(_JOIN, platform, base, path)
+    made: OsString = quick.joined(_JOIN, platform, base, path)
     if made is NotImplemented:
         made = _of_two(library.osb_path_join, base, path, platform)
     return made
 
 
-def path_join_checked(base: OsName[AnyStr], path: OsName[AnyStr], platform: Platform = UNIX) -> AnyStr:
+@overload
+def path_join_checked(base: OsName[str], path: OsName[str], platform: Platform = UNIX) -> str: ...
+
+
+@overload
+def path_join_checked(base: OsName[bytes], path: OsName[bytes], platform: Platform = UNIX) -> bytes: ...
+
+
+@overload
+def path_join_checked(base: OsString, path: OsString, platform: Platform = UNIX) -> OsString: ...
+
+
+def path_join_checked(base: AnyOsName, path: AnyOsName, platform: Platform = UNIX) -> OsString:
     """Returns a path below a base, with `.` and `..` resolved, for names that come from an archive or a request.
 
     Raises `JoinError`, with the reason, if the path has a prefix or a root, or a `..` would leave the base, and on Windows
@@ -112,7 +136,7 @@ def path_join_checked(base: OsName[AnyStr], path: OsName[AnyStr], platform: Plat
     if status == BAD_PATH:
         raise _refusal(fault, a, b, errors)
     done(status)
-    made: AnyStr = room.written(errors)
+    made: OsString = room.written(errors)
     return made
 
 
@@ -156,9 +180,11 @@ def path_normalize(path: OsName[AnyStr], platform: Platform = UNIX) -> AnyStr | 
 
 
 def path_clean(path: OsName[AnyStr], platform: Platform = UNIX) -> AnyStr:
-    """Returns the path cleaned, as Go's `path.Clean` does, and as `os.path.normpath` does but for two slashes at the start,
-    which become one. What the prefix of a Windows path is follows Rust's std. A `..` without a name before it is kept, but
-    not at a root.
+    """Returns the path cleaned, as Go's `path.Clean` does. A `..` without a name before it is kept, but not at a root.
+
+    On Unix the result is that of `posixpath.normpath`, but two slashes at the start become one. On Windows it is that of
+    `ntpath.normpath`, but what the prefix of a path is follows Rust's std, and nothing is resolved of a path that begins with
+    `\\\\.\\` or `//?/`, with a name that has a colon, or with two separators and no prefix, as `\\\\server`.
 
     >>> path_clean("./../a//b/.."), path_clean("/.."), path_clean("")
     ('../a', '/', '.')
@@ -199,7 +225,7 @@ def path_with_file_name(path: OsName[AnyStr], name: OsName[AnyStr], platform: Pl
     >>> path_with_file_name("/tmp/a.txt", "b"), path_with_file_name("/", "b")
     ('/tmp/b', '/b')
     """
-    made = quick.joined(_WITH_FILE_NAME, platform, path, name)
+    made: AnyStr = quick.joined(_WITH_FILE_NAME, platform, path, name)
     if made is NotImplemented:
         made = _of_two(library.osb_path_with_file_name, path, name, platform)
     return made
@@ -214,7 +240,7 @@ def path_with_extension(path: OsName[AnyStr], extension: OsName[AnyStr], platfor
     >>> path_with_extension("a/b.txt/", "rs"), path_with_extension("a/b.txt", "")
     ('a/b.rs', 'a/b')
     """
-    made = quick.joined(_WITH_EXTENSION, platform, path, extension)
+    made: AnyStr = quick.joined(_WITH_EXTENSION, platform, path, extension)
     if made is NotImplemented:
         made = _of_two(library.osb_path_with_extension, path, extension, platform)
     return made
@@ -226,7 +252,7 @@ def path_with_added_extension(path: OsName[AnyStr], extension: OsName[AnyStr], p
     >>> path_with_added_extension("a/b.tar", "gz")
     'a/b.tar.gz'
     """
-    made = quick.joined(_WITH_ADDED, platform, path, extension)
+    made: AnyStr = quick.joined(_WITH_ADDED, platform, path, extension)
     if made is NotImplemented:
         made = _of_two(library.osb_path_with_added_extension, path, extension, platform)
     return made
