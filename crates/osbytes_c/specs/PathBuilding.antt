@@ -35,13 +35,13 @@ reason_index (Base (base.Nul index)) = index
 reason_index (Name name.Memory) = 0
 
 -- an allocation failed
-abbrev pub no_memory : JoinError
-no_memory = Name name.Memory
+abbrev pub memory_error : JoinError
+memory_error = Name name.Memory
 
 -- the path isn't joined to the base for the reason that is reported, which isn't an allocation failure
 pub record IsJoinReport (style : Style) (base path : List ℕ) (report : JoinFault) : Type 0 where
   pub error : JoinError
   pub fault : IsJoinFault style base path error
-  pub other : error ≢ no_memory
+  pub other : error ≢ memory_error
   pub reason : report.reason ≡ reason_number error
   pub index : report.index ≡ reason_index error

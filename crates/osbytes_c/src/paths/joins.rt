@@ -4,8 +4,9 @@ ghost use Rattle.path_building.specs.Checked.{IsCheckedJoin};
 ghost use Rattle.path_building.specs.Join.{IsJoin};
 ghost use Rattle.path_building.specs.Relative.{IsRelativeFrom};
 ghost use Rattle.osbytes_c.specs.Answers.{IsOneOf, IsWritten};
-ghost use Rattle.osbytes_c.specs.PathBuilding.{IsJoinReport, no_memory, reason_index, reason_number};
+ghost use Rattle.osbytes_c.specs.PathBuilding.{IsJoinReport, memory_error, reason_index, reason_number};
 ghost use Rattle.osbytes_c.specs.PathSpans.{style_on};
+ghost use Rattle.osbytes_c.specs.Statuses.{bad_path, done, no_memory, no_platform, no_room, none};
 
 use crate::built::write_list;
 use crate::paths::predicates::style_of;
@@ -25,8 +26,8 @@ pub extern "C" fn osb_core_path_join(
 ) -> u32
     ensures written { IsWritten result (IsJoin (style_on platform) base.now path.now) out.old
         out.new count.new }
-    ensures platform { (result ≡ 16) ↔ (2 < platform) }
-    ensures answers { IsOneOf (0 ∷ 2 ∷ 11 ∷ 16 ∷ []) result }
+    ensures platform { (result ≡ no_platform) ↔ (2 < platform) }
+    ensures answers { IsOneOf (done ∷ no_room ∷ no_memory ∷ no_platform ∷ []) result }
 {
     let Some(style) = style_of(platform) else {
         return NO_PLATFORM;
@@ -63,9 +64,9 @@ pub extern "C" fn osb_core_path_join_checked(
 ) -> u32
     ensures written { IsWritten result (IsCheckedJoin (style_on platform) base.now path.now)
         out.old out.new count.new }
-    ensures fault { result ≡ 12 → IsJoinReport (style_on platform) base.now path.now fault.new }
-    ensures platform { (result ≡ 16) ↔ (2 < platform) }
-    ensures answers { IsOneOf (0 ∷ 2 ∷ 11 ∷ 12 ∷ 16 ∷ []) result }
+    ensures fault { result ≡ bad_path → IsJoinReport (style_on platform) base.now path.now fault.new }
+    ensures platform { (result ≡ no_platform) ↔ (2 < platform) }
+    ensures answers { IsOneOf (done ∷ no_room ∷ no_memory ∷ bad_path ∷ no_platform ∷ []) result }
 {
     let Some(style) = style_of(platform) else {
         return NO_PLATFORM;
@@ -78,9 +79,9 @@ pub extern "C" fn osb_core_path_join_checked(
 
 /// The status of a path that isn't joined, and its fault.
 fn refused(error: JoinError, fault: &mut JoinFault) -> u32
-    ensures path { result ≡ 12 → (error ≢ no_memory) × ((fault.new.reason ≡ reason_number error)
-        × (fault.new.index ≡ reason_index error)) }
-    ensures answers { IsOneOf (11 ∷ 12 ∷ []) result }
+    ensures path { result ≡ bad_path → (error ≢ memory_error)
+        × ((fault.new.reason ≡ reason_number error) × (fault.new.index ≡ reason_index error)) }
+    ensures answers { IsOneOf (no_memory ∷ bad_path ∷ []) result }
 {
     let (reason, index) = match error {
         JoinError::Name(NameError::Prefix) => (1, 0),
@@ -110,9 +111,9 @@ pub extern "C" fn osb_core_path_relative(
     ensures written { IsWritten result
         (λ way. IsRelativeFrom (style_on platform) path.now base.now (Some way)) out.old out.new
         count.new }
-    ensures none { result ≡ 3 → IsRelativeFrom (style_on platform) path.now base.now None }
-    ensures platform { (result ≡ 16) ↔ (2 < platform) }
-    ensures answers { IsOneOf (0 ∷ 2 ∷ 3 ∷ 11 ∷ 16 ∷ []) result }
+    ensures none { result ≡ none → IsRelativeFrom (style_on platform) path.now base.now None }
+    ensures platform { (result ≡ no_platform) ↔ (2 < platform) }
+    ensures answers { IsOneOf (done ∷ no_room ∷ none ∷ no_memory ∷ no_platform ∷ []) result }
 {
     let Some(style) = style_of(platform) else {
         return NO_PLATFORM;
