@@ -126,7 +126,7 @@ def record_of(path: str, content: bytes) -> str:
 def make_sdist(folder: Path, libraries: Iterable[tuple[str, Path]]) -> Path:
     """Makes a source distribution with the library of each of these processors."""
     top = f"osbytes-{fields()['version']}"
-    tests = sorted((HERE / "tests").glob("*.py"))
+    tests = sorted(path for form in ("*.py", "cpython-*.tsv") for path in (HERE / "tests").glob(form))
     entries = {path.relative_to(HERE).as_posix(): path.read_bytes() for path in [*sources(), *tests]}
     entries.update({name: (HERE / name).read_bytes() for name in ("pyproject.toml", "build_backend.py", "README.md")})
     entries.update({path.name: path.read_bytes() for path in licenses()})

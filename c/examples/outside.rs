@@ -6,7 +6,7 @@ use std::os::unix::ffi::OsStrExt;
 extern "C" {
     #[rustfmt::skip]
     fn osb_path_join_checked(platform: u32, base: *const c_char, base_len: usize, at: *const c_char, len: usize,
-                             out: *mut c_char, room: usize, count: *mut usize, reason: *mut u32) -> u32;
+                             out: *mut c_char, room: usize, count: *mut usize, fault: *mut std::ffi::c_void) -> u32;
     fn osb_status_text(status: u32) -> *const c_char;
 }
 

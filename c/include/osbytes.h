@@ -452,7 +452,7 @@ OSB_NODISCARD osb_status osb_path_join(osb_platform platform, const char *base, 
                                        size_t *count);
 
 /* Why a path isn't below a base: the first of these that holds, in the order 8, 6, 7, 1, 2. Of 3 to 5 it is that
- * of the first component at fault. */
+ * of the first component at fault, even if a later `..` removes it. */
 typedef enum osb_join_reason {
     OSB_JOIN_PREFIX = 1,   /* the path has a prefix */
     OSB_JOIN_ROOT = 2,     /* it has a root */
@@ -465,16 +465,24 @@ typedef enum osb_join_reason {
     OSB_JOIN_BASE_NUL = 8  /* the base has one */
 } osb_join_reason;
 
+/* Why a path isn't below a base, and where. The index is the number, from 0 on, of the first component at fault, as
+ * osb_path_components counts them (OSB_JOIN_LEAVES, OSB_JOIN_STREAM, OSB_JOIN_RESERVED), or the byte index of the first
+ * NUL (OSB_JOIN_NUL, OSB_JOIN_BASE_NUL). With any other reason it is 0. */
+typedef struct osb_join_fault {
+    size_t index;
+    osb_join_reason reason;
+} osb_join_fault;
+
 /* Writes a path below a base, for names out of an archive or a request: the base's components, and after
  * them the names of the path, in which `.` and `..` are resolved. OSB_OK, OSB_NO_ROOM, OSB_NO_MEMORY,
- * OSB_BAD_PLATFORM, and OSB_BAD_PATH, with which `*reason` is why there is none, as OSB_JOIN_LEAVES;
- * `reason` may be null.
+ * OSB_BAD_PLATFORM, and OSB_BAD_PATH, with which `*fault` is why there is none, as OSB_JOIN_LEAVES of
+ * component 2; `fault` may be null.
  * It looks at the path alone, by the rules of `platform`: links, mounts and 8.3 names may still lead
  * elsewhere. */
 OSB_NODISCARD osb_status osb_path_join_checked(osb_platform platform, const char *base,
                                                size_t base_len, const char *at, size_t len,
                                                char *out, size_t room, size_t *count,
-                                               osb_join_reason *reason);
+                                               osb_join_fault *fault);
 
 /* Writes how a path is reached from a base, without a file system: OSB_OK, OSB_NO_ROOM, OSB_NO_MEMORY,
  * OSB_NONE (it isn't), OSB_BAD_PLATFORM. The base itself is reached by the empty path. */
@@ -488,8 +496,10 @@ OSB_NODISCARD osb_status osb_path_relative(osb_platform platform, const char *at
 OSB_NODISCARD osb_status osb_path_normalize(osb_platform platform, const char *at, size_t len,
                                             char *out, size_t room, size_t *count);
 /* Writes the path cleaned, as Go's path.Clean does: also without a `.` at the start and a `..` at a root, and
- * each other `..` without a name before it stays. The empty path is `.`. Two slashes at the start become one,
- * which Python's normpath keeps. What the prefix of a Windows path is follows Rust's std.
+ * each other `..` without a name before it stays. The empty path is `.`. On Unix two slashes at the start become
+ * one, which Python's posixpath.normpath keeps. On Windows the result is that of ntpath.normpath, but what the
+ * prefix of a path is follows Rust's std, and nothing is resolved of a path that begins with \\.\ or //?/, with a
+ * name that has a colon, or with two separators and no prefix, as \\server.
  * A share and a drive are written with \, but //?/share with /. A path that begins with \\?\ is kept.
  * OSB_OK, OSB_NO_ROOM, OSB_NO_MEMORY, OSB_BAD_PLATFORM. */
 OSB_NODISCARD osb_status osb_path_clean(osb_platform platform, const char *at, size_t len,

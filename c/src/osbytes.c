@@ -85,6 +85,9 @@ _Static_assert(sizeof(osb_verdict) == 16 && offsetof(osb_verdict, line) == 8, "o
 _Static_assert(sizeof(osb_glob_fault) == 24 && offsetof(osb_glob_fault, index) == 8 &&
                    offsetof(osb_glob_fault, kind) == 16,
                "osb_glob_fault");
+_Static_assert(sizeof(osb_join_fault) == 16 && offsetof(osb_join_fault, index) == 0 &&
+                   offsetof(osb_join_fault, reason) == 8 && sizeof(osb_join_reason) == 4,
+               "osb_join_fault");
 _Static_assert(sizeof(osb_option) == 24 && offsetof(osb_option, text) == 8, "osb_option");
 
 /* No symbol is exported unless it is named to the linker on Windows, whose objects have no visibility. */
@@ -156,7 +159,7 @@ uint32_t osb_core_path_join(uint32_t platform, const char *base, size_t base_len
                             size_t len, char *out, size_t room, size_t *count);
 uint32_t osb_core_path_join_checked(uint32_t platform, const char *base, size_t base_len,
                                     const char *at, size_t len, char *out, size_t room,
-                                    size_t *count, uint32_t *reason);
+                                    size_t *count, osb_join_fault *fault);
 uint32_t osb_core_path_relative(uint32_t platform, const char *at, size_t len, const char *base,
                                 size_t base_len, char *out, size_t room, size_t *count);
 uint32_t osb_core_path_normalize(uint32_t platform, const char *at, size_t len, char *out,
@@ -782,16 +785,16 @@ osb_status osb_path_join(osb_platform platform, const char *base, size_t base_le
 
 osb_status osb_path_join_checked(osb_platform platform, const char *base, size_t base_len,
                                  const char *at, size_t len, char *out, size_t room, size_t *count,
-                                 osb_join_reason *reason) {
+                                 osb_join_fault *fault) {
     size_t own = 0;
-    uint32_t own_reason = 0;
+    osb_join_fault own_fault = {0, (osb_join_reason)0};
     if (count == NULL || are_bad_strings(base, base_len, at, len, out, room))
         return OSB_BAD_POINTER;
     osb_status status =
         osb_core_path_join_checked(platform, bytes(base), base_len, bytes(at), len,
-                                   room == 0 ? (char *)no_room : out, room, &own, &own_reason);
+                                   room == 0 ? (char *)no_room : out, room, &own, &own_fault);
     if (status == OSB_OK || status == OSB_NO_ROOM) *count = own;
-    if (status == OSB_BAD_PATH && reason != NULL) *reason = (osb_join_reason)own_reason;
+    if (status == OSB_BAD_PATH && fault != NULL) *fault = own_fault;
     return status;
 }
 

@@ -1173,52 +1173,63 @@ static void path_joins(void) {
     bad_paths(osb_path_join);
 }
 
-static uint32_t reason;
+static osb_join_fault why_not;
 
 static osb_status checked(osb_platform platform, const char *base, size_t base_len, const char *at, size_t len,
                           char *out, size_t room, size_t *count) {
-    return osb_path_join_checked(platform, base, base_len, at, len, out, room, count, &reason);
+    return osb_path_join_checked(platform, base, base_len, at, len, out, room, count, &why_not);
 }
 
-/* No path is below the base, for this reason. */
-static bool leaves(osb_platform platform, const char *base, const char *at, uint32_t why) {
+/* What no call has written to. */
+static const osb_join_fault unwritten = {99, (osb_join_reason)9};
+
+static bool is_why(osb_join_reason reason, size_t index) {
+    return why_not.reason == reason && why_not.index == index;
+}
+
+/* No path is below the base, for this reason, by the component or the byte with this index. */
+static bool leaves(osb_platform platform, const char *base, const char *at, osb_join_reason why, size_t index) {
     char out[64] = "";
     size_t count = 7;
-    reason = 9;
+    why_not = unwritten;
     return osb_path_join_checked(platform, base, strlen(base), at, strlen(at), out, 64, &count, NULL) == OSB_BAD_PATH &&
            checked(platform, base, strlen(base), at, strlen(at), out, 64, &count) == OSB_BAD_PATH &&
-           reason == why && count == 7;
+           is_why(why, index) && count == 7;
 }
 
 /* The same of strings that have a NUL. */
 static bool leaves_with_nul(osb_platform platform, const char *base, size_t base_len, const char *at, size_t len,
-                            uint32_t why) {
+                            osb_join_reason why, size_t index) {
     char out[64] = "";
     size_t count = 7;
-    reason = 9;
-    return checked(platform, base, base_len, at, len, out, 64, &count) == OSB_BAD_PATH && reason == why && count == 7;
+    why_not = unwritten;
+    return checked(platform, base, base_len, at, len, out, 64, &count) == OSB_BAD_PATH && is_why(why, index) && count == 7;
 }
 
 static void path_joins_checked(void) {
-    reason = 9;
+    why_not = unwritten;
     EXPECT(builds(checked, OSB_UNIX, TEXT("/srv/files"), TEXT("./a/../b//c"), "/srv/files/b/c"));
     EXPECT(builds(checked, OSB_UNIX, NULL, 0, TEXT("a"), "a"));
     EXPECT(builds(checked, OSB_UNIX, TEXT("a"), NULL, 0, "a"));
     EXPECT(builds(checked, OSB_WINDOWS, TEXT("C:/a"), TEXT("b/c"), "C:\\a\\b\\c"));
     EXPECT(builds(checked, OSB_WASM, TEXT("a"), TEXT("nul:b\\c"), "a/nul:b\\c"));
-    EXPECT(reason == 9);
-    EXPECT(leaves(OSB_WINDOWS, "C:\\a", "D:b", OSB_JOIN_PREFIX));
-    EXPECT(leaves(OSB_UNIX, "/srv", "/etc", OSB_JOIN_ROOT));
-    EXPECT(leaves(OSB_UNIX, "/srv", "a/../../etc", OSB_JOIN_LEAVES));
-    EXPECT(leaves(OSB_WASM, "/srv", "..", OSB_JOIN_LEAVES));
-    EXPECT(leaves(OSB_WINDOWS, "C:\\a", "b\\c:d", OSB_JOIN_STREAM));
-    EXPECT(leaves(OSB_WINDOWS, "C:\\a", "b\\NUL.txt", OSB_JOIN_RESERVED));
+    EXPECT(is_why(unwritten.reason, unwritten.index));
+    EXPECT(leaves(OSB_WINDOWS, "C:\\a", "D:b", OSB_JOIN_PREFIX, 0));
+    EXPECT(leaves(OSB_UNIX, "/srv", "/etc", OSB_JOIN_ROOT, 0));
+    EXPECT(leaves(OSB_UNIX, "/srv", "a/../../etc", OSB_JOIN_LEAVES, 2));
+    EXPECT(leaves(OSB_WASM, "/srv", "..", OSB_JOIN_LEAVES, 0));
+    EXPECT(leaves(OSB_WINDOWS, "C:\\a", "b\\c:d", OSB_JOIN_STREAM, 1));
+    EXPECT(leaves(OSB_WINDOWS, "C:\\a", "./b//a:b/nul/../../..", OSB_JOIN_STREAM, 2));
+    EXPECT(leaves(OSB_WINDOWS, "C:\\a", "b\\NUL.txt", OSB_JOIN_RESERVED, 1));
+    EXPECT(leaves(OSB_WINDOWS, "C:\\a", "b\\c\\d \\..", OSB_JOIN_RESERVED, 2));
+    EXPECT(leaves(OSB_WINDOWS, "C:\\a", "x/y?z", OSB_JOIN_RESERVED, 1));
     EXPECT(builds(checked, OSB_WINDOWS, TEXT("\\\\?\\C:"), TEXT("b"), "\\\\?\\C:\\b"));
-    EXPECT(leaves(OSB_WINDOWS, "\\\\?\\UNC\\server", "b", OSB_JOIN_BASE));
-    EXPECT(leaves(OSB_WINDOWS, "\\\\server", "share\\x", OSB_JOIN_BASE));
-    EXPECT(leaves_with_nul(OSB_UNIX, TEXT("/srv/files"), TEXT("..\0x"), OSB_JOIN_NUL));
-    EXPECT(leaves_with_nul(OSB_WASM, TEXT("/srv/files"), TEXT("a\0"), OSB_JOIN_NUL));
-    EXPECT(leaves_with_nul(OSB_WINDOWS, TEXT("C:\\a\0b"), TEXT("/x\0"), OSB_JOIN_BASE_NUL));
+    EXPECT(leaves(OSB_WINDOWS, "\\\\?\\UNC\\server", "b", OSB_JOIN_BASE, 0));
+    EXPECT(leaves(OSB_WINDOWS, "\\\\server", "share\\x", OSB_JOIN_BASE, 0));
+    EXPECT(leaves(OSB_WINDOWS, "C:\\nul", "a/../..", OSB_JOIN_BASE, 0));
+    EXPECT(leaves_with_nul(OSB_UNIX, TEXT("/srv/files"), TEXT("..\0x"), OSB_JOIN_NUL, 2));
+    EXPECT(leaves_with_nul(OSB_WASM, TEXT("/srv/files"), TEXT("a\0"), OSB_JOIN_NUL, 1));
+    EXPECT(leaves_with_nul(OSB_WINDOWS, TEXT("C:\\a\0b"), TEXT("/x\0"), OSB_JOIN_BASE_NUL, 4));
     bad_paths(checked);
 }
 

@@ -543,8 +543,11 @@ class _Known(Dict[int, Union[Character, Unit]]):
         return symbol
 
 
+_ASCII = {_CHARACTER | value << 32: Character(chr(value)) for value in range(128)}
+
+
 def _symbols(raw: bytes, left: Symbols) -> Iterator[Character | Unit]:
     """Iterates as `symbols` does. It keeps the bytes, which the library's iterator reads."""
-    known = _Known()
+    known = _Known(_ASCII)
     for fields in _batches(library.osb_symbols_fill, left, Symbol, "Q"):
         yield from map(known.__getitem__, fields[:: sizeof(Symbol) // 8])

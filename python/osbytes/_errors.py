@@ -49,9 +49,11 @@ class NoStringError(OsBytesError):
 
 
 class JoinError(OsBytesError):
-    """The path isn't below its base. `reason` is a `JoinReason`. If it is a NUL, `index` is the first one."""
+    """The path isn't below its base. `reason` is a `JoinReason`. If it is a NUL, `index` is the first one. If a component of
+    the path is at fault, `component` is the number, from 0, of the first one."""
 
     reason: JoinReason | None = None
+    component: int | None = None
 
 
 class ConvertError(OsBytesError):

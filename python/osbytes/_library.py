@@ -70,6 +70,12 @@ class Part(Structure):
     _fields_ = [("kind", c_uint32), ("start", c_size_t), ("end", c_size_t)]
 
 
+class JoinFault(Structure):
+    """Why a path isn't below a base, and where."""
+
+    _fields_ = [("index", c_size_t), ("reason", c_uint32)]
+
+
 class GlobFault(Structure):
     """The first fault of a list of patterns."""
 

@@ -2,13 +2,14 @@
 
 from __future__ import annotations
 
+import ctypes
 from enum import IntEnum
-from typing import Any, AnyStr
+from typing import Any, AnyStr, overload
 
 from . import _quick as quick
 from ._errors import ConvertError, ExtensionError, JoinError
-from ._library import BAD_EXTENSION, BAD_PATH, NONE, Call, address_of, library, written
-from ._strings import ERRORS, UNIX, AnyOsName, OsName, Platform, as_platform, done, index_in, read_two, read_valid, returned, said
+from ._library import BAD_EXTENSION, BAD_PATH, NONE, Call, JoinFault, address_of, library, written
+from ._strings import ERRORS, UNIX, AnyOsName, OsName, OsString, Platform, as_platform, done, index_in, read_two, read_valid, said
 
 _JOIN, _RELATIVE, _WITH_FILE_NAME, _WITH_EXTENSION, _WITH_ADDED = map(
     address_of,
@@ -24,7 +25,8 @@ _NORMALIZE, _CLEAN = map(address_of, (library.osb_path_normalize, library.osb_pa
 
 
 class JoinReason(IntEnum):
-    """Why a path isn't below a base."""
+    """Why a path isn't below a base. `RESERVED` is also a name that has one of `<>"|?*` or a control character, or ends with a
+    space or a dot."""
 
     PREFIX = 1
     ROOT = 2
@@ -40,8 +42,8 @@ _REASONS = {
     JoinReason.PREFIX: "the path has a prefix",
     JoinReason.ROOT: "the path has a root",
     JoinReason.LEAVES: "the path leaves the base",
-    JoinReason.STREAM: "a name of the path has a colon",
-    JoinReason.RESERVED: "a name of the path is reserved on Windows",
+    JoinReason.STREAM: "the path has a colon",
+    JoinReason.RESERVED: "the path has a name that Windows reserves, rejects or changes",
     JoinReason.BASE: "the base isn't a place of its own",
     JoinReason.NUL: "the path has a NUL",
     JoinReason.BASE_NUL: "the base has a NUL",
@@ -72,7 +74,19 @@ def _of_one(call: Call, path: AnyOsName, platform: Platform) -> Any:
     return room.written(errors)
 
 
-def path_join(base: OsName[AnyStr], path: OsName[AnyStr], platform: Platform = UNIX) -> AnyStr:
+@overload
+def path_join(base: OsName[str], path: OsName[str], platform: Platform = UNIX) -> str: ...
+
+
+@overload
+def path_join(base: OsName[bytes], path: OsName[bytes], platform: Platform = UNIX) -> bytes: ...
+
+
+@overload
+def path_join(base: OsString, path: OsString, platform: Platform = UNIX) -> OsString: ...
+
+
+def path_join(base: AnyOsName, path: AnyOsName, platform: Platform = UNIX) -> OsString:
     """Returns a path after a base, as Rust's `Path::join` and `os.path.join` do.
 
     A path with a prefix replaces the base, and one with a root all but the base's prefix. Both arguments are `str`, or
@@ -81,19 +95,32 @@ def path_join(base: OsName[AnyStr], path: OsName[AnyStr], platform: Platform = U
     >>> path_join("/usr", "lib"), path_join("/usr", "/lib"), path_join("C:", "a", Platform.WINDOWS)
     ('/usr/lib', '/lib', 'C:a')
     """
-    made = quick.joined(_JOIN, platform, base, path)
+    made: OsString = quick.joined(_JOIN, platform, base, path)
     if made is NotImplemented:
         made = _of_two(library.osb_path_join, base, path, platform)
     return made
 
 
-def path_join_checked(base: OsName[AnyStr], path: OsName[AnyStr], platform: Platform = UNIX) -> AnyStr:
+@overload
+def path_join_checked(base: OsName[str], path: OsName[str], platform: Platform = UNIX) -> str: ...
+
+
+@overload
+def path_join_checked(base: OsName[bytes], path: OsName[bytes], platform: Platform = UNIX) -> bytes: ...
+
+
+@overload
+def path_join_checked(base: OsString, path: OsString, platform: Platform = UNIX) -> OsString: ...
+
+
+def path_join_checked(base: AnyOsName, path: AnyOsName, platform: Platform = UNIX) -> OsString:
     """Returns a path below a base, with `.` and `..` resolved, for names that come from an archive or a request.
 
     Raises `JoinError`, with the reason, if the path has a prefix or a root, or a `..` would leave the base, and on Windows
     also if a name has a colon, is reserved as `nul.txt`, has one of `<>"|?*` or a control character or ends with a space or a
-    dot, which Windows rejects or removes, or the base isn't a place of its own, as `\\\\server`. A NUL in either is
-    rejected, with its index. The file system isn't read, so a symbolic link below the base can still lead elsewhere.
+    dot, which Windows rejects or removes, or the base isn't a place of its own, as `\\\\server`. `component` is the number
+    of the first component at fault. A NUL in either is rejected, with its index. The file system isn't read, so a symbolic
+    link below the base can still lead elsewhere.
 
     >>> path_join_checked("/srv/files", "./a/../b//c")
     '/srv/files/b/c'
@@ -101,19 +128,27 @@ def path_join_checked(base: OsName[AnyStr], path: OsName[AnyStr], platform: Plat
     platform = as_platform(platform)
     a, b, errors = read_two(base, path, platform)
     call: Call = library.osb_path_join_checked
+    fault = JoinFault()
     status, room = written(
-        lambda room: call(platform, a, len(a), b, len(b), room.out_at, room.size, room.count_at, room.index_at),
+        lambda room: call(platform, a, len(a), b, len(b), room.out_at, room.size, room.count_at, ctypes.addressof(fault)),
         len(a) + len(b) + 4,
     )
     if status == BAD_PATH:
-        # the call writes 32 bits
-        reason = JoinReason(room.index & 0xFFFFFFFF)
-        nul_in = {JoinReason.NUL: b, JoinReason.BASE_NUL: a}.get(reason)
-        index = None if nul_in is None else index_in(nul_in, nul_in.find(b"\0"), errors)
-        raise JoinError(_REASONS[reason], reason=reason, index=index)
+        raise _refusal(fault, a, b, errors)
     done(status)
-    made: AnyStr = room.written(errors)
+    made: OsString = room.written(errors)
     return made
+
+
+def _refusal(fault: JoinFault, base: bytes, path: bytes, errors: str | None) -> JoinError:
+    """Returns the error for a path that isn't below a base."""
+    reason = JoinReason(fault.reason)
+    if reason in (JoinReason.NUL, JoinReason.BASE_NUL):
+        text = path if reason == JoinReason.NUL else base
+        return JoinError(_REASONS[reason], reason=reason, index=index_in(text, fault.index, errors))
+    if reason in (JoinReason.LEAVES, JoinReason.STREAM, JoinReason.RESERVED):
+        return JoinError(f"{_REASONS[reason]} at component {fault.index}", reason=reason, component=fault.index)
+    return JoinError(_REASONS[reason], reason=reason)
 
 
 def path_relative(path: OsName[AnyStr], base: OsName[AnyStr], platform: Platform = UNIX) -> AnyStr | None:
@@ -145,9 +180,11 @@ def path_normalize(path: OsName[AnyStr], platform: Platform = UNIX) -> AnyStr | 
 
 
 def path_clean(path: OsName[AnyStr], platform: Platform = UNIX) -> AnyStr:
-    """Returns the path cleaned, as Go's `path.Clean` does, and as `os.path.normpath` does but for two slashes at the start,
-    which become one. What the prefix of a Windows path is follows Rust's std. A `..` without a name before it is kept, but
-    not at a root.
+    """Returns the path cleaned, as Go's `path.Clean` does. A `..` without a name before it is kept, but not at a root.
+
+    On Unix the result is that of `posixpath.normpath`, but two slashes at the start become one. On Windows it is that of
+    `ntpath.normpath`, but what the prefix of a path is follows Rust's std, and nothing is resolved of a path that begins with
+    `\\\\.\\` or `//?/`, with a name that has a colon, or with two separators and no prefix, as `\\\\server`.
 
     >>> path_clean("./../a//b/.."), path_clean("/.."), path_clean("")
     ('../a', '/', '.')
@@ -188,7 +225,7 @@ def path_with_file_name(path: OsName[AnyStr], name: OsName[AnyStr], platform: Pl
     >>> path_with_file_name("/tmp/a.txt", "b"), path_with_file_name("/", "b")
     ('/tmp/b', '/b')
     """
-    made = quick.joined(_WITH_FILE_NAME, platform, path, name)
+    made: AnyStr = quick.joined(_WITH_FILE_NAME, platform, path, name)
     if made is NotImplemented:
         made = _of_two(library.osb_path_with_file_name, path, name, platform)
     return made
@@ -203,7 +240,7 @@ def path_with_extension(path: OsName[AnyStr], extension: OsName[AnyStr], platfor
     >>> path_with_extension("a/b.txt/", "rs"), path_with_extension("a/b.txt", "")
     ('a/b.rs', 'a/b')
     """
-    made = quick.joined(_WITH_EXTENSION, platform, path, extension)
+    made: AnyStr = quick.joined(_WITH_EXTENSION, platform, path, extension)
     if made is NotImplemented:
         made = _of_two(library.osb_path_with_extension, path, extension, platform)
     return made
@@ -215,7 +252,7 @@ def path_with_added_extension(path: OsName[AnyStr], extension: OsName[AnyStr], p
     >>> path_with_added_extension("a/b.tar", "gz")
     'a/b.tar.gz'
     """
-    made = quick.joined(_WITH_ADDED, platform, path, extension)
+    made: AnyStr = quick.joined(_WITH_ADDED, platform, path, extension)
     if made is NotImplemented:
         made = _of_two(library.osb_path_with_added_extension, path, extension, platform)
     return made

@@ -8,9 +8,10 @@ from typing import Any, ClassVar, Sequence, TypeVar, overload
 from urllib.parse import quote_from_bytes
 
 from ._calls import decode
-from ._errors import JoinError, OsBytesError
+from ._errors import ExtensionError, JoinError, OsBytesError
 from ._globs import Glob, GlobFlag
-from ._path_building import JoinReason, path_convert, path_join, path_join_checked, path_relative, path_with_extension
+from ._library import BAD_EXTENSION
+from ._path_building import JoinReason, path_convert, path_join, path_join_checked, path_relative
 from ._paths import (
     Kind,
     parts_of,
@@ -21,7 +22,10 @@ from ._paths import (
     path_starts_with,
     path_strip_prefix,
 )
-from ._strings import UNIX, WINDOWS, AnyOsName, OsString, Platform, read_valid
+from ._strings import UNIX, WINDOWS, AnyOsName, OsString, Platform, read_valid, said
+
+# Looking a member up in its class takes longer than all else here.
+_PREFIX, _ROOT, _CURRENT, _NAME = Kind.PREFIX, Kind.ROOT, Kind.CURRENT, Kind.NAME
 
 P = TypeVar("P", bound="OsPath")
 Q = TypeVar("Q", bound="OsPath")
@@ -66,11 +70,13 @@ class OsPath:
         drive, root, is_current = "", "", False
         names: list[str] = []
         for kind, part in parts_of(text, cls.platform):
-            if kind == Kind.PREFIX:
+            if kind is _NAME:
+                names.append(part)
+            elif kind is _PREFIX:
                 drive = part if part.startswith("\\\\?\\") else part.replace("/", "\\")
-            elif kind == Kind.ROOT:
+            elif kind is _ROOT:
                 root = cls._separator
-            elif kind == Kind.CURRENT and not drive:
+            elif kind is _CURRENT and not drive:
                 is_current = True
             else:
                 names.append(part)
@@ -291,7 +297,11 @@ class OsPath:
             raise OsBytesError(f"Invalid suffix {text!r}")
         if self.name in ("", ".."):
             raise OsBytesError(f"{str(self)!r} has an empty name")
-        return self._made(path_with_extension(self._text, text[1:], self.platform))
+        if "/" in text or self._separator in text:
+            raise ExtensionError(said(BAD_EXTENSION))
+        name = self.stem + text
+        # `..x` without its suffix is the current directory
+        return self._with((*self._names[:-1], name) if name != "." else self._names[:-1])
 
     def convert(self, to: type[Q]) -> Q:
         """Returns the path of the class `to` that has the same components. Raises `ConvertError` if there is none."""

@@ -45,6 +45,7 @@ mixed_line: str = osbytes.shell_join(["a", pathlib.Path("b")])
 words: list[bytes] = osbytes.shell_words(b"a b")
 parent: str | None = osbytes.path_parent("a/b", WINDOWS)
 joined: bytes = osbytes.path_join(b"a", b"b", platform=UNIX)
+from_path: str = osbytes.path_join(pathlib.Path("a"), "b")
 converted: str = osbytes.path_convert("a", to=WINDOWS)
 kinds: list[osbytes.Kind] = [part.kind for part in osbytes.path_components("a")]
 texts: list[str] = [part.text for part in osbytes.path_components("a")]
@@ -56,6 +57,10 @@ answers: list[bool] = globs.matches([pathlib.Path("a"), "b"])
 verdict: osbytes.Verdict = osbytes.Ignore("*.o").verdict("a.o")
 platform: Platform = osbytes.WASM
 value: str = osbytes.Options(["-a", "b"]).value()
+
+
+def joined_names(base: OsString, name: OsString) -> list[OsString]:
+    return [osbytes.path_join(base, name), osbytes.path_join_checked(base, name), osbytes.path_join(base, "b")]
 
 
 def joined_line(names: list[OsString]) -> OsString:
@@ -76,7 +81,8 @@ except osbytes.FaultError as error:
     place: int | None = error.index
 '''
 WRONG = {
-    "osbytes.path_join('a', b'b')": "AnyStr",
+    "osbytes.path_relative('a', b'b')": "AnyStr",
+    "text: str = osbytes.path_join('a', b'b')": "assignment",
     "osbytes.find('a', 'b')": "arg-type",
     "osbytes.path_convert('a', osbytes.WINDOWS)": "call-arg|misc",
     "value: bytes = osbytes.shell_quote('a')": "assignment|arg-type",

@@ -469,6 +469,25 @@ class Paths(unittest.TestCase):
                 if of is osbytes.UnixPath and path.root == of(other).root:
                     self.assertEqual(path < of(other), wanted < python(other))
 
+    def test_suffix_beside_path_with_extension(self) -> None:
+        pieces = ["/", "\\", ".", "..", "a", "C:", ":", "?", " ", "\u00e9", ".x", "\udcff"]
+        numbers = random.Random(3)
+        for of in (osbytes.UnixPath, osbytes.WindowsPath):
+            for text, suffix in zip(self.made_up(pieces, 3), self.made_up(pieces, 4)):
+                path, suffix = of(text), "." * numbers.randint(0, 1) + suffix
+                if path.name in ("", "..") or (suffix and (suffix[0] != "." or suffix == ".")):
+                    self.assertRaises(OsBytesError, path.with_suffix, suffix)
+                    continue
+                try:
+                    wanted = of(osbytes.path_with_extension(str(path), suffix[1:], of.platform))
+                except osbytes.ExtensionError as error:
+                    with self.assertRaises(osbytes.ExtensionError) as raised:
+                        path.with_suffix(suffix)
+                    self.assertEqual(str(raised.exception), str(error))
+                    continue
+                made = path.with_suffix(suffix)
+                self.assertEqual((made, str(made), made.parts), (wanted, str(wanted), wanted.parts), (text, suffix))
+
     def test_more_beside_pathlib(self) -> None:
         unix, windows = ["/", "/", "a", "b.txt", ".x", "x.tar.gz"], ["\\", "/", "a", "b.txt", ".x", "x.tar.gz", "nul", "C:", "a."]
         for of, python, pieces in ((osbytes.UnixPath, PurePosixPath, unix), (osbytes.WindowsPath, PureWindowsPath, windows)):

@@ -192,12 +192,16 @@ class BesidePython(unittest.TestCase):
             self.assertEqual(osbytes.path_convert(windows, to=UNIX, platform=WINDOWS), path)
 
     def test_refused_paths(self) -> None:
-        refusals = [("b", "C:a", JoinReason.PREFIX), ("b", "/a", JoinReason.ROOT), ("b", "a/../..", JoinReason.LEAVES)]
-        refusals += [("b", "aa:b", JoinReason.STREAM), ("b", "nul.txt", JoinReason.RESERVED), ("\\\\s", "a", JoinReason.BASE)]
-        for base, path, reason in refusals:
+        refusals = [("b", "C:a", JoinReason.PREFIX, None), ("b", "/a", JoinReason.ROOT, None), ("\\\\s", "a", JoinReason.BASE, None)]
+        refusals += [("b", "a/../..", JoinReason.LEAVES, 2), ("b", "..", JoinReason.LEAVES, 0), ("b", "aa:b", JoinReason.STREAM, 0)]
+        refusals += [("b", "./a//b:c/..", JoinReason.STREAM, 2), ("b", "a/nul.txt", JoinReason.RESERVED, 1)]
+        refusals += [("b", f"a/b/{name}/../..", JoinReason.RESERVED, 2) for name in ("a<b", "a?", "a\n", "a ", "a.", "...")]
+        for base, path, reason, component in refusals:
             with self.assertRaises(JoinError) as refused:
                 osbytes.path_join_checked(base, path, WINDOWS)
-            self.assertEqual(refused.exception.reason, reason)
+            self.assertEqual((refused.exception.reason, refused.exception.component), (reason, component))
+            self.assertEqual(str(refused.exception).endswith(f" at component {component}"), component is not None)
+            self.assertIsNone(refused.exception.index)
         for base, path, reason in (("\u00e9", "\u00e9\0", JoinReason.NUL), ("\u00e9\0", "b\0", JoinReason.BASE_NUL)):
             with self.assertRaises(JoinError) as refused:
                 osbytes.path_join_checked(base, path)

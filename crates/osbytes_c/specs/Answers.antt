@@ -3,16 +3,17 @@ use Rattle.std.specs.Prelude.{◌≡◌, ◌⊎◌, ◌≤◌, ◌<◌, ℕ, Lis
 use Rattle.std.specs.declared.cmp.Ordering.{Ordering}
 use Rattle.std.specs.declared.cmp.Ordering.TheVariants.{Less, Equal, Greater}
 use Rattle.wtf8_core.specs.Truncated.{IsTruncated}
+use Rattle.osbytes_c.specs.Statuses.{done, no_room}
 
 -- a wanted list is written into the buffer, truncated to the buffer's length, and the number is the list's length
 abbrev pub Writes : (List ℕ → Type 0) → List ℕ → List ℕ → ℕ → Type 0
 Writes Wanted old new count = (list : List ℕ) × (Wanted list × IsTruncated list old new count)
 
--- with status 0 it was done whole, and with status 2 as far as there is room: `count` is how much room is wanted
+-- it was done whole, or as far as there is room: `count` is how much room is wanted
 abbrev pub IsDone : ℕ → Type 0 → ℕ → ℕ → Type 0
-IsDone status Done room count = (status ≡ 0 → Done × (count ≤ room)) × (status ≡ 2 → Done × (room < count))
+IsDone status Done room count = (status ≡ done → Done × (count ≤ room)) × (status ≡ no_room → Done × (room < count))
 
--- with status 0 a wanted list is written into the buffer, and with status 2 as much of it as there is room for
+-- a wanted list is written into the buffer, whole or as much of it as there is room for
 abbrev pub IsWritten : ℕ → (List ℕ → Type 0) → List ℕ → List ℕ → ℕ → Type 0
 IsWritten status Wanted old new count = IsDone status (Writes Wanted old new count) (length old) count
 

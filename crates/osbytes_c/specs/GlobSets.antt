@@ -12,13 +12,14 @@ use Rattle.osbytes_c.specs.declared.globs.sets.PlatformGlobs.TheVariants.{Unix, 
 use Rattle.osbytes_c.specs.Globs.{AreCompiled, AreNamesTold, IsListRefusal, IsMatched}
 use Rattle.osbytes_c.specs.ItemLists.{Views, HasOther}
 use Rattle.osbytes_c.specs.Platforms.{formed_on, units_on}
+use Rattle.osbytes_c.specs.Statuses.{done, faulty, none, empty}
 
 module _ (formed : List ℕ → Type 0) (units : List ℕ → List ℕ) where
-  -- the number for a path: 0 one of the compiled patterns matches it, 3 none does, 1 it isn't a string
+  -- the status for a path: one of the compiled patterns matches it, none does, or it isn't a string
   abbrev pub IsAnswerOn : Options → List (Pattern Global) → List ℕ → ℕ → Type 0
   IsAnswerOn matching compiled path answer =
-      ((answer ≡ 0) × (formed path × IsMatched units matching compiled path))
-      ⊎ (((answer ≡ 3) × (formed path × (¬ (IsMatched units matching compiled path)))) ⊎ ((answer ≡ 1) × (¬ (formed path))))
+      ((answer ≡ done) × (formed path × IsMatched units matching compiled path))
+      ⊎ (((answer ≡ none) × (formed path × (¬ (IsMatched units matching compiled path)))) ⊎ ((answer ≡ faulty) × (¬ (formed path))))
 
 -- the set is that of the list, on the platform
 abbrev pub IsSetOf : ℕ → GlobOptions → Views → PlatformGlobs → Type 0
@@ -42,18 +43,18 @@ IsSame None other = ⊥
 IsSame (Some globs) None = ⊥
 IsSame (Some globs) (Some other) = arc_value other.set ≡ arc_value globs.set
 
--- the number that a set returns for a path
+-- the status that a set returns for a path
 abbrev pub IsAnswerOf : List ℕ → PlatformGlobs → ℕ → Type 0
 IsAnswerOf path (Unix globs) answer = IsAnswerOn (formed_on 0) (units_on 0) globs.set.options globs.set.patterns.items path answer
 IsAnswerOf path (Windows globs) answer = IsAnswerOn (formed_on 1) (units_on 1) globs.set.options globs.set.patterns.items path answer
 IsAnswerOf path (Wasm globs) answer = IsAnswerOn (formed_on 2) (units_on 2) globs.set.options globs.set.patterns.items path answer
 
--- that of what is kept, and 26 where nothing is
+-- that of what is kept, or that nothing is
 abbrev pub IsAnswer : List ℕ → Option Globs → ℕ → Type 0
-IsAnswer path None answer = answer ≡ 26
+IsAnswer path None answer = answer ≡ empty
 IsAnswer path (Some globs) answer = IsAnswerOf path (arc_value globs.set) answer
 
--- the number for a path is that of a set compiled from the patterns of the list
+-- the status for a path is that of a set compiled from the patterns of the list
 abbrev pub IsAsked : ℕ → GlobOptions → Views → List ℕ → ℕ → Type 0
 IsAsked platform o patterns path answer =
     (matching : Options) × ((compiled : List (Pattern Global))

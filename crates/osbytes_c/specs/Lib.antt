@@ -18,6 +18,7 @@ pub mod PathSpans
 pub mod Places
 pub mod Platforms
 pub mod Room
+pub mod Statuses
 pub mod Steps
 pub mod SymbolFills
 pub mod Walks

@@ -2,6 +2,7 @@
 ghost use Rattle.std.specs.Prelude.{◌∷◌, [], length};
 ghost use Rattle.wtf8_core.specs.Truncated.{IsTruncated};
 ghost use Rattle.osbytes_c.specs.Answers.{IsDone, IsOneOf};
+ghost use Rattle.osbytes_c.specs.Statuses.{done, no_room};
 
 use crate::status::fits;
 use wtf8_core::push_truncated;
@@ -12,7 +13,7 @@ use wtf8_core::push_truncated;
 pub(crate) fn write_list(list: &[u8], out: &mut [u8], count: &mut usize) -> u32
     ensures written { IsDone result (IsTruncated list.now out.old out.new count.new)
         (length out.old) count.new }
-    ensures answers { IsOneOf (0 ∷ 2 ∷ []) result }
+    ensures answers { IsOneOf (done ∷ no_room ∷ []) result }
 {
     let written = push_truncated(out, 0, list);
     *count = written;

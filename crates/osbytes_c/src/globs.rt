@@ -8,6 +8,7 @@ ghost use Rattle.osbytes_c.specs.Answers.{IsOneOf, IsWritten};
 ghost use Rattle.osbytes_c.specs.Globs.{AreCompiled, AreMatchesTold, AreNamesTold, AreNoOptions, HasUnstring, IsGlobFault, IsListRefusal, IsMatched, IsNoSet, IsRefusal, IsTold, fault_number, glob_options};
 ghost use Rattle.osbytes_c.specs.ItemLists.{AreItems};
 ghost use Rattle.osbytes_c.specs.Platforms.{formed_on, units_on};
+ghost use Rattle.osbytes_c.specs.Statuses.{done, faulty, no_memory, no_option, no_pattern, no_platform, no_room};
 
 pub mod places;
 pub mod sets;
@@ -59,13 +60,14 @@ pub extern "C" fn osb_core_glob_matches(
 ) -> u32
     ensures written { IsWritten result (AreMatchesTold (formed_on platform) (units_on platform)
         (glob_options options) patterns.now paths.now) matched.old matched.new count.new }
-    ensures strings { result ≡ 1 → HasUnstring (formed_on platform) (units_on platform)
+    ensures strings { result ≡ faulty → HasUnstring (formed_on platform) (units_on platform)
         (glob_options options) patterns.now paths.now }
-    ensures pattern { result ≡ 17 → IsGlobFault (formed_on platform) (units_on platform)
+    ensures pattern { result ≡ no_pattern → IsGlobFault (formed_on platform) (units_on platform)
         (glob_options options) patterns.now fault.new }
-    ensures options { (result ≡ 22) ↔ AreNoOptions options }
-    ensures platform { (result ≡ 16) ↔ ((¬ (AreNoOptions options)) × (2 < platform)) }
-    ensures answers { IsOneOf (0 ∷ 2 ∷ 1 ∷ 11 ∷ 17 ∷ 22 ∷ 16 ∷ []) result }
+    ensures options { (result ≡ no_option) ↔ AreNoOptions options }
+    ensures platform { (result ≡ no_platform) ↔ ((¬ (AreNoOptions options)) × (2 < platform)) }
+    ensures answers { IsOneOf (done ∷ no_room ∷ faulty ∷ no_memory ∷ no_pattern ∷ no_option ∷
+        no_platform ∷ []) result }
 {
     let Some(options) = options_of(options) else {
         return NO_OPTION;
@@ -112,11 +114,11 @@ fn matches_on<E: Platform>(
 ) -> u32
     ensures written { IsWritten result (AreMatchesTold E.well_formed E.units options patterns.now
         paths.now) matched.old matched.new count.new }
-    ensures strings { result ≡ 1 → HasUnstring E.well_formed E.units options patterns.now
+    ensures strings { result ≡ faulty → HasUnstring E.well_formed E.units options patterns.now
         paths.now }
-    ensures pattern { result ≡ 17 → IsGlobFault E.well_formed E.units options patterns.now
+    ensures pattern { result ≡ no_pattern → IsGlobFault E.well_formed E.units options patterns.now
         fault.new }
-    ensures answers { IsOneOf (0 ∷ 2 ∷ 1 ∷ 11 ∷ 17 ∷ []) result }
+    ensures answers { IsOneOf (done ∷ no_room ∷ faulty ∷ no_memory ∷ no_pattern ∷ []) result }
 {
     match told_on::<E>(alloc, options, patterns, paths) {
         Ok(answers) => write_list(&answers, matched, count),

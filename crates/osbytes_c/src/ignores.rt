@@ -5,6 +5,7 @@ ghost use Rattle.std.specs.Prelude.{◌≡◌, ◌≢◌, ◌↔◌, ◌+◌, �
 ghost use Rattle.os_ignore.specs.Ignores.{files_of};
 ghost use Rattle.osbytes_c.specs.Answers.{IsDone, IsOneOf};
 ghost use Rattle.osbytes_c.specs.Ignores.{AreToldIn, IsIgnoreTold, PushesTold, Tells};
+ghost use Rattle.osbytes_c.specs.Statuses.{done, no_memory, no_room};
 
 pub mod places;
 pub mod sets;
@@ -36,7 +37,7 @@ pub extern "C" fn osb_core_ignore_matches(
 ) -> u32
     ensures written { IsDone result (IsIgnoreTold file.now flags.now paths.now out.old out.new
         count.new) (length out.old) count.new }
-    ensures answers { IsOneOf (0 ∷ 2 ∷ 11 ∷ []) result }
+    ensures answers { IsOneOf (done ∷ no_room ∷ no_memory ∷ []) result }
 {
     let Ok(ignore) = Ignore::new(alloc, file) else {
         return NO_MEMORY;

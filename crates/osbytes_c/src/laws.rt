@@ -1,4 +1,4 @@
-//! The laws of whole walks. Each is the contract of a function that does nothing.
+//! The laws of statuses, whole walks and whole lines. Each is the contract of a function that does nothing.
 ghost use Rattle.std.specs.Prelude.{ℕ, List, length, ◌++◌};
 ghost use Rattle.wtf8_core.specs.Chunks.{Chunk, AreChunks};
 ghost use Rattle.os_str_ext.specs.Pieces.{IsSplit, IsRSplit};
@@ -8,7 +8,13 @@ ghost use Rattle.os_command_line.specs.Windows.{IsCommandLine, quote};
 ghost use Rattle.os_command_line.specs.WindowsWriting.{HasNo};
 ghost use Rattle.osbytes_c.specs.CommandLines.{AreArgumentTexts, after_name, quoted_name};
 ghost use Rattle.osbytes_c.specs.Platforms.{units_on};
+ghost use Rattle.osbytes_c.specs.Statuses.{IsAscending, statuses};
 ghost use Rattle.osbytes_c.specs.Walks.{SplitWalk, RSplitWalk, ChunkWalk, SymbolWalk};
+
+/// The numbers of the statuses are in ascending order, so no two statuses are equal.
+pub fn statuses_differ()
+    ensures { IsAscending statuses }
+{}
 
 /// The pieces of a split that is stepped from 0 to its last piece are the split, and those of one
 /// that is stepped from the end are the split from the end.

@@ -10,7 +10,7 @@
 //! - [`lines`]: words of shells and command lines of Windows.
 //! - [`options`]: options and operands.
 //!
-//! [`laws`] states what whole walks and whole lines give. The modules of [`uses`] are callers,
+//! [`laws`] states that statuses differ, and what whole walks and whole lines give. The modules of [`uses`] are callers,
 //! which draw conclusions from the contracts.
 //!
 //! A slice crosses as a pointer and a length. Each export takes any values, so none has a

@@ -7,6 +7,7 @@ ghost use Rattle.os_args.specs.Word.{dashes, equals, IsFlag, IsReadAs};
 ghost use Rattle.platform_str.specs.Strings.{bytes};
 ghost use Rattle.osbytes_c.specs.Answers.{IsOneOf};
 ghost use Rattle.osbytes_c.specs.Options.{IsOptionIn, kind_number, marks_of, numbers_of, text_of, unread, value_of};
+ghost use Rattle.osbytes_c.specs.Statuses.{done, no_index, no_option, none};
 
 use crate::status::{DONE, NO_INDEX, NO_OPTION, NONE};
 use crate::strings::unix;
@@ -33,11 +34,11 @@ pub struct OptionSpan {
 /// nothing.
 #[unsafe(no_mangle)]
 pub extern "C" fn osb_core_option(options: u32, word: &[u8], span: &mut OptionSpan) -> u32
-    ensures read { result ≡ 0 → IsOptionIn (IsReadAs (numbers_of options) word.now) word.now
+    ensures read { result ≡ done → IsOptionIn (IsReadAs (numbers_of options) word.now) word.now
         span.new }
-    ensures dashes { (result ≡ 3) ↔ ((options ≤ 1) × (word.now ≡ dashes)) }
-    ensures option { (result ≡ 22) ↔ (1 < options) }
-    ensures answers { IsOneOf (0 ∷ 3 ∷ 22 ∷ []) result }
+    ensures dashes { (result ≡ none) ↔ ((options ≤ 1) × (word.now ≡ dashes)) }
+    ensures option { (result ≡ no_option) ↔ (1 < options) }
+    ensures answers { IsOneOf (done ∷ none ∷ no_option ∷ []) result }
 {
     let numbers = match options {
         0 => false,
@@ -55,11 +56,11 @@ pub extern "C" fn osb_core_option(options: u32, word: &[u8], span: &mut OptionSp
 /// after which a value comes.
 #[unsafe(no_mangle)]
 pub extern "C" fn osb_core_flag(word: &[u8], at: usize, span: &mut OptionSpan) -> u32
-    ensures flag { result ≡ 0 → IsOptionIn (IsFlag (drop at word.now)) word.now span.new
+    ensures flag { result ≡ done → IsOptionIn (IsFlag (drop at word.now)) word.now span.new
         × (span.new.start ≡ at) }
-    ensures value { (result ≡ 3) ↔ IsPrefix equals (drop at word.now) }
-    ensures index { (result ≡ 18) ↔ (length word.now ≤ at) }
-    ensures answers { IsOneOf (0 ∷ 3 ∷ 18 ∷ []) result }
+    ensures value { (result ≡ none) ↔ IsPrefix equals (drop at word.now) }
+    ensures index { (result ≡ no_index) ↔ (length word.now ≤ at) }
+    ensures answers { IsOneOf (done ∷ none ∷ no_index ∷ []) result }
 {
     if at >= word.len() {
         return NO_INDEX;

@@ -8,6 +8,7 @@ ghost use Rattle.path_rules.specs.Prefix.{IsPrefixed};
 ghost use Rattle.osbytes_c.specs.Answers.{IsDone, IsOneOf};
 ghost use Rattle.osbytes_c.specs.PathParts.{HasNoLastName};
 ghost use Rattle.osbytes_c.specs.PathSpans.{HasNoExtensionSpan, HasNoPart, IsExtensionSpan, IsNameSpan, IsParentSpan, IsPartSpan, IsPrefixSpan, IsStemSpan, IsWithin, WritesParts, style_on};
+ghost use Rattle.osbytes_c.specs.Statuses.{done, no_platform, no_room, none};
 
 pub mod forms;
 pub mod joins;
@@ -35,8 +36,8 @@ pub extern "C" fn osb_core_path_components(
     ensures written { IsDone result
         (WritesParts (style_on platform) path.now out.old out.new count.new) (length out.old)
         count.new }
-    ensures platform { (result ≡ 16) ↔ (2 < platform) }
-    ensures answers { IsOneOf (0 ∷ 2 ∷ 16 ∷ []) result }
+    ensures platform { (result ≡ no_platform) ↔ (2 < platform) }
+    ensures answers { IsOneOf (done ∷ no_room ∷ no_platform ∷ []) result }
 {
     let Some(style) = style_of(platform) else {
         return NO_PLATFORM;
@@ -49,11 +50,11 @@ pub extern "C" fn osb_core_path_components(
 /// The path without its last component.
 #[unsafe(no_mangle)]
 pub extern "C" fn osb_core_path_parent(platform: u32, path: &[u8], span: &mut Span) -> u32
-    ensures parent { result ≡ 0 → IsParentSpan (style_on platform) path.now span.new
+    ensures parent { result ≡ done → IsParentSpan (style_on platform) path.now span.new
         × IsWithin path.now span.new }
-    ensures none { result ≡ 3 → HasNoParent (style_on platform) path.now }
-    ensures platform { (result ≡ 16) ↔ (2 < platform) }
-    ensures answers { IsOneOf (0 ∷ 3 ∷ 16 ∷ []) result }
+    ensures none { result ≡ none → HasNoParent (style_on platform) path.now }
+    ensures platform { (result ≡ no_platform) ↔ (2 < platform) }
+    ensures answers { IsOneOf (done ∷ none ∷ no_platform ∷ []) result }
 {
     find(Sought::Parent, platform, path, span)
 }
@@ -61,11 +62,11 @@ pub extern "C" fn osb_core_path_parent(platform: u32, path: &[u8], span: &mut Sp
 /// The prefix of a Windows path.
 #[unsafe(no_mangle)]
 pub extern "C" fn osb_core_path_prefix(platform: u32, path: &[u8], span: &mut Span) -> u32
-    ensures prefix { result ≡ 0 → IsPrefixSpan (style_on platform) path.now span.new
+    ensures prefix { result ≡ done → IsPrefixSpan (style_on platform) path.now span.new
         × IsWithin path.now span.new }
-    ensures none { result ≡ 3 → ¬ (IsPrefixed (style_on platform) path.now) }
-    ensures platform { (result ≡ 16) ↔ (2 < platform) }
-    ensures answers { IsOneOf (0 ∷ 3 ∷ 16 ∷ []) result }
+    ensures none { result ≡ none → ¬ (IsPrefixed (style_on platform) path.now) }
+    ensures platform { (result ≡ no_platform) ↔ (2 < platform) }
+    ensures answers { IsOneOf (done ∷ none ∷ no_platform ∷ []) result }
 {
     find(Sought::Prefix, platform, path, span)
 }
@@ -73,11 +74,11 @@ pub extern "C" fn osb_core_path_prefix(platform: u32, path: &[u8], span: &mut Sp
 /// The last component of a path, if it is a name.
 #[unsafe(no_mangle)]
 pub extern "C" fn osb_core_path_file_name(platform: u32, path: &[u8], span: &mut Span) -> u32
-    ensures name { result ≡ 0 → IsNameSpan (style_on platform) path.now span.new
+    ensures name { result ≡ done → IsNameSpan (style_on platform) path.now span.new
         × IsWithin path.now span.new }
-    ensures none { result ≡ 3 → HasNoLastName (style_on platform) path.now }
-    ensures platform { (result ≡ 16) ↔ (2 < platform) }
-    ensures answers { IsOneOf (0 ∷ 3 ∷ 16 ∷ []) result }
+    ensures none { result ≡ none → HasNoLastName (style_on platform) path.now }
+    ensures platform { (result ≡ no_platform) ↔ (2 < platform) }
+    ensures answers { IsOneOf (done ∷ none ∷ no_platform ∷ []) result }
 {
     find(Sought::FileName, platform, path, span)
 }
@@ -85,11 +86,11 @@ pub extern "C" fn osb_core_path_file_name(platform: u32, path: &[u8], span: &mut
 /// That name without its extension and the dot before it.
 #[unsafe(no_mangle)]
 pub extern "C" fn osb_core_path_file_stem(platform: u32, path: &[u8], span: &mut Span) -> u32
-    ensures stem { result ≡ 0 → IsStemSpan (style_on platform) path.now span.new
+    ensures stem { result ≡ done → IsStemSpan (style_on platform) path.now span.new
         × IsWithin path.now span.new }
-    ensures none { result ≡ 3 → HasNoLastName (style_on platform) path.now }
-    ensures platform { (result ≡ 16) ↔ (2 < platform) }
-    ensures answers { IsOneOf (0 ∷ 3 ∷ 16 ∷ []) result }
+    ensures none { result ≡ none → HasNoLastName (style_on platform) path.now }
+    ensures platform { (result ≡ no_platform) ↔ (2 < platform) }
+    ensures answers { IsOneOf (done ∷ none ∷ no_platform ∷ []) result }
 {
     find(Sought::Stem, platform, path, span)
 }
@@ -97,22 +98,22 @@ pub extern "C" fn osb_core_path_file_stem(platform: u32, path: &[u8], span: &mut
 /// The extension of that name, after its dot.
 #[unsafe(no_mangle)]
 pub extern "C" fn osb_core_path_extension(platform: u32, path: &[u8], span: &mut Span) -> u32
-    ensures extension { result ≡ 0 → IsExtensionSpan (style_on platform) path.now span.new
+    ensures extension { result ≡ done → IsExtensionSpan (style_on platform) path.now span.new
         × IsWithin path.now span.new }
-    ensures none { result ≡ 3 → HasNoExtensionSpan (style_on platform) path.now }
-    ensures platform { (result ≡ 16) ↔ (2 < platform) }
-    ensures answers { IsOneOf (0 ∷ 3 ∷ 16 ∷ []) result }
+    ensures none { result ≡ none → HasNoExtensionSpan (style_on platform) path.now }
+    ensures platform { (result ≡ no_platform) ↔ (2 < platform) }
+    ensures answers { IsOneOf (done ∷ none ∷ no_platform ∷ []) result }
 {
     find(Sought::Extension, platform, path, span)
 }
 
 /// A part of a path.
 fn find(sought: Sought, platform: u32, path: &[u8], span: &mut Span) -> u32
-    ensures part { result ≡ 0 → IsPartSpan sought (style_on platform) path.now span.new
+    ensures part { result ≡ done → IsPartSpan sought (style_on platform) path.now span.new
         × IsWithin path.now span.new }
-    ensures none { result ≡ 3 → HasNoPart sought (style_on platform) path.now }
-    ensures platform { (result ≡ 16) ↔ (2 < platform) }
-    ensures answers { IsOneOf (0 ∷ 3 ∷ 16 ∷ []) result }
+    ensures none { result ≡ none → HasNoPart sought (style_on platform) path.now }
+    ensures platform { (result ≡ no_platform) ↔ (2 < platform) }
+    ensures answers { IsOneOf (done ∷ none ∷ no_platform ∷ []) result }
 {
     let Some(style) = style_of(platform) else {
         return NO_PLATFORM;

@@ -7,6 +7,7 @@ ghost use Rattle.std.specs.Str.{IsUtf8};
 ghost use Rattle.wtf8_core.specs.Occurrence.{OccursNowhere, IsFirstIndex, IsLastIndex, IsPrefix, IsSuffix};
 ghost use Rattle.os_str_ext.specs.Pieces.{OccursSomewhere};
 ghost use Rattle.osbytes_c.specs.Answers.{IsOneOf};
+ghost use Rattle.osbytes_c.specs.Statuses.{done, no_pattern, none};
 
 pub mod boundary;
 pub mod compare;
@@ -20,10 +21,10 @@ use os_str_ext::OsStrBytesExt;
 /// was.
 #[unsafe(no_mangle)]
 pub extern "C" fn osb_core_find(bytes: &[u8], pattern: &[u8], index: &mut usize) -> u32
-    ensures found { result ≡ 0 → IsFirstIndex pattern.now bytes.now index.new }
-    ensures none { result ≡ 3 → OccursNowhere pattern.now bytes.now × (index.new ≡ index.old) }
-    ensures pattern { (result ≡ 17) ↔ (¬ (IsUtf8 pattern.now)) }
-    ensures answers { IsOneOf (0 ∷ 3 ∷ 17 ∷ []) result }
+    ensures found { result ≡ done → IsFirstIndex pattern.now bytes.now index.new }
+    ensures none { result ≡ none → OccursNowhere pattern.now bytes.now × (index.new ≡ index.old) }
+    ensures pattern { (result ≡ no_pattern) ↔ (¬ (IsUtf8 pattern.now)) }
+    ensures answers { IsOneOf (done ∷ none ∷ no_pattern ∷ []) result }
 {
     let Some(pattern) = text(pattern) else {
         return NO_PATTERN;
@@ -40,10 +41,10 @@ pub extern "C" fn osb_core_find(bytes: &[u8], pattern: &[u8], index: &mut usize)
 /// The last index of the pattern.
 #[unsafe(no_mangle)]
 pub extern "C" fn osb_core_rfind(bytes: &[u8], pattern: &[u8], index: &mut usize) -> u32
-    ensures found { result ≡ 0 → IsLastIndex pattern.now bytes.now index.new }
-    ensures none { result ≡ 3 → OccursNowhere pattern.now bytes.now × (index.new ≡ index.old) }
-    ensures pattern { (result ≡ 17) ↔ (¬ (IsUtf8 pattern.now)) }
-    ensures answers { IsOneOf (0 ∷ 3 ∷ 17 ∷ []) result }
+    ensures found { result ≡ done → IsLastIndex pattern.now bytes.now index.new }
+    ensures none { result ≡ none → OccursNowhere pattern.now bytes.now × (index.new ≡ index.old) }
+    ensures pattern { (result ≡ no_pattern) ↔ (¬ (IsUtf8 pattern.now)) }
+    ensures answers { IsOneOf (done ∷ none ∷ no_pattern ∷ []) result }
 {
     let Some(pattern) = text(pattern) else {
         return NO_PATTERN;
@@ -60,10 +61,10 @@ pub extern "C" fn osb_core_rfind(bytes: &[u8], pattern: &[u8], index: &mut usize
 /// Whether the pattern occurs.
 #[unsafe(no_mangle)]
 pub extern "C" fn osb_core_contains(bytes: &[u8], pattern: &[u8]) -> u32
-    ensures found { result ≡ 0 → OccursSomewhere pattern.now bytes.now }
-    ensures none { result ≡ 3 → ¬ (OccursSomewhere pattern.now bytes.now) }
-    ensures pattern { (result ≡ 17) ↔ (¬ (IsUtf8 pattern.now)) }
-    ensures answers { IsOneOf (0 ∷ 3 ∷ 17 ∷ []) result }
+    ensures found { result ≡ done → OccursSomewhere pattern.now bytes.now }
+    ensures none { result ≡ none → ¬ (OccursSomewhere pattern.now bytes.now) }
+    ensures pattern { (result ≡ no_pattern) ↔ (¬ (IsUtf8 pattern.now)) }
+    ensures answers { IsOneOf (done ∷ none ∷ no_pattern ∷ []) result }
 {
     let Some(pattern) = text(pattern) else {
         return NO_PATTERN;
@@ -74,10 +75,10 @@ pub extern "C" fn osb_core_contains(bytes: &[u8], pattern: &[u8]) -> u32
 /// Whether the string starts with the pattern.
 #[unsafe(no_mangle)]
 pub extern "C" fn osb_core_starts_with(bytes: &[u8], pattern: &[u8]) -> u32
-    ensures found { result ≡ 0 → IsPrefix pattern.now bytes.now }
-    ensures none { result ≡ 3 → ¬ (IsPrefix pattern.now bytes.now) }
-    ensures pattern { (result ≡ 17) ↔ (¬ (IsUtf8 pattern.now)) }
-    ensures answers { IsOneOf (0 ∷ 3 ∷ 17 ∷ []) result }
+    ensures found { result ≡ done → IsPrefix pattern.now bytes.now }
+    ensures none { result ≡ none → ¬ (IsPrefix pattern.now bytes.now) }
+    ensures pattern { (result ≡ no_pattern) ↔ (¬ (IsUtf8 pattern.now)) }
+    ensures answers { IsOneOf (done ∷ none ∷ no_pattern ∷ []) result }
 {
     let Some(pattern) = text(pattern) else {
         return NO_PATTERN;
@@ -88,10 +89,10 @@ pub extern "C" fn osb_core_starts_with(bytes: &[u8], pattern: &[u8]) -> u32
 /// Whether the string ends with the pattern.
 #[unsafe(no_mangle)]
 pub extern "C" fn osb_core_ends_with(bytes: &[u8], pattern: &[u8]) -> u32
-    ensures found { result ≡ 0 → IsSuffix pattern.now bytes.now }
-    ensures none { result ≡ 3 → ¬ (IsSuffix pattern.now bytes.now) }
-    ensures pattern { (result ≡ 17) ↔ (¬ (IsUtf8 pattern.now)) }
-    ensures answers { IsOneOf (0 ∷ 3 ∷ 17 ∷ []) result }
+    ensures found { result ≡ done → IsSuffix pattern.now bytes.now }
+    ensures none { result ≡ none → ¬ (IsSuffix pattern.now bytes.now) }
+    ensures pattern { (result ≡ no_pattern) ↔ (¬ (IsUtf8 pattern.now)) }
+    ensures answers { IsOneOf (done ∷ none ∷ no_pattern ∷ []) result }
 {
     let Some(pattern) = text(pattern) else {
         return NO_PATTERN;

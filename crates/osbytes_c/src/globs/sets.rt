@@ -5,6 +5,7 @@ ghost use Rattle.osbytes_c.specs.Globs.{AreNoOptions, IsGlobFault, IsNoSet, glob
 ghost use Rattle.osbytes_c.specs.ItemLists.{HasOther};
 ghost use Rattle.osbytes_c.specs.GlobSets.{AreToldBy, AreToldOn, HasOtherBy, HasOtherOn, IsAnswer, IsAnswerOf, IsAnswerOn, IsKept, IsMade, IsSame, IsSetOf, IsToldRefusal};
 ghost use Rattle.osbytes_c.specs.Platforms.{formed_on, units_on};
+ghost use Rattle.osbytes_c.specs.Statuses.{done, empty, faulty, full, no_memory, no_option, no_pattern, no_platform, no_room};
 
 use crate::built::write_list;
 use crate::globs::places::{HeldGlobs, is_full, put, take};
@@ -44,16 +45,19 @@ pub extern "C" fn osb_core_globs_new(
     held: &mut HeldGlobs,
     fault: &mut GlobFault,
 ) -> u32
-    ensures made { result ≡ 0 → IsMade platform (glob_options options) patterns.now held.new.globs }
-    ensures left { result ≢ 0 → held.new ≡ held.old }
-    ensures strings { result ≡ 1 → HasOther (formed_on platform) patterns.now }
-    ensures pattern { result ≡ 17 → IsGlobFault (formed_on platform) (units_on platform)
+    ensures made { result ≡ done →
+        IsMade platform (glob_options options) patterns.now held.new.globs }
+    ensures left { result ≢ done → held.new ≡ held.old }
+    ensures strings { result ≡ faulty → HasOther (formed_on platform) patterns.now }
+    ensures pattern { result ≡ no_pattern → IsGlobFault (formed_on platform) (units_on platform)
         (glob_options options) patterns.now fault.new }
-    ensures options { (result ≡ 22) ↔ ((is_some held.old.globs ≡ false) × AreNoOptions options) }
-    ensures platform { (result ≡ 16) ↔ ((is_some held.old.globs ≡ false)
+    ensures options { (result ≡ no_option) ↔ ((is_some held.old.globs ≡ false)
+        × AreNoOptions options) }
+    ensures platform { (result ≡ no_platform) ↔ ((is_some held.old.globs ≡ false)
         × ((¬ (AreNoOptions options)) × (2 < platform))) }
-    ensures full { (result ≡ 25) ↔ (is_some held.old.globs ≡ true) }
-    ensures answers { IsOneOf (0 ∷ 1 ∷ 11 ∷ 16 ∷ 17 ∷ 22 ∷ 25 ∷ []) result }
+    ensures full { (result ≡ full) ↔ (is_some held.old.globs ≡ true) }
+    ensures answers { IsOneOf (done ∷ faulty ∷ no_memory ∷ no_platform ∷ no_pattern ∷ no_option ∷
+        full ∷ []) result }
 {
     if is_full(held) {
         return FULL;
@@ -78,9 +82,9 @@ pub extern "C" fn osb_core_globs_new(
 /// Keeps a set in an empty place.
 fn keep(alloc: Global, held: &mut HeldGlobs, set: PlatformGlobs) -> u32
     requires { held.old.full ≡ false }
-    ensures kept { result ≡ 0 → IsKept set held.new.globs }
-    ensures left { result ≢ 0 → held.new ≡ held.old }
-    ensures answers { IsOneOf (0 ∷ 11 ∷ []) result }
+    ensures kept { result ≡ done → IsKept set held.new.globs }
+    ensures left { result ≢ done → held.new ≡ held.old }
+    ensures answers { IsOneOf (done ∷ no_memory ∷ []) result }
 {
     match Arc::new(alloc, set) {
         Ok(set) => {
@@ -159,10 +163,10 @@ pub extern "C" fn osb_core_globs_matches(
 ) -> u32
     ensures written { IsWritten result (AreToldBy held.old.globs paths.now) matched.old matched.new
         count.new }
-    ensures strings { result ≡ 1 → HasOtherBy held.old.globs paths.now }
-    ensures none { (result ≡ 26) ↔ (is_some held.old.globs ≡ false) }
+    ensures strings { result ≡ faulty → HasOtherBy held.old.globs paths.now }
+    ensures none { (result ≡ empty) ↔ (is_some held.old.globs ≡ false) }
     ensures left { held.new ≡ held.old }
-    ensures answers { IsOneOf (0 ∷ 1 ∷ 2 ∷ 11 ∷ 26 ∷ []) result }
+    ensures answers { IsOneOf (done ∷ faulty ∷ no_room ∷ no_memory ∷ empty ∷ []) result }
 {
     if !is_full(held) {
         return EMPTY;
@@ -183,8 +187,8 @@ fn write_told(
 ) -> u32
     ensures written { IsWritten result (AreToldOn globs.now paths.now) matched.old matched.new
         count.new }
-    ensures strings { result ≡ 1 → HasOtherOn globs.now paths.now }
-    ensures answers { IsOneOf (0 ∷ 1 ∷ 2 ∷ 11 ∷ []) result }
+    ensures strings { result ≡ faulty → HasOtherOn globs.now paths.now }
+    ensures answers { IsOneOf (done ∷ faulty ∷ no_room ∷ no_memory ∷ []) result }
 {
     match told_by(alloc, globs, paths) {
         Ok(answers) => write_list(&answers, matched, count),
@@ -209,13 +213,13 @@ fn told_by(alloc: Global, globs: &PlatformGlobs, paths: &[&[u8]]) -> Result<Vec<
 /// many places, 25 the other isn't empty, 26 there is no set.
 #[unsafe(no_mangle)]
 pub extern "C" fn osb_core_globs_share(held: &mut HeldGlobs, other: &mut HeldGlobs) -> u32
-    ensures same { result ≡ 0 → IsSame held.old.globs other.new.globs }
+    ensures same { result ≡ done → IsSame held.old.globs other.new.globs }
     ensures left { held.new ≡ held.old }
-    ensures other { result ≢ 0 → other.new ≡ other.old }
-    ensures none { (result ≡ 26) ↔ (is_some held.old.globs ≡ false) }
-    ensures full { (result ≡ 25) ↔ ((is_some held.old.globs ≡ true)
+    ensures other { result ≢ done → other.new ≡ other.old }
+    ensures none { (result ≡ empty) ↔ (is_some held.old.globs ≡ false) }
+    ensures full { (result ≡ full) ↔ ((is_some held.old.globs ≡ true)
         × (is_some other.old.globs ≡ true)) }
-    ensures answers { IsOneOf (0 ∷ 11 ∷ 25 ∷ 26 ∷ []) result }
+    ensures answers { IsOneOf (done ∷ no_memory ∷ full ∷ empty ∷ []) result }
 {
     if !is_full(held) {
         return EMPTY;
@@ -232,9 +236,9 @@ pub extern "C" fn osb_core_globs_share(held: &mut HeldGlobs, other: &mut HeldGlo
 /// Keeps the same set in another place, which is empty.
 fn keep_too(other: &mut HeldGlobs, globs: &Globs) -> u32
     requires { other.old.full ≡ false }
-    ensures same { result ≡ 0 → IsSame (Some globs.now) other.new.globs }
-    ensures left { result ≢ 0 → other.new ≡ other.old }
-    ensures answers { IsOneOf (0 ∷ 11 ∷ []) result }
+    ensures same { result ≡ done → IsSame (Some globs.now) other.new.globs }
+    ensures left { result ≢ done → other.new ≡ other.old }
+    ensures answers { IsOneOf (done ∷ no_memory ∷ []) result }
 {
     match globs.set.clone() {
         Ok(set) => {
@@ -249,8 +253,8 @@ fn keep_too(other: &mut HeldGlobs, globs: &Globs) -> u32
 #[unsafe(no_mangle)]
 pub extern "C" fn osb_core_globs_free(held: &mut HeldGlobs) -> u32
     ensures none { held.new.globs ≡ None }
-    ensures was { (result ≡ 0) ↔ (is_some held.old.globs ≡ true) }
-    ensures answers { IsOneOf (0 ∷ 26 ∷ []) result }
+    ensures was { (result ≡ done) ↔ (is_some held.old.globs ≡ true) }
+    ensures answers { IsOneOf (done ∷ empty ∷ []) result }
 {
     if !is_full(held) {
         return EMPTY;

@@ -2,6 +2,7 @@
 ghost use Rattle.std.specs.Prelude.{◌≡◌, ◌≢◌, ◌↔◌, ◌∷◌, [], None, is_some, false, true};
 ghost use Rattle.osbytes_c.specs.Answers.{IsOneOf};
 ghost use Rattle.osbytes_c.specs.IgnoreSets.{HaveSameFiles, IsAddedTo, IsDecided, IsDecidedBy, IsEmpty, Reports};
+ghost use Rattle.osbytes_c.specs.Statuses.{done, empty, full, no_memory};
 
 use crate::ignores::places::{HeldIgnores, is_full, put, take};
 use crate::status::{DONE, EMPTY, FULL, NO_MEMORY};
@@ -30,10 +31,10 @@ pub struct Decision {
 /// Keeps no files in an empty place.
 #[unsafe(no_mangle)]
 pub extern "C" fn osb_core_ignores_new(alloc: Global, held: &mut HeldIgnores) -> u32
-    ensures made { result ≡ 0 → IsEmpty held.new.ignores }
-    ensures left { result ≢ 0 → held.new ≡ held.old }
-    ensures full { (result ≡ 25) ↔ (is_some held.old.ignores ≡ true) }
-    ensures answers { IsOneOf (0 ∷ 25 ∷ []) result }
+    ensures made { result ≡ done → IsEmpty held.new.ignores }
+    ensures left { result ≢ done → held.new ≡ held.old }
+    ensures full { (result ≡ full) ↔ (is_some held.old.ignores ≡ true) }
+    ensures answers { IsOneOf (done ∷ full ∷ []) result }
 {
     if is_full(held) {
         return FULL;
@@ -56,11 +57,11 @@ pub extern "C" fn osb_core_ignores_add(
     directory: &[u8],
     file: &[u8],
 ) -> u32
-    ensures added { result ≡ 0 → IsAddedTo directory.now file.now held.old.ignores
+    ensures added { result ≡ done → IsAddedTo directory.now file.now held.old.ignores
         held.new.ignores }
-    ensures left { result ≢ 0 → HaveSameFiles held.old.ignores held.new.ignores }
-    ensures none { (result ≡ 26) ↔ (is_some held.old.ignores ≡ false) }
-    ensures answers { IsOneOf (0 ∷ 11 ∷ 26 ∷ []) result }
+    ensures left { result ≢ done → HaveSameFiles held.old.ignores held.new.ignores }
+    ensures none { (result ≡ empty) ↔ (is_some held.old.ignores ≡ false) }
+    ensures answers { IsOneOf (done ∷ no_memory ∷ empty ∷ []) result }
 {
     if !is_full(held) {
         return EMPTY;
@@ -83,10 +84,10 @@ pub extern "C" fn osb_core_ignores_match(
     is_dir: u32,
     decision: &mut Decision,
 ) -> u32
-    ensures decided { result ≡ 0 → IsDecidedBy held.old.ignores path.now is_dir decision.new }
+    ensures decided { result ≡ done → IsDecidedBy held.old.ignores path.now is_dir decision.new }
     ensures left { held.new ≡ held.old }
-    ensures none { (result ≡ 26) ↔ (is_some held.old.ignores ≡ false) }
-    ensures answers { IsOneOf (0 ∷ 26 ∷ []) result }
+    ensures none { (result ≡ empty) ↔ (is_some held.old.ignores ≡ false) }
+    ensures answers { IsOneOf (done ∷ empty ∷ []) result }
 {
     if !is_full(held) {
         return EMPTY;
@@ -131,8 +132,8 @@ fn reported(verdict: Verdict) -> Decision
 #[unsafe(no_mangle)]
 pub extern "C" fn osb_core_ignores_free(held: &mut HeldIgnores) -> u32
     ensures none { held.new.ignores ≡ None }
-    ensures was { (result ≡ 0) ↔ (is_some held.old.ignores ≡ true) }
-    ensures answers { IsOneOf (0 ∷ 26 ∷ []) result }
+    ensures was { (result ≡ done) ↔ (is_some held.old.ignores ≡ true) }
+    ensures answers { IsOneOf (done ∷ empty ∷ []) result }
 {
     if !is_full(held) {
         return EMPTY;

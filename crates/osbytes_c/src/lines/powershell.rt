@@ -4,6 +4,7 @@ ghost use Rattle.std.specs.Str.{IsUtf8, chars};
 ghost use Rattle.wtf8_core.specs.Utf8.{IsUtf8Fault};
 ghost use Rattle.os_command_line.specs.PowerShell.{HasNulAt, IsPowerShellName, IsPowerShellText};
 ghost use Rattle.osbytes_c.specs.Answers.{IsOneOf, IsWritten};
+ghost use Rattle.osbytes_c.specs.Statuses.{done, faulty, has_nul, no_room, too_long};
 
 use crate::status::{FAULTY, HAS_NUL, TOO_LONG, fits};
 use os_command_line::shell::{PowerShellError, write_quoted_powershell};
@@ -22,11 +23,11 @@ pub extern "C" fn osb_core_powershell_quote(
 ) -> u32
     ensures written { IsWritten result (λ string. IsPowerShellText string (chars name.now))
         out.old out.new count.new }
-    ensures name { (result ≡ 0) ⊎ (result ≡ 2) → IsPowerShellName name.now }
-    ensures text { result ≡ 1 → (len : Option ℕ) × IsUtf8Fault name.now index.new len }
-    ensures nul { result ≡ 7 → IsUtf8 name.now × HasNulAt name.now index.new }
-    ensures long { (result ≡ 21) ↔ (usize.MAX < 4 * length name.now + 3) }
-    ensures answers { IsOneOf (0 ∷ 1 ∷ 2 ∷ 7 ∷ 21 ∷ []) result }
+    ensures name { (result ≡ done) ⊎ (result ≡ no_room) → IsPowerShellName name.now }
+    ensures text { result ≡ faulty → (len : Option ℕ) × IsUtf8Fault name.now index.new len }
+    ensures nul { result ≡ has_nul → IsUtf8 name.now × HasNulAt name.now index.new }
+    ensures long { (result ≡ too_long) ↔ (usize.MAX < 4 * length name.now + 3) }
+    ensures answers { IsOneOf (done ∷ faulty ∷ no_room ∷ has_nul ∷ too_long ∷ []) result }
 {
     if name.len() > usize::MAX / 4 {
         return TOO_LONG;

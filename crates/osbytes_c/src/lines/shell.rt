@@ -6,6 +6,7 @@ ghost use Rattle.os_command_line.specs.ReservedWords.{first_word};
 ghost use Rattle.os_command_line.specs.ShellWriting.{quoted_word, IsLineWord, HasNoNul, IsFirstNul};
 ghost use Rattle.osbytes_c.specs.Answers.{IsOneOf, IsWritten, Writes};
 ghost use Rattle.osbytes_c.specs.Words.{IsWordOf};
+ghost use Rattle.osbytes_c.specs.Statuses.{done, has_nul, no_room, too_long};
 
 use crate::status::{HAS_NUL, TOO_LONG, fits};
 use crate::strings::unix;
@@ -38,10 +39,10 @@ pub extern "C" fn osb_core_shell_quote(
 ) -> u32
     ensures written { IsWritten result (λ word. word ≡ quoted_word name.now) out.old out.new
         count.new }
-    ensures name { (result ≡ 0) ⊎ (result ≡ 2) → HasNoNul name.now }
-    ensures nul { result ≡ 7 → IsFirstNul name.now index.new }
-    ensures long { (result ≡ 21) ↔ (usize.MAX < 4 * length name.now + 3) }
-    ensures answers { IsOneOf (0 ∷ 2 ∷ 7 ∷ 21 ∷ []) result }
+    ensures name { (result ≡ done) ⊎ (result ≡ no_room) → HasNoNul name.now }
+    ensures nul { result ≡ has_nul → IsFirstNul name.now index.new }
+    ensures long { (result ≡ too_long) ↔ (usize.MAX < 4 * length name.now + 3) }
+    ensures answers { IsOneOf (done ∷ no_room ∷ has_nul ∷ too_long ∷ []) result }
 {
     quote(Shell::Posix, name, out, count, index)
 }
@@ -56,10 +57,10 @@ pub extern "C" fn osb_core_shell_quote_first(
 ) -> u32
     ensures written { IsWritten result (λ word. word ≡ first_word name.now) out.old out.new
         count.new }
-    ensures name { (result ≡ 0) ⊎ (result ≡ 2) → HasNoNul name.now }
-    ensures nul { result ≡ 7 → IsFirstNul name.now index.new }
-    ensures long { (result ≡ 21) ↔ (usize.MAX < 4 * length name.now + 3) }
-    ensures answers { IsOneOf (0 ∷ 2 ∷ 7 ∷ 21 ∷ []) result }
+    ensures name { (result ≡ done) ⊎ (result ≡ no_room) → HasNoNul name.now }
+    ensures nul { result ≡ has_nul → IsFirstNul name.now index.new }
+    ensures long { (result ≡ too_long) ↔ (usize.MAX < 4 * length name.now + 3) }
+    ensures answers { IsOneOf (done ∷ no_room ∷ has_nul ∷ too_long ∷ []) result }
 {
     quote(Shell::First, name, out, count, index)
 }
@@ -73,10 +74,10 @@ pub extern "C" fn osb_core_shell_quote_line(
     index: &mut usize,
 ) -> u32
     ensures written { IsWritten result (IsLineWord name.now) out.old out.new count.new }
-    ensures name { (result ≡ 0) ⊎ (result ≡ 2) → HasNoNul name.now }
-    ensures nul { result ≡ 7 → IsFirstNul name.now index.new }
-    ensures long { (result ≡ 21) ↔ (usize.MAX < 4 * length name.now + 3) }
-    ensures answers { IsOneOf (0 ∷ 2 ∷ 7 ∷ 21 ∷ []) result }
+    ensures name { (result ≡ done) ⊎ (result ≡ no_room) → HasNoNul name.now }
+    ensures nul { result ≡ has_nul → IsFirstNul name.now index.new }
+    ensures long { (result ≡ too_long) ↔ (usize.MAX < 4 * length name.now + 3) }
+    ensures answers { IsOneOf (done ∷ no_room ∷ has_nul ∷ too_long ∷ []) result }
 {
     quote(Shell::Line, name, out, count, index)
 }
@@ -92,10 +93,10 @@ pub extern "C" fn osb_core_fish_quote(
     ensures written { IsWritten result
         (λ word. IsFishText word name.now × (word ≡ fish_word name.now)) out.old out.new
         count.new }
-    ensures name { (result ≡ 0) ⊎ (result ≡ 2) → HasNoNul name.now }
-    ensures nul { result ≡ 7 → IsFirstNul name.now index.new }
-    ensures long { (result ≡ 21) ↔ (usize.MAX < 4 * length name.now + 3) }
-    ensures answers { IsOneOf (0 ∷ 2 ∷ 7 ∷ 21 ∷ []) result }
+    ensures name { (result ≡ done) ⊎ (result ≡ no_room) → HasNoNul name.now }
+    ensures nul { result ≡ has_nul → IsFirstNul name.now index.new }
+    ensures long { (result ≡ too_long) ↔ (usize.MAX < 4 * length name.now + 3) }
+    ensures answers { IsOneOf (done ∷ no_room ∷ has_nul ∷ too_long ∷ []) result }
 {
     quote(Shell::Fish, name, out, count, index)
 }
@@ -103,10 +104,10 @@ pub extern "C" fn osb_core_fish_quote(
 /// Writes the word of a name in a shell.
 fn quote(shell: Shell, name: &[u8], out: &mut [u8], count: &mut usize, index: &mut usize) -> u32
     ensures written { IsWritten result (IsWordOf shell name.now) out.old out.new count.new }
-    ensures name { (result ≡ 0) ⊎ (result ≡ 2) → HasNoNul name.now }
-    ensures nul { result ≡ 7 → IsFirstNul name.now index.new }
-    ensures long { (result ≡ 21) ↔ (usize.MAX < 4 * length name.now + 3) }
-    ensures answers { IsOneOf (0 ∷ 2 ∷ 7 ∷ 21 ∷ []) result }
+    ensures name { (result ≡ done) ⊎ (result ≡ no_room) → HasNoNul name.now }
+    ensures nul { result ≡ has_nul → IsFirstNul name.now index.new }
+    ensures long { (result ≡ too_long) ↔ (usize.MAX < 4 * length name.now + 3) }
+    ensures answers { IsOneOf (done ∷ no_room ∷ has_nul ∷ too_long ∷ []) result }
 {
     if name.len() > usize::MAX / 4 {
         return TOO_LONG;

@@ -9,6 +9,7 @@ ghost use Rattle.os_command_line.specs.declared.shell.fault.WordsFault.{WordsFau
 ghost use Rattle.osbytes_c.specs.Answers.{IsOneOf, IsWritten};
 ghost use Rattle.osbytes_c.specs.Lines.{AreEndedWords, IsFaultOf, ended, kind_number, language_of};
 ghost use Rattle.osbytes_c.specs.Room.{words_room};
+ghost use Rattle.osbytes_c.specs.Statuses.{bad_line, done, has_nul, no_option, no_room, too_long};
 
 use crate::status::{BAD_LINE, HAS_NUL, NO_OPTION, TOO_LONG, fits};
 use crate::strings::{first_nul, unix};
@@ -39,12 +40,13 @@ pub extern "C" fn osb_core_shell_words(
 ) -> u32
     ensures written { IsWritten result (AreEndedWords (language_of options) line.now) out.old
         out.new count.new }
-    ensures fault { result ≡ 8 → IsFaultOf (language_of options) line.now fault.new }
-    ensures nul { result ≡ 7 → IsFirstNul line.now fault.new.index }
-    ensures line { (result ≡ 0) ⊎ ((result ≡ 2) ⊎ (result ≡ 8)) → HasNoNul line.now }
-    ensures long { (result ≡ 21) ↔ ((options ≤ 3) × (usize.MAX < 2 * length line.now + 1)) }
-    ensures option { (result ≡ 22) ↔ (3 < options) }
-    ensures answers { IsOneOf (0 ∷ 2 ∷ 7 ∷ 8 ∷ 21 ∷ 22 ∷ []) result }
+    ensures fault { result ≡ bad_line → IsFaultOf (language_of options) line.now fault.new }
+    ensures nul { result ≡ has_nul → IsFirstNul line.now fault.new.index }
+    ensures line { (result ≡ done) ⊎ ((result ≡ no_room) ⊎ (result ≡ bad_line)) → HasNoNul line.now }
+    ensures long { (result ≡ too_long) ↔ ((options ≤ 3) × (usize.MAX < 2 * length line.now + 1)) }
+    ensures option { (result ≡ no_option) ↔ (3 < options) }
+    ensures answers { IsOneOf (done ∷ no_room ∷ has_nul ∷ bad_line ∷ too_long ∷ no_option ∷ [])
+        result }
 {
     let Some(words) = words_of(options, line) else {
         return NO_OPTION;

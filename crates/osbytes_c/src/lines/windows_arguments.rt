@@ -10,6 +10,7 @@ ghost use Rattle.osbytes_c.specs.Answers.{IsOneOf, IsWritten};
 ghost use Rattle.osbytes_c.specs.Faults.{IsWtf8Report};
 ghost use Rattle.osbytes_c.specs.Lines.{AreEndedArguments, ended};
 ghost use Rattle.osbytes_c.specs.Room.{arguments_room};
+ghost use Rattle.osbytes_c.specs.Statuses.{done, faulty, has_nul, no_room, too_long};
 
 use crate::lines::push_unit::push_unit;
 use crate::status::fits;
@@ -30,11 +31,11 @@ pub extern "C" fn osb_core_windows_arguments(
 ) -> u32
     ensures written { IsWritten result (AreEndedArguments (units_of line.now)) out.old out.new
         count.new }
-    ensures line { (result ≡ 0) ⊎ (result ≡ 2) → IsWtf8 line.now × HasNoNul line.now }
-    ensures fault { result ≡ 1 → IsWtf8Report line.now fault.new }
-    ensures nul { result ≡ 7 → IsWtf8 line.now × IsFirstNul line.now index.new }
-    ensures long { (result ≡ 21) ↔ (usize.MAX < 2 * length line.now + 1) }
-    ensures answers { IsOneOf (0 ∷ 1 ∷ 2 ∷ 7 ∷ 21 ∷ []) result }
+    ensures line { (result ≡ done) ⊎ (result ≡ no_room) → IsWtf8 line.now × HasNoNul line.now }
+    ensures fault { result ≡ faulty → IsWtf8Report line.now fault.new }
+    ensures nul { result ≡ has_nul → IsWtf8 line.now × IsFirstNul line.now index.new }
+    ensures long { (result ≡ too_long) ↔ (usize.MAX < 2 * length line.now + 1) }
+    ensures answers { IsOneOf (done ∷ faulty ∷ no_room ∷ has_nul ∷ too_long ∷ []) result }
 {
     match windows_word(line, usize::MAX / 2, index, fault) {
         Ok(string) => {

@@ -10,6 +10,7 @@ ghost use Rattle.os_command_line.specs.WindowsWriting.{HasNo, IsFirstAt};
 ghost use Rattle.osbytes_c.specs.Answers.{IsOneOf, IsWritten};
 ghost use Rattle.osbytes_c.specs.CommandLines.{quoted_name};
 ghost use Rattle.osbytes_c.specs.Faults.{IsWtf8Report};
+ghost use Rattle.osbytes_c.specs.Statuses.{done, faulty, has_nul, has_quote, no_room, too_long};
 
 use crate::lines::push_unit::push_unit;
 use crate::status::{HAS_QUOTE, fits};
@@ -33,14 +34,14 @@ pub extern "C" fn osb_core_windows_quote_name(
 ) -> u32
     ensures written { IsWritten result (λ text. text ≡ quoted_name (units_of name.now)) out.old
         out.new count.new }
-    ensures name { (result ≡ 0) ⊎ (result ≡ 2)
+    ensures name { (result ≡ done) ⊎ (result ≡ no_room)
         → IsWtf8 name.now × (HasNoNul name.now × HasNo quote (units_of name.now)) }
-    ensures fault { result ≡ 1 → IsWtf8Report name.now fault.new }
-    ensures nul { result ≡ 7 → IsWtf8 name.now × IsFirstNul name.now index.new }
-    ensures quote { result ≡ 9 → IsWtf8 name.now × (HasNoNul name.now
+    ensures fault { result ≡ faulty → IsWtf8Report name.now fault.new }
+    ensures nul { result ≡ has_nul → IsWtf8 name.now × IsFirstNul name.now index.new }
+    ensures quote { result ≡ has_quote → IsWtf8 name.now × (HasNoNul name.now
         × IsFirstAt quote name.now index.new) }
-    ensures long { (result ≡ 21) ↔ (usize.MAX < 2 * length name.now + 2) }
-    ensures answers { IsOneOf (0 ∷ 1 ∷ 2 ∷ 7 ∷ 9 ∷ 21 ∷ []) result }
+    ensures long { (result ≡ too_long) ↔ (usize.MAX < 2 * length name.now + 2) }
+    ensures answers { IsOneOf (done ∷ faulty ∷ no_room ∷ has_nul ∷ has_quote ∷ too_long ∷ []) result }
 {
     let string = match windows_word(name, usize::MAX / 2 - 1, index, fault) {
         Ok(string) => string,

@@ -12,6 +12,7 @@ ghost use Rattle.osbytes_c.specs.Answers.{IsOneOf, IsWritten};
 ghost use Rattle.osbytes_c.specs.ArgumentWriting.{PushesUnit, PushesUnits};
 ghost use Rattle.osbytes_c.specs.CommandLines.{IsArgumentText};
 ghost use Rattle.osbytes_c.specs.Faults.{IsWtf8Report};
+ghost use Rattle.osbytes_c.specs.Statuses.{done, faulty, has_nul, no_room, too_long};
 
 use crate::lines::push_unit::push_unit;
 use crate::status::fits;
@@ -37,11 +38,12 @@ pub extern "C" fn osb_core_windows_quote(
 ) -> u32
     ensures written { IsWritten result (IsArgumentText (units_of argument.now)) out.old out.new
         count.new }
-    ensures argument { (result ≡ 0) ⊎ (result ≡ 2) → IsWtf8 argument.now × HasNoNul argument.now }
-    ensures fault { result ≡ 1 → IsWtf8Report argument.now fault.new }
-    ensures nul { result ≡ 7 → IsWtf8 argument.now × IsFirstNul argument.now index.new }
-    ensures long { (result ≡ 21) ↔ (usize.MAX < 2 * length argument.now + 2) }
-    ensures answers { IsOneOf (0 ∷ 1 ∷ 2 ∷ 7 ∷ 21 ∷ []) result }
+    ensures argument { (result ≡ done) ⊎ (result ≡ no_room)
+        → IsWtf8 argument.now × HasNoNul argument.now }
+    ensures fault { result ≡ faulty → IsWtf8Report argument.now fault.new }
+    ensures nul { result ≡ has_nul → IsWtf8 argument.now × IsFirstNul argument.now index.new }
+    ensures long { (result ≡ too_long) ↔ (usize.MAX < 2 * length argument.now + 2) }
+    ensures answers { IsOneOf (done ∷ faulty ∷ no_room ∷ has_nul ∷ too_long ∷ []) result }
 {
     match windows_word(argument, usize::MAX / 2 - 1, index, fault) {
         Ok(string) => {

@@ -7,6 +7,7 @@ ghost use Rattle.path_building.specs.Restyled.{IsRestyled, IsStyleFault};
 ghost use Rattle.osbytes_c.specs.Answers.{IsOneOf, IsWritten};
 ghost use Rattle.osbytes_c.specs.Faults.{IsReport, IsString};
 ghost use Rattle.osbytes_c.specs.PathSpans.{style_on};
+ghost use Rattle.osbytes_c.specs.Statuses.{bad_path, done, faulty, no_memory, no_platform, no_room, none};
 
 use crate::built::write_list;
 use crate::paths::predicates::style_of;
@@ -28,9 +29,9 @@ pub extern "C" fn osb_core_path_normalize(
 ) -> u32
     ensures written { IsWritten result (IsNormalized (style_on platform) path.now) out.old out.new
         count.new }
-    ensures none { result ≡ 3 → HasNoNormalForm (style_on platform) path.now }
-    ensures platform { (result ≡ 16) ↔ (2 < platform) }
-    ensures answers { IsOneOf (0 ∷ 2 ∷ 3 ∷ 11 ∷ 16 ∷ []) result }
+    ensures none { result ≡ none → HasNoNormalForm (style_on platform) path.now }
+    ensures platform { (result ≡ no_platform) ↔ (2 < platform) }
+    ensures answers { IsOneOf (done ∷ no_room ∷ none ∷ no_memory ∷ no_platform ∷ []) result }
 {
     let Some(style) = style_of(platform) else {
         return NO_PLATFORM;
@@ -53,8 +54,8 @@ pub extern "C" fn osb_core_path_clean(
 ) -> u32
     ensures written { IsWritten result (IsCleaned (style_on platform) path.now) out.old out.new
         count.new }
-    ensures platform { (result ≡ 16) ↔ (2 < platform) }
-    ensures answers { IsOneOf (0 ∷ 2 ∷ 11 ∷ 16 ∷ []) result }
+    ensures platform { (result ≡ no_platform) ↔ (2 < platform) }
+    ensures answers { IsOneOf (done ∷ no_room ∷ no_memory ∷ no_platform ∷ []) result }
 {
     let Some(style) = style_of(platform) else {
         return NO_PLATFORM;
@@ -81,13 +82,15 @@ pub extern "C" fn osb_core_path_convert(
 ) -> u32
     ensures written { IsWritten result (IsRestyled (style_on from) (style_on to) path.now) out.old
         out.new count.new }
-    ensures string { (result ≡ 0) ⊎ ((result ≡ 2) ⊎ (result ≡ 12)) → IsString to path.now }
-    ensures fault { result ≡ 1 → IsReport to path.now fault.new }
-    ensures faulty { (result ≡ 1) ↔ ((from ≤ 2) × ((to ≤ 2) × (¬ (IsString to path.now)))) }
-    ensures component { result ≡ 12 → IsStyleFault (style_on from) (style_on to) path.now
+    ensures string { (result ≡ done) ⊎ ((result ≡ no_room) ⊎ (result ≡ bad_path))
+        → IsString to path.now }
+    ensures fault { result ≡ faulty → IsReport to path.now fault.new }
+    ensures faulty { (result ≡ faulty) ↔ ((from ≤ 2) × ((to ≤ 2) × (¬ (IsString to path.now)))) }
+    ensures component { result ≡ bad_path → IsStyleFault (style_on from) (style_on to) path.now
         (style_error.Component index.new) }
-    ensures platform { (result ≡ 16) ↔ ((2 < from) ⊎ (2 < to)) }
-    ensures answers { IsOneOf (0 ∷ 1 ∷ 2 ∷ 11 ∷ 12 ∷ 16 ∷ []) result }
+    ensures platform { (result ≡ no_platform) ↔ ((2 < from) ⊎ (2 < to)) }
+    ensures answers { IsOneOf (done ∷ faulty ∷ no_room ∷ no_memory ∷ bad_path ∷ no_platform ∷ [])
+        result }
 {
     let Some(style) = style_of(from) else {
         return NO_PLATFORM;

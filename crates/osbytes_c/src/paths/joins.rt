@@ -4,8 +4,9 @@ ghost use Rattle.path_building.specs.Checked.{IsCheckedJoin};
 ghost use Rattle.path_building.specs.Join.{IsJoin};
 ghost use Rattle.path_building.specs.Relative.{IsRelativeFrom};
 ghost use Rattle.osbytes_c.specs.Answers.{IsOneOf, IsWritten};
-ghost use Rattle.osbytes_c.specs.PathBuilding.{IsJoinReason, no_memory, reason_number};
+ghost use Rattle.osbytes_c.specs.PathBuilding.{IsJoinReport, memory_error, reason_index, reason_number};
 ghost use Rattle.osbytes_c.specs.PathSpans.{style_on};
+ghost use Rattle.osbytes_c.specs.Statuses.{bad_path, done, no_memory, no_platform, no_room, none};
 
 use crate::built::write_list;
 use crate::paths::predicates::style_of;
@@ -25,8 +26,8 @@ pub extern "C" fn osb_core_path_join(
 ) -> u32
     ensures written { IsWritten result (IsJoin (style_on platform) base.now path.now) out.old
         out.new count.new }
-    ensures platform { (result ≡ 16) ↔ (2 < platform) }
-    ensures answers { IsOneOf (0 ∷ 2 ∷ 11 ∷ 16 ∷ []) result }
+    ensures platform { (result ≡ no_platform) ↔ (2 < platform) }
+    ensures answers { IsOneOf (done ∷ no_room ∷ no_memory ∷ no_platform ∷ []) result }
 {
     let Some(style) = style_of(platform) else {
         return NO_PLATFORM;
@@ -37,10 +38,20 @@ pub extern "C" fn osb_core_path_join(
     }
 }
 
-/// Writes a path below a base, or a number for why there is none. 1: the path has a prefix. 2: it
-/// has a root. 3: one of its `..` leaves the base. 4: a name of a Windows path has a colon. 5: one
-/// is reserved. 6: the base of Windows is incomplete or has a reserved name. 7: the path has a NUL.
-/// 8: the base has one.
+/// Why a path isn't joined to a base.
+#[repr(C)]
+#[derive(Clone, Copy)]
+pub struct JoinFault {
+    /// Of 3 to 5 the number of the component at fault, from 0 on. Of 7 and 8 the byte index of the
+    /// first NUL. Else 0.
+    pub index: usize,
+    /// 1: the path has a prefix. 2: it has a root. 3: one of its `..` leaves the base. 4: a name of
+    /// a Windows path has a colon. 5: one is reserved. 6: the base of Windows is incomplete or has a
+    /// reserved name. 7: the path has a NUL. 8: the base has one.
+    pub reason: u32,
+}
+
+/// Writes a path below a base, or why there is none.
 #[unsafe(no_mangle)]
 pub extern "C" fn osb_core_path_join_checked(
     alloc: Global,
@@ -49,40 +60,41 @@ pub extern "C" fn osb_core_path_join_checked(
     path: &[u8],
     out: &mut [u8],
     count: &mut usize,
-    reason: &mut u32,
+    fault: &mut JoinFault,
 ) -> u32
     ensures written { IsWritten result (IsCheckedJoin (style_on platform) base.now path.now)
         out.old out.new count.new }
-    ensures reason { result ≡ 12 → IsJoinReason (style_on platform) base.now path.now reason.new }
-    ensures platform { (result ≡ 16) ↔ (2 < platform) }
-    ensures answers { IsOneOf (0 ∷ 2 ∷ 11 ∷ 12 ∷ 16 ∷ []) result }
+    ensures fault { result ≡ bad_path → IsJoinReport (style_on platform) base.now path.now fault.new }
+    ensures platform { (result ≡ no_platform) ↔ (2 < platform) }
+    ensures answers { IsOneOf (done ∷ no_room ∷ no_memory ∷ bad_path ∷ no_platform ∷ []) result }
 {
     let Some(style) = style_of(platform) else {
         return NO_PLATFORM;
     };
     match join_checked(alloc, style, base, path) {
         Ok(joined) => write_list(&joined, out, count),
-        Err(error) => refused(error, reason),
+        Err(error) => refused(error, fault),
     }
 }
 
-/// The status of a path that isn't joined, and the number of the reason.
-fn refused(error: JoinError, reason: &mut u32) -> u32
-    ensures path { result ≡ 12 → (error ≢ no_memory) × (reason.new ≡ reason_number error) }
-    ensures answers { IsOneOf (11 ∷ 12 ∷ []) result }
+/// The status of a path that isn't joined, and its fault.
+fn refused(error: JoinError, fault: &mut JoinFault) -> u32
+    ensures path { result ≡ bad_path → (error ≢ memory_error)
+        × ((fault.new.reason ≡ reason_number error) × (fault.new.index ≡ reason_index error)) }
+    ensures answers { IsOneOf (no_memory ∷ bad_path ∷ []) result }
 {
-    *reason = match error {
-        JoinError::Name(NameError::Prefix) => 1,
-        JoinError::Name(NameError::Root) => 2,
-        JoinError::Name(NameError::Leaves(_)) => 3,
-        JoinError::Name(NameError::Stream(_)) => 4,
-        JoinError::Name(NameError::Reserved(_)) => 5,
-        JoinError::Base(BaseError::Incomplete) => 6,
-        JoinError::Base(BaseError::Reserved) => 6,
-        JoinError::Name(NameError::Nul(_)) => 7,
-        JoinError::Base(BaseError::Nul(_)) => 8,
+    let (reason, index) = match error {
+        JoinError::Name(NameError::Prefix) => (1, 0),
+        JoinError::Name(NameError::Root) => (2, 0),
+        JoinError::Name(NameError::Leaves(index)) => (3, index),
+        JoinError::Name(NameError::Stream(index)) => (4, index),
+        JoinError::Name(NameError::Reserved(index)) => (5, index),
+        JoinError::Base(BaseError::Incomplete | BaseError::Reserved) => (6, 0),
+        JoinError::Name(NameError::Nul(index)) => (7, index),
+        JoinError::Base(BaseError::Nul(index)) => (8, index),
         JoinError::Name(NameError::Memory) => return NO_MEMORY,
     };
+    *fault = JoinFault { index, reason };
     BAD_PATH
 }
 
@@ -99,9 +111,9 @@ pub extern "C" fn osb_core_path_relative(
     ensures written { IsWritten result
         (λ way. IsRelativeFrom (style_on platform) path.now base.now (Some way)) out.old out.new
         count.new }
-    ensures none { result ≡ 3 → IsRelativeFrom (style_on platform) path.now base.now None }
-    ensures platform { (result ≡ 16) ↔ (2 < platform) }
-    ensures answers { IsOneOf (0 ∷ 2 ∷ 3 ∷ 11 ∷ 16 ∷ []) result }
+    ensures none { result ≡ none → IsRelativeFrom (style_on platform) path.now base.now None }
+    ensures platform { (result ≡ no_platform) ↔ (2 < platform) }
+    ensures answers { IsOneOf (done ∷ no_room ∷ none ∷ no_memory ∷ no_platform ∷ []) result }
 {
     let Some(style) = style_of(platform) else {
         return NO_PLATFORM;

@@ -4,6 +4,7 @@ ghost use Rattle.path_building.specs.FileName.{IsExtensionAdded, IsExtensionSet,
 ghost use Rattle.path_rules.specs.Name.{IsExtensionText};
 ghost use Rattle.osbytes_c.specs.Answers.{IsOneOf, IsWritten};
 ghost use Rattle.osbytes_c.specs.PathSpans.{style_on};
+ghost use Rattle.osbytes_c.specs.Statuses.{done, no_extension, no_memory, no_platform, no_room};
 
 use crate::built::write_list;
 use crate::paths::predicates::style_of;
@@ -24,8 +25,8 @@ pub extern "C" fn osb_core_path_with_file_name(
 ) -> u32
     ensures written { IsWritten result (IsNamed (style_on platform) path.now name.now) out.old
         out.new count.new }
-    ensures platform { (result ≡ 16) ↔ (2 < platform) }
-    ensures answers { IsOneOf (0 ∷ 2 ∷ 11 ∷ 16 ∷ []) result }
+    ensures platform { (result ≡ no_platform) ↔ (2 < platform) }
+    ensures answers { IsOneOf (done ∷ no_room ∷ no_memory ∷ no_platform ∷ []) result }
 {
     let Some(style) = style_of(platform) else {
         return NO_PLATFORM;
@@ -49,10 +50,10 @@ pub extern "C" fn osb_core_path_with_extension(
     ensures written { IsWritten result (λ made. (is_set : Bool)
         × IsExtensionSet (style_on platform) path.now extension.now made is_set) out.old out.new
         count.new }
-    ensures extension { (result ≡ 23) ↔ ((platform ≤ 2)
+    ensures extension { (result ≡ no_extension) ↔ ((platform ≤ 2)
         × (¬ (IsExtensionText (style_on platform) extension.now))) }
-    ensures platform { (result ≡ 16) ↔ (2 < platform) }
-    ensures answers { IsOneOf (0 ∷ 2 ∷ 11 ∷ 16 ∷ 23 ∷ []) result }
+    ensures platform { (result ≡ no_platform) ↔ (2 < platform) }
+    ensures answers { IsOneOf (done ∷ no_room ∷ no_memory ∷ no_platform ∷ no_extension ∷ []) result }
 {
     let Some(style) = style_of(platform) else {
         return NO_PLATFORM;
@@ -79,10 +80,10 @@ pub extern "C" fn osb_core_path_with_added_extension(
     ensures written { IsWritten result (λ made. (is_added : Bool)
         × IsExtensionAdded (style_on platform) path.now extension.now made is_added) out.old
         out.new count.new }
-    ensures extension { (result ≡ 23) ↔ ((platform ≤ 2)
+    ensures extension { (result ≡ no_extension) ↔ ((platform ≤ 2)
         × (¬ (IsExtensionText (style_on platform) extension.now))) }
-    ensures platform { (result ≡ 16) ↔ (2 < platform) }
-    ensures answers { IsOneOf (0 ∷ 2 ∷ 11 ∷ 16 ∷ 23 ∷ []) result }
+    ensures platform { (result ≡ no_platform) ↔ (2 < platform) }
+    ensures answers { IsOneOf (done ∷ no_room ∷ no_memory ∷ no_platform ∷ no_extension ∷ []) result }
 {
     let Some(style) = style_of(platform) else {
         return NO_PLATFORM;

@@ -6,6 +6,7 @@ ghost use Rattle.path_rules.specs.Component.{Item};
 ghost use Rattle.path_rules.specs.Strip.{IsStripped};
 ghost use Rattle.osbytes_c.specs.Answers.{IsOneOf};
 ghost use Rattle.osbytes_c.specs.PathSpans.{style_on};
+ghost use Rattle.osbytes_c.specs.Statuses.{done, no_platform, none};
 
 use crate::status::{DONE, NO_PLATFORM, NONE, told};
 use path_rules::{Style, ends_with, has_root, is_absolute, starts_with, strip_prefix};
@@ -35,10 +36,10 @@ pub(crate) fn style_of(platform: u32) -> Option<Style>
 /// Whether a path has a root.
 #[unsafe(no_mangle)]
 pub extern "C" fn osb_core_path_has_root(platform: u32, path: &[u8]) -> u32
-    ensures is { result ≡ 0 → HasRoot (style_on platform) path.now }
-    ensures none { result ≡ 3 → ¬ (HasRoot (style_on platform) path.now) }
-    ensures platform { (result ≡ 16) ↔ (2 < platform) }
-    ensures answers { IsOneOf (0 ∷ 3 ∷ 16 ∷ []) result }
+    ensures is { result ≡ done → HasRoot (style_on platform) path.now }
+    ensures none { result ≡ none → ¬ (HasRoot (style_on platform) path.now) }
+    ensures platform { (result ≡ no_platform) ↔ (2 < platform) }
+    ensures answers { IsOneOf (done ∷ none ∷ no_platform ∷ []) result }
 {
     match style_of(platform) {
         Some(style) => told(has_root(style, path)),
@@ -49,10 +50,10 @@ pub extern "C" fn osb_core_path_has_root(platform: u32, path: &[u8]) -> u32
 /// Whether a path is absolute.
 #[unsafe(no_mangle)]
 pub extern "C" fn osb_core_path_is_absolute(platform: u32, path: &[u8]) -> u32
-    ensures is { result ≡ 0 → IsAbsolute (style_on platform) path.now }
-    ensures none { result ≡ 3 → ¬ (IsAbsolute (style_on platform) path.now) }
-    ensures platform { (result ≡ 16) ↔ (2 < platform) }
-    ensures answers { IsOneOf (0 ∷ 3 ∷ 16 ∷ []) result }
+    ensures is { result ≡ done → IsAbsolute (style_on platform) path.now }
+    ensures none { result ≡ none → ¬ (IsAbsolute (style_on platform) path.now) }
+    ensures platform { (result ≡ no_platform) ↔ (2 < platform) }
+    ensures answers { IsOneOf (done ∷ none ∷ no_platform ∷ []) result }
 {
     match style_of(platform) {
         Some(style) => told(is_absolute(style, path)),
@@ -63,10 +64,10 @@ pub extern "C" fn osb_core_path_is_absolute(platform: u32, path: &[u8]) -> u32
 /// Whether the first components of a path are those of a base.
 #[unsafe(no_mangle)]
 pub extern "C" fn osb_core_path_starts_with(platform: u32, path: &[u8], base: &[u8]) -> u32
-    ensures is { result ≡ 0 → StartsWith (style_on platform) path.now base.now }
-    ensures none { result ≡ 3 → ¬ (StartsWith (style_on platform) path.now base.now) }
-    ensures platform { (result ≡ 16) ↔ (2 < platform) }
-    ensures answers { IsOneOf (0 ∷ 3 ∷ 16 ∷ []) result }
+    ensures is { result ≡ done → StartsWith (style_on platform) path.now base.now }
+    ensures none { result ≡ none → ¬ (StartsWith (style_on platform) path.now base.now) }
+    ensures platform { (result ≡ no_platform) ↔ (2 < platform) }
+    ensures answers { IsOneOf (done ∷ none ∷ no_platform ∷ []) result }
 {
     match style_of(platform) {
         Some(style) => told(starts_with(style, path, base)),
@@ -77,10 +78,10 @@ pub extern "C" fn osb_core_path_starts_with(platform: u32, path: &[u8], base: &[
 /// Whether the last components of a path are those of a child.
 #[unsafe(no_mangle)]
 pub extern "C" fn osb_core_path_ends_with(platform: u32, path: &[u8], child: &[u8]) -> u32
-    ensures is { result ≡ 0 → EndsWith (style_on platform) path.now child.now }
-    ensures none { result ≡ 3 → ¬ (EndsWith (style_on platform) path.now child.now) }
-    ensures platform { (result ≡ 16) ↔ (2 < platform) }
-    ensures answers { IsOneOf (0 ∷ 3 ∷ 16 ∷ []) result }
+    ensures is { result ≡ done → EndsWith (style_on platform) path.now child.now }
+    ensures none { result ≡ none → ¬ (EndsWith (style_on platform) path.now child.now) }
+    ensures platform { (result ≡ no_platform) ↔ (2 < platform) }
+    ensures answers { IsOneOf (done ∷ none ∷ no_platform ∷ []) result }
 {
     match style_of(platform) {
         Some(style) => told(ends_with(style, path, child)),
@@ -96,11 +97,11 @@ pub extern "C" fn osb_core_path_strip_prefix<'a>(
     base: &[u8],
     rest: &mut Bytes<'a>,
 ) -> u32
-    ensures rest { result ≡ 0 → (more : List Item)
+    ensures rest { result ≡ done → (more : List Item)
         × IsStripped (style_on platform) path.entry.now base.now rest.new.bytes.now more }
-    ensures none { result ≡ 3 → ¬ (StartsWith (style_on platform) path.entry.now base.now) }
-    ensures platform { (result ≡ 16) ↔ (2 < platform) }
-    ensures answers { IsOneOf (0 ∷ 3 ∷ 16 ∷ []) result }
+    ensures none { result ≡ none → ¬ (StartsWith (style_on platform) path.entry.now base.now) }
+    ensures platform { (result ≡ no_platform) ↔ (2 < platform) }
+    ensures answers { IsOneOf (done ∷ none ∷ no_platform ∷ []) result }
 {
     let Some(style) = style_of(platform) else {
         return NO_PLATFORM;

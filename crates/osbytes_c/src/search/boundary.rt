@@ -2,6 +2,7 @@
 ghost use Rattle.std.specs.Prelude.{◌≡◌, ◌∷◌, []};
 ghost use Rattle.wtf8_core.specs.Boundary.{IsBoundary};
 ghost use Rattle.osbytes_c.specs.Answers.{IsOneOf};
+ghost use Rattle.osbytes_c.specs.Statuses.{done, none};
 
 use crate::status::told;
 use crate::strings::unix;
@@ -10,9 +11,9 @@ use os_str_ext::OsStrBytesExt;
 /// Whether a string of any platform may be cut at the index.
 #[unsafe(no_mangle)]
 pub extern "C" fn osb_core_is_boundary(bytes: &[u8], index: usize) -> u32
-    ensures is { result ≡ 0 → IsBoundary bytes.now index }
-    ensures none { result ≡ 3 → ¬ (IsBoundary bytes.now index) }
-    ensures answers { IsOneOf (0 ∷ 3 ∷ []) result }
+    ensures is { result ≡ done → IsBoundary bytes.now index }
+    ensures none { result ≡ none → ¬ (IsBoundary bytes.now index) }
+    ensures answers { IsOneOf (done ∷ none ∷ []) result }
 {
     told(unix(bytes).is_boundary(index))
 }

@@ -4,6 +4,7 @@ ghost use Rattle.wtf8_core.specs.Occurrence.{IsPrefix, IsSuffix};
 ghost use Rattle.osbytes_c.specs.Answers.{IsOneOf};
 ghost use Rattle.osbytes_c.specs.Faults.{IsString, IsUnstring};
 ghost use Rattle.osbytes_c.specs.Platforms.{units_on};
+ghost use Rattle.osbytes_c.specs.Statuses.{done, faulty, no_platform, none};
 
 use crate::on_platform::on_platform;
 use crate::status::{DONE, FAULTY, NONE};
@@ -13,16 +14,16 @@ use platform_str::{OsStr, Platform};
 /// Whether the units of a string start with those of another string of the platform.
 #[unsafe(no_mangle)]
 pub extern "C" fn osb_core_starts_with_units(platform: u32, bytes: &[u8], prefix: &[u8]) -> u32
-    ensures found { result ≡ 0 → IsPrefix (units_on platform prefix.now)
+    ensures found { result ≡ done → IsPrefix (units_on platform prefix.now)
         (units_on platform bytes.now) }
-    ensures none { result ≡ 3 → ¬ (IsPrefix (units_on platform prefix.now)
+    ensures none { result ≡ none → ¬ (IsPrefix (units_on platform prefix.now)
         (units_on platform bytes.now)) }
-    ensures strings { (result ≡ 0) ⊎ (result ≡ 3) → IsString platform bytes.now
+    ensures strings { (result ≡ done) ⊎ (result ≡ none) → IsString platform bytes.now
         × IsString platform prefix.now }
-    ensures fault { result ≡ 1 → IsUnstring platform bytes.now
+    ensures fault { result ≡ faulty → IsUnstring platform bytes.now
         ⊎ IsUnstring platform prefix.now }
-    ensures platform { (result ≡ 16) ↔ (2 < platform) }
-    ensures answers { IsOneOf (0 ∷ 3 ∷ 1 ∷ 16 ∷ []) result }
+    ensures platform { (result ≡ no_platform) ↔ (2 < platform) }
+    ensures answers { IsOneOf (done ∷ none ∷ faulty ∷ no_platform ∷ []) result }
 {
     on_platform!(platform, starts_with(bytes, prefix))
 }
@@ -30,29 +31,29 @@ pub extern "C" fn osb_core_starts_with_units(platform: u32, bytes: &[u8], prefix
 /// Whether the units of a string end with those of another string of the platform.
 #[unsafe(no_mangle)]
 pub extern "C" fn osb_core_ends_with_units(platform: u32, bytes: &[u8], suffix: &[u8]) -> u32
-    ensures found { result ≡ 0 → IsSuffix (units_on platform suffix.now)
+    ensures found { result ≡ done → IsSuffix (units_on platform suffix.now)
         (units_on platform bytes.now) }
-    ensures none { result ≡ 3 → ¬ (IsSuffix (units_on platform suffix.now)
+    ensures none { result ≡ none → ¬ (IsSuffix (units_on platform suffix.now)
         (units_on platform bytes.now)) }
-    ensures strings { (result ≡ 0) ⊎ (result ≡ 3) → IsString platform bytes.now
+    ensures strings { (result ≡ done) ⊎ (result ≡ none) → IsString platform bytes.now
         × IsString platform suffix.now }
-    ensures fault { result ≡ 1 → IsUnstring platform bytes.now
+    ensures fault { result ≡ faulty → IsUnstring platform bytes.now
         ⊎ IsUnstring platform suffix.now }
-    ensures platform { (result ≡ 16) ↔ (2 < platform) }
-    ensures answers { IsOneOf (0 ∷ 3 ∷ 1 ∷ 16 ∷ []) result }
+    ensures platform { (result ≡ no_platform) ↔ (2 < platform) }
+    ensures answers { IsOneOf (done ∷ none ∷ faulty ∷ no_platform ∷ []) result }
 {
     on_platform!(platform, ends_with(bytes, suffix))
 }
 
 /// Tests whether the units of a string start with those of another, on one platform.
 fn starts_with<E: Platform>(bytes: &[u8], prefix: &[u8]) -> u32
-    ensures found { result ≡ 0 → IsPrefix (E.units prefix.now) (E.units bytes.now) }
-    ensures none { result ≡ 3 → ¬ (IsPrefix (E.units prefix.now) (E.units bytes.now)) }
-    ensures strings { (result ≡ 0) ⊎ (result ≡ 3) → E.well_formed bytes.now
+    ensures found { result ≡ done → IsPrefix (E.units prefix.now) (E.units bytes.now) }
+    ensures none { result ≡ none → ¬ (IsPrefix (E.units prefix.now) (E.units bytes.now)) }
+    ensures strings { (result ≡ done) ⊎ (result ≡ none) → E.well_formed bytes.now
         × E.well_formed prefix.now }
-    ensures fault { result ≡ 1 → (¬ (E.well_formed bytes.now))
+    ensures fault { result ≡ faulty → (¬ (E.well_formed bytes.now))
         ⊎ (¬ (E.well_formed prefix.now)) }
-    ensures answers { IsOneOf (0 ∷ 3 ∷ 1 ∷ []) result }
+    ensures answers { IsOneOf (done ∷ none ∷ faulty ∷ []) result }
 {
     let Ok(string) = OsStr::<E>::checked(bytes) else {
         return FAULTY;
@@ -69,13 +70,13 @@ fn starts_with<E: Platform>(bytes: &[u8], prefix: &[u8]) -> u32
 
 /// Tests whether the units of a string end with those of another, on one platform.
 fn ends_with<E: Platform>(bytes: &[u8], suffix: &[u8]) -> u32
-    ensures found { result ≡ 0 → IsSuffix (E.units suffix.now) (E.units bytes.now) }
-    ensures none { result ≡ 3 → ¬ (IsSuffix (E.units suffix.now) (E.units bytes.now)) }
-    ensures strings { (result ≡ 0) ⊎ (result ≡ 3) → E.well_formed bytes.now
+    ensures found { result ≡ done → IsSuffix (E.units suffix.now) (E.units bytes.now) }
+    ensures none { result ≡ none → ¬ (IsSuffix (E.units suffix.now) (E.units bytes.now)) }
+    ensures strings { (result ≡ done) ⊎ (result ≡ none) → E.well_formed bytes.now
         × E.well_formed suffix.now }
-    ensures fault { result ≡ 1 → (¬ (E.well_formed bytes.now))
+    ensures fault { result ≡ faulty → (¬ (E.well_formed bytes.now))
         ⊎ (¬ (E.well_formed suffix.now)) }
-    ensures answers { IsOneOf (0 ∷ 3 ∷ 1 ∷ []) result }
+    ensures answers { IsOneOf (done ∷ none ∷ faulty ∷ []) result }
 {
     let Ok(string) = OsStr::<E>::checked(bytes) else {
         return FAULTY;

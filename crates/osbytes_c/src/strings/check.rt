@@ -5,6 +5,7 @@ ghost use Rattle.wtf8_core.specs.Wtf8.{IsWtf8};
 ghost use Rattle.wtf8_core.specs.Checker.{HasFirstFault};
 ghost use Rattle.osbytes_c.specs.Answers.{IsOneOf};
 ghost use Rattle.osbytes_c.specs.Faults.{IsString, IsReport, IsWtf8Report, IsUtf8Report};
+ghost use Rattle.osbytes_c.specs.Statuses.{done, faulty, no_platform};
 
 use crate::status::{DONE, FAULTY, NO_PLATFORM};
 use crate::strings::fault::{Fault, kind_of, value_of};
@@ -15,11 +16,11 @@ use wtf8_core::{EncodingError, utf8_fault, wtf8_fault};
 /// fault is their first one, and else as it was.
 #[unsafe(no_mangle)]
 pub extern "C" fn osb_core_check(platform: u32, bytes: &[u8], fault: &mut Fault) -> u32
-    ensures string { (result ≡ 0) ↔ IsString platform bytes.now }
-    ensures fault { result ≡ 1 → IsReport platform bytes.now fault.new }
-    ensures kept { result ≢ 1 → fault.new ≡ fault.old }
-    ensures platform { (result ≡ 16) ↔ (2 < platform) }
-    ensures answers { IsOneOf (0 ∷ 1 ∷ 16 ∷ []) result }
+    ensures string { (result ≡ done) ↔ IsString platform bytes.now }
+    ensures fault { result ≡ faulty → IsReport platform bytes.now fault.new }
+    ensures kept { result ≢ faulty → fault.new ≡ fault.old }
+    ensures platform { (result ≡ no_platform) ↔ (2 < platform) }
+    ensures answers { IsOneOf (done ∷ faulty ∷ no_platform ∷ []) result }
 {
     match platform {
         0 => DONE,
@@ -31,10 +32,10 @@ pub extern "C" fn osb_core_check(platform: u32, bytes: &[u8], fault: &mut Fault)
 
 /// Checks that bytes are WTF-8, as Windows requires.
 pub(crate) fn check_wtf8(bytes: &[u8], fault: &mut Fault) -> u32
-    ensures string { (result ≡ 0) ↔ IsWtf8 bytes.now }
-    ensures fault { result ≡ 1 → IsWtf8Report bytes.now fault.new }
-    ensures kept { result ≢ 1 → fault.new ≡ fault.old }
-    ensures answers { IsOneOf (0 ∷ 1 ∷ []) result }
+    ensures string { (result ≡ done) ↔ IsWtf8 bytes.now }
+    ensures fault { result ≡ faulty → IsWtf8Report bytes.now fault.new }
+    ensures kept { result ≢ faulty → fault.new ≡ fault.old }
+    ensures answers { IsOneOf (done ∷ faulty ∷ []) result }
 {
     match Windows::check(bytes) {
         Ok(()) => DONE,
@@ -66,10 +67,10 @@ pub(crate) fn report_wtf8(bytes: &[u8], error: EncodingError, fault: &mut Fault)
 
 /// Checks that bytes are UTF-8, as wasm requires.
 pub(crate) fn check_utf8(bytes: &[u8], fault: &mut Fault) -> u32
-    ensures string { (result ≡ 0) ↔ IsUtf8 bytes.now }
-    ensures fault { result ≡ 1 → IsUtf8Report bytes.now fault.new }
-    ensures kept { result ≢ 1 → fault.new ≡ fault.old }
-    ensures answers { IsOneOf (0 ∷ 1 ∷ []) result }
+    ensures string { (result ≡ done) ↔ IsUtf8 bytes.now }
+    ensures fault { result ≡ faulty → IsUtf8Report bytes.now fault.new }
+    ensures kept { result ≢ faulty → fault.new ≡ fault.old }
+    ensures answers { IsOneOf (done ∷ faulty ∷ []) result }
 {
     let Some((index, len)) = utf8_fault(bytes) else {
         return DONE;

@@ -5,6 +5,7 @@ ghost use Rattle.wtf8_core.specs.Checker.{saved_progress};
 ghost use Rattle.wtf8_core.specs.declared.checker.SavedChecker.{SavedChecker};
 ghost use Rattle.osbytes_c.specs.Answers.{IsOneOf};
 ghost use Rattle.osbytes_c.specs.Faults.{OpenDescribes, saved_open, ReportsFaulty, ReportsFirst, kind_of, value_of};
+ghost use Rattle.osbytes_c.specs.Statuses.{done, faulty, no_state};
 
 use crate::status::{DONE, FAULTY, NO_STATE};
 use crate::strings::fault::{Fault, kind_of, value_of};
@@ -33,14 +34,14 @@ pub extern "C" fn osb_core_start(opened: &mut Open)
 /// returns that fault and writes nothing else. A check that found a fault isn't to be fed again.
 #[unsafe(no_mangle)]
 pub extern "C" fn osb_core_feed(opened: &mut Open, piece: &[u8], fault: &mut Fault) -> u32
-    ensures describes { result ≡ 0 → (fed : List ℕ) → OpenDescribes opened.old fed
+    ensures describes { result ≡ done → (fed : List ℕ) → OpenDescribes opened.old fed
         → OpenDescribes opened.new (fed ++ piece.now) }
-    ensures fault { result ≡ 1 → (fed : List ℕ) → OpenDescribes opened.old fed
+    ensures fault { result ≡ faulty → (fed : List ℕ) → OpenDescribes opened.old fed
         → ReportsFaulty (fed ++ piece.now) fault.new }
-    ensures known { result ≡ 0 → opened.new.state < 16 }
-    ensures kept { result ≢ 0 → opened.new ≡ opened.old }
-    ensures state { (result ≡ 20) ↔ (16 ≤ opened.old.state) }
-    ensures answers { IsOneOf (0 ∷ 1 ∷ 20 ∷ []) result }
+    ensures known { result ≡ done → opened.new.state < 16 }
+    ensures kept { result ≢ done → opened.new ≡ opened.old }
+    ensures state { (result ≡ no_state) ↔ (16 ≤ opened.old.state) }
+    ensures answers { IsOneOf (done ∷ faulty ∷ no_state ∷ []) result }
 {
     let Some(mut checker) = restored(*opened) else {
         return NO_STATE;
@@ -65,11 +66,11 @@ pub extern "C" fn osb_core_feed(opened: &mut Open, piece: &[u8], fault: &mut Fau
 /// Whether all the bytes that were fed are WTF-8.
 #[unsafe(no_mangle)]
 pub extern "C" fn osb_core_finish(opened: &Open, fault: &mut Fault) -> u32
-    ensures string { result ≡ 0 → (fed : List ℕ) → OpenDescribes opened.now fed → IsWtf8 fed }
-    ensures fault { result ≡ 1 → (fed : List ℕ) → OpenDescribes opened.now fed
+    ensures string { result ≡ done → (fed : List ℕ) → OpenDescribes opened.now fed → IsWtf8 fed }
+    ensures fault { result ≡ faulty → (fed : List ℕ) → OpenDescribes opened.now fed
         → ReportsFirst fed fault.new }
-    ensures state { (result ≡ 20) ↔ (16 ≤ opened.now.state) }
-    ensures answers { IsOneOf (0 ∷ 1 ∷ 20 ∷ []) result }
+    ensures state { (result ≡ no_state) ↔ (16 ≤ opened.now.state) }
+    ensures answers { IsOneOf (done ∷ faulty ∷ no_state ∷ []) result }
 {
     let Some(checker) = restored(*opened) else {
         return NO_STATE;

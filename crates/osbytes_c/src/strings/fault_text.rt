@@ -5,6 +5,7 @@ ghost use Rattle.wtf8_core.specs.FaultText.{fault_text, upper_hex};
 ghost use Rattle.wtf8_core.specs.Truncated.{IsTruncated};
 ghost use Rattle.osbytes_c.specs.Answers.{IsOneOf, IsWritten};
 ghost use Rattle.osbytes_c.specs.Faults.{Names, IsTextOf};
+ghost use Rattle.osbytes_c.specs.Statuses.{done, no_fault, no_room};
 
 use crate::status::{NO_FAULT, fits};
 use crate::strings::fault::Fault;
@@ -15,8 +16,8 @@ use wtf8_core::{EncodingError, code_point_digits, push_truncated, upper_hex_digi
 #[unsafe(no_mangle)]
 pub extern "C" fn osb_core_fault_text(fault: &Fault, out: &mut [u8], count: &mut usize) -> u32
     ensures written { IsWritten result (IsTextOf fault.now) out.old out.new count.new }
-    ensures none { result ≡ 19 → (error : EncodingError) → ¬ (Names fault.now error) }
-    ensures answers { IsOneOf (0 ∷ 2 ∷ 19 ∷ []) result }
+    ensures none { result ≡ no_fault → (error : EncodingError) → ¬ (Names fault.now error) }
+    ensures answers { IsOneOf (done ∷ no_room ∷ no_fault ∷ []) result }
 {
     let Some(error) = error_of(*fault) else {
         return NO_FAULT;

@@ -4,6 +4,7 @@ ghost use Rattle.platform_str.specs.Strings.{bytes};
 ghost use Rattle.osbytes_c.specs.Answers.{IsOneOf, IsWritten};
 ghost use Rattle.osbytes_c.specs.Faults.{IsString, IsReport};
 ghost use Rattle.osbytes_c.specs.Platforms.{lossy_on};
+ghost use Rattle.osbytes_c.specs.Statuses.{done, faulty, no_platform, no_room, too_long};
 
 use crate::on_platform::on_string;
 use crate::status::{TOO_LONG, fits};
@@ -23,12 +24,12 @@ pub extern "C" fn osb_core_lossy(
 ) -> u32
     ensures written { IsWritten result (λ text. text ≡ lossy_on platform bytes.now) out.old out.new
         count.new }
-    ensures fault { result ≡ 1 → IsReport platform bytes.now fault.new }
-    ensures string { (result ≡ 0) ⊎ (result ≡ 2) → IsString platform bytes.now }
-    ensures long { (result ≡ 21) ↔ (IsString platform bytes.now
+    ensures fault { result ≡ faulty → IsReport platform bytes.now fault.new }
+    ensures string { (result ≡ done) ⊎ (result ≡ no_room) → IsString platform bytes.now }
+    ensures long { (result ≡ too_long) ↔ (IsString platform bytes.now
         × (usize.MAX < 3 * length bytes.now)) }
-    ensures platform { (result ≡ 16) ↔ (2 < platform) }
-    ensures answers { IsOneOf (0 ∷ 2 ∷ 1 ∷ 21 ∷ 16 ∷ []) result }
+    ensures platform { (result ≡ no_platform) ↔ (2 < platform) }
+    ensures answers { IsOneOf (done ∷ no_room ∷ faulty ∷ too_long ∷ no_platform ∷ []) result }
 {
     on_string!(platform, bytes, fault, string => write_lossy(string, out, count))
 }
@@ -37,8 +38,8 @@ pub extern "C" fn osb_core_lossy(
 fn write_lossy<E: Platform>(string: OsStr<'_, E>, out: &mut [u8], count: &mut usize) -> u32
     ensures written { IsWritten result (λ text. text ≡ E.lossy (bytes string.entry)) out.old out.new
         count.new }
-    ensures long { (result ≡ 21) ↔ (usize.MAX < 3 * length (bytes string.entry)) }
-    ensures answers { IsOneOf (0 ∷ 2 ∷ 21 ∷ []) result }
+    ensures long { (result ≡ too_long) ↔ (usize.MAX < 3 * length (bytes string.entry)) }
+    ensures answers { IsOneOf (done ∷ no_room ∷ too_long ∷ []) result }
 {
     if string.len() > usize::MAX / 3 {
         return TOO_LONG;

@@ -6,6 +6,7 @@ ghost use Rattle.os_quote.specs.Escape.{IsBadEscape, IsBadLineEscape, IsQuoteFau
 ghost use Rattle.os_quote.specs.Unescaped.{IsUnescaped, IsLineUnescaped};
 ghost use Rattle.osbytes_c.specs.Answers.{IsDone, IsOneOf};
 ghost use Rattle.osbytes_c.specs.Platforms.{formed_on, units_on};
+ghost use Rattle.osbytes_c.specs.Statuses.{bad_escape, done, no_pattern, no_platform, no_room, no_string};
 
 use crate::on_platform::on_platform;
 use crate::status::{BAD_ESCAPE, NO_PATTERN, NO_STRING, fits};
@@ -26,12 +27,13 @@ pub extern "C" fn osb_core_unescape(
 ) -> u32
     ensures written { IsDone result (IsUnescaped (formed_on platform) (units_on platform) escape.now
         out.old out.new count.new) (length out.old) count.new }
-    ensures token { result ≡ 5 → IsBadEscape escape.now index.new }
-    ensures string { result ≡ 6
+    ensures token { result ≡ bad_escape → IsBadEscape escape.now index.new }
+    ensures string { result ≡ no_string
         → IsQuoteFault (formed_on platform) (units_on platform) escape.now QuoteError.NotCanonical }
-    ensures pattern { (result ≡ 17) ↔ ((platform ≤ 2) × (¬ (IsUtf8 escape.now))) }
-    ensures platform { (result ≡ 16) ↔ (2 < platform) }
-    ensures answers { IsOneOf (0 ∷ 2 ∷ 5 ∷ 6 ∷ 17 ∷ 16 ∷ []) result }
+    ensures pattern { (result ≡ no_pattern) ↔ ((platform ≤ 2) × (¬ (IsUtf8 escape.now))) }
+    ensures platform { (result ≡ no_platform) ↔ (2 < platform) }
+    ensures answers { IsOneOf (done ∷ no_room ∷ bad_escape ∷ no_string ∷ no_pattern ∷ no_platform ∷
+        []) result }
 {
     on_platform!(platform, unescape(escape, out, count, index))
 }
@@ -48,12 +50,13 @@ pub extern "C" fn osb_core_unescape_line(
 ) -> u32
     ensures written { IsDone result (IsLineUnescaped (formed_on platform) (units_on platform)
         escape.now out.old out.new count.new) (length out.old) count.new }
-    ensures token { result ≡ 5 → IsBadLineEscape escape.now index.new }
-    ensures string { result ≡ 6
+    ensures token { result ≡ bad_escape → IsBadLineEscape escape.now index.new }
+    ensures string { result ≡ no_string
         → IsLineFault (formed_on platform) (units_on platform) escape.now QuoteError.NotCanonical }
-    ensures pattern { (result ≡ 17) ↔ ((platform ≤ 2) × (¬ (IsUtf8 escape.now))) }
-    ensures platform { (result ≡ 16) ↔ (2 < platform) }
-    ensures answers { IsOneOf (0 ∷ 2 ∷ 5 ∷ 6 ∷ 17 ∷ 16 ∷ []) result }
+    ensures pattern { (result ≡ no_pattern) ↔ ((platform ≤ 2) × (¬ (IsUtf8 escape.now))) }
+    ensures platform { (result ≡ no_platform) ↔ (2 < platform) }
+    ensures answers { IsOneOf (done ∷ no_room ∷ bad_escape ∷ no_string ∷ no_pattern ∷ no_platform ∷
+        []) result }
 {
     on_platform!(platform, unescape_line(escape, out, count, index))
 }
@@ -62,11 +65,11 @@ pub extern "C" fn osb_core_unescape_line(
 fn unescape<E: Platform>(escape: &[u8], out: &mut [u8], count: &mut usize, index: &mut usize) -> u32
     ensures written { IsDone result (IsUnescaped E.well_formed E.units escape.now out.old out.new
         count.new) (length out.old) count.new }
-    ensures token { result ≡ 5 → IsBadEscape escape.now index.new }
-    ensures string { result ≡ 6
+    ensures token { result ≡ bad_escape → IsBadEscape escape.now index.new }
+    ensures string { result ≡ no_string
         → IsQuoteFault E.well_formed E.units escape.now QuoteError.NotCanonical }
-    ensures pattern { (result ≡ 17) ↔ (¬ (IsUtf8 escape.now)) }
-    ensures answers { IsOneOf (0 ∷ 2 ∷ 5 ∷ 6 ∷ 17 ∷ []) result }
+    ensures pattern { (result ≡ no_pattern) ↔ (¬ (IsUtf8 escape.now)) }
+    ensures answers { IsOneOf (done ∷ no_room ∷ bad_escape ∷ no_string ∷ no_pattern ∷ []) result }
 {
     let Some(read) = write_unescaped_bytes::<E>(escape, out) else {
         return NO_PATTERN;
@@ -89,11 +92,11 @@ fn unescape_line<E: Platform>(
 ) -> u32
     ensures written { IsDone result (IsLineUnescaped E.well_formed E.units escape.now out.old
         out.new count.new) (length out.old) count.new }
-    ensures token { result ≡ 5 → IsBadLineEscape escape.now index.new }
-    ensures string { result ≡ 6
+    ensures token { result ≡ bad_escape → IsBadLineEscape escape.now index.new }
+    ensures string { result ≡ no_string
         → IsLineFault E.well_formed E.units escape.now QuoteError.NotCanonical }
-    ensures pattern { (result ≡ 17) ↔ (¬ (IsUtf8 escape.now)) }
-    ensures answers { IsOneOf (0 ∷ 2 ∷ 5 ∷ 6 ∷ 17 ∷ []) result }
+    ensures pattern { (result ≡ no_pattern) ↔ (¬ (IsUtf8 escape.now)) }
+    ensures answers { IsOneOf (done ∷ no_room ∷ bad_escape ∷ no_string ∷ no_pattern ∷ []) result }
 {
     let Some(read) = write_unescaped_line_bytes::<E>(escape, out) else {
         return NO_PATTERN;
@@ -109,10 +112,10 @@ fn unescape_line<E: Platform>(
 
 /// The status of a text that isn't read.
 fn refused(error: QuoteError, index: &mut usize) -> u32
-    ensures token { result ≡ 5 → error ≡ QuoteError.BadEscape index.new }
-    ensures string { result ≡ 6 → error ≢ QuoteError.Memory
+    ensures token { result ≡ bad_escape → error ≡ QuoteError.BadEscape index.new }
+    ensures string { result ≡ no_string → error ≢ QuoteError.Memory
         → error ≡ QuoteError.NotCanonical }
-    ensures answers { IsOneOf (5 ∷ 6 ∷ []) result }
+    ensures answers { IsOneOf (bad_escape ∷ no_string ∷ []) result }
 {
     match error {
         QuoteError::BadEscape(at) => {

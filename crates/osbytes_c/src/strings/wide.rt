@@ -4,6 +4,7 @@ ghost use Rattle.wtf8_core.specs.Wtf8.{HasUnits};
 ghost use Rattle.wtf8_core.specs.Checker.{HasFirstFault};
 ghost use Rattle.osbytes_c.specs.Answers.{IsOneOf, IsWritten, Writes};
 ghost use Rattle.osbytes_c.specs.Faults.{IsWtf8Report};
+ghost use Rattle.osbytes_c.specs.Statuses.{done, faulty, no_room};
 
 use crate::status::{FAULTY, fits};
 use crate::strings::check::report_wtf8;
@@ -34,8 +35,8 @@ pub extern "C" fn osb_core_to_wide(
     fault: &mut Fault,
 ) -> u32
     ensures written { IsWritten result (HasUnits bytes.now) out.old out.new count.new }
-    ensures fault { result ≡ 1 → IsWtf8Report bytes.now fault.new }
-    ensures answers { IsOneOf (0 ∷ 2 ∷ 1 ∷ []) result }
+    ensures fault { result ≡ faulty → IsWtf8Report bytes.now fault.new }
+    ensures answers { IsOneOf (done ∷ no_room ∷ faulty ∷ []) result }
 {
     if bytes.len() >= LONG {
         return write_checked(bytes, out, count, fault);
@@ -57,8 +58,8 @@ pub extern "C" fn osb_core_to_wide(
 #[inline(never)]
 fn write_checked(bytes: &[u8], out: &mut [u16], count: &mut usize, fault: &mut Fault) -> u32
     ensures written { IsWritten result (HasUnits bytes.now) out.old out.new count.new }
-    ensures fault { result ≡ 1 → IsWtf8Report bytes.now fault.new }
-    ensures answers { IsOneOf (0 ∷ 2 ∷ 1 ∷ []) result }
+    ensures fault { result ≡ faulty → IsWtf8Report bytes.now fault.new }
+    ensures answers { IsOneOf (done ∷ no_room ∷ faulty ∷ []) result }
 {
     let Some(string) = windows(bytes, fault) else {
         return FAULTY;
@@ -95,7 +96,7 @@ fn write_units(bytes: &[u8], out: &mut [u16]) -> Result<usize, EncodingError>
 pub extern "C" fn osb_core_from_wide(units: &[u16], out: &mut [u8], count: &mut usize) -> u32
     ensures written { IsWritten result (λ bytes. HasUnits bytes units.now) out.old out.new
         count.new }
-    ensures answers { IsOneOf (0 ∷ 2 ∷ []) result }
+    ensures answers { IsOneOf (done ∷ no_room ∷ []) result }
 {
     let written = if units.len() < LONG_WIDE && 3 * units.len() <= out.len() {
         write_bytes(units, out)

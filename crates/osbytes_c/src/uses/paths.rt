@@ -1,8 +1,9 @@
 //! For trying: what a caller of what builds paths concludes, in each outcome.
-ghost use Rattle.std.specs.Prelude.{◌≡◌, ◌<◌, Bool, Some, None, take, IfOk, IfErr};
+ghost use Rattle.std.specs.Prelude.{◌≡◌, ◌<◌, Bool, Some, None, take, IfOk, IfErr, IfSome};
 ghost use Rattle.path_building.specs.declared.styles.StyleError.TheVariants as style_error;
 ghost use Rattle.path_building.specs.Checked.{IsCheckedJoin};
 ghost use Rattle.path_building.specs.Cleaned.{IsCleaned};
+ghost use Rattle.path_building.specs.Faults.{HasFault, Leaves};
 ghost use Rattle.path_building.specs.FileName.{IsExtensionAdded, IsExtensionSet, IsNamed};
 ghost use Rattle.path_building.specs.Join.{IsJoin};
 ghost use Rattle.path_building.specs.Normalized.{HasNoNormalForm, IsNormalized};
@@ -10,11 +11,13 @@ ghost use Rattle.path_building.specs.Relative.{IsRelativeFrom};
 ghost use Rattle.path_building.specs.Restyled.{IsRestyled, IsStyleFault};
 ghost use Rattle.path_rules.specs.Name.{IsExtensionText};
 ghost use Rattle.osbytes_c.specs.Faults.{IsReport, IsString};
-ghost use Rattle.osbytes_c.specs.PathBuilding.{IsJoinReason};
+ghost use Rattle.osbytes_c.specs.PathBuilding.{IsJoinReport};
 ghost use Rattle.osbytes_c.specs.PathSpans.{style_on};
 
 use crate::paths::forms::{osb_core_path_clean, osb_core_path_convert, osb_core_path_normalize};
-use crate::paths::joins::{osb_core_path_join, osb_core_path_join_checked, osb_core_path_relative};
+use crate::paths::joins::{
+    JoinFault, osb_core_path_join, osb_core_path_join_checked, osb_core_path_relative,
+};
 use crate::paths::names::{
     osb_core_path_with_added_extension, osb_core_path_with_extension, osb_core_path_with_file_name,
 };
@@ -38,24 +41,45 @@ pub fn join_in(
 }
 
 /// The length of a path that is joined below a base, written into a buffer; else the status. The
-/// reason is returned, too.
+/// reason and the index are returned, too.
 pub fn join_checked_in(
     alloc: Global,
     platform: u32,
     base: &[u8],
     path: &[u8],
     buffer: &mut [u8],
-    reason: &mut u32,
+    fault: &mut JoinFault,
 ) -> Result<usize, u32>
     ensures ok { IfOk result
         (λ len. IsCheckedJoin (style_on platform) base.now path.now (take len buffer.new)) }
     ensures err { IfErr result
-        (λ status. status ≡ 12 → IsJoinReason (style_on platform) base.now path.now reason.new) }
+        (λ status. status ≡ 12 → IsJoinReport (style_on platform) base.now path.now fault.new) }
 {
     len_of!(
         osb_core_path_join_checked(alloc, platform, base, path, buffer),
-        reason
+        fault
     )
+}
+
+/// The number of the first component by which a path leaves the base, if it isn't joined for that.
+pub fn leaving_component(
+    alloc: Global,
+    platform: u32,
+    base: &[u8],
+    path: &[u8],
+    buffer: &mut [u8],
+) -> Option<usize>
+    ensures leaves { IfSome result (λ index. HasFault (style_on platform) path.now index Leaves) }
+{
+    let mut count = 0;
+    let mut fault = JoinFault {
+        index: 0,
+        reason: 0,
+    };
+    match osb_core_path_join_checked(alloc, platform, base, path, buffer, &mut count, &mut fault) {
+        12 if fault.reason == 3 => Some(fault.index),
+        _ => None,
+    }
 }
 
 /// The length of the path that leads from a base to a path, written into a buffer; else the status.

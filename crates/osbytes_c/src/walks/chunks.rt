@@ -2,6 +2,7 @@
 ghost use Rattle.std.specs.Prelude.{◌≡◌, ◌<◌, ◌≤◌, ◌↔◌, ◌∷◌, [], length, MatchOption, IfSome};
 ghost use Rattle.osbytes_c.specs.Answers.{IsOneOf};
 ghost use Rattle.osbytes_c.specs.Steps.{IsChunkAt};
+ghost use Rattle.osbytes_c.specs.Statuses.{done, ended, no_index};
 
 use crate::status::{DONE, ENDED, NO_INDEX};
 use crate::strings::unix;
@@ -20,10 +21,10 @@ pub struct Ends {
 /// The first chunk of what comes after an index.
 #[unsafe(no_mangle)]
 pub extern "C" fn osb_core_chunk(bytes: &[u8], at: usize, ends: &mut Ends) -> u32
-    ensures chunk { result ≡ 0 → IsChunkAt bytes.now at ends.new }
-    ensures index { (result ≡ 18) ↔ (length bytes.now < at) }
-    ensures ended { (result ≡ 4) ↔ (at ≡ length bytes.now) }
-    ensures answers { IsOneOf (0 ∷ 18 ∷ 4 ∷ []) result }
+    ensures chunk { result ≡ done → IsChunkAt bytes.now at ends.new }
+    ensures index { (result ≡ no_index) ↔ (length bytes.now < at) }
+    ensures ended { (result ≡ ended) ↔ (at ≡ length bytes.now) }
+    ensures answers { IsOneOf (done ∷ no_index ∷ ended ∷ []) result }
 {
     if at > bytes.len() {
         return NO_INDEX;

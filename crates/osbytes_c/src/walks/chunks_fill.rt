@@ -3,6 +3,7 @@ ghost use Rattle.std.specs.Prelude.{◌≡◌, ◌≤◌, ◌<◌, ◌+◌, ◌^
 ghost use Rattle.osbytes_c.specs.Answers.{IsOneOf};
 ghost use Rattle.osbytes_c.specs.ChunkFills.{ChunkViews};
 ghost use Rattle.osbytes_c.specs.Fills.{Fills, IsOutside};
+ghost use Rattle.osbytes_c.specs.Statuses.{done, ended, no_index};
 
 use crate::status::{DONE, ENDED, NO_INDEX};
 use crate::walks::chunks::chunk_after;
@@ -28,12 +29,12 @@ pub extern "C" fn osb_core_chunks_fill(
     out: &mut [ChunkView],
     filled: &mut Filled,
 ) -> u32
-    ensures chunks { result ≡ 0 → Fills (ChunkViews bytes.now address at) out.old out.new
+    ensures chunks { result ≡ done → Fills (ChunkViews bytes.now address at) out.old out.new
         filled.new }
-    ensures index { (result ≡ 18) ↔ IsOutside address at bytes.now }
-    ensures ended { (result ≡ 4) ↔ ((¬ (IsOutside address at bytes.now))
+    ensures index { (result ≡ no_index) ↔ IsOutside address at bytes.now }
+    ensures ended { (result ≡ ended) ↔ ((¬ (IsOutside address at bytes.now))
         × (at ≡ length bytes.now)) }
-    ensures answers { IsOneOf (0 ∷ 18 ∷ 4 ∷ []) result }
+    ensures answers { IsOneOf (done ∷ no_index ∷ ended ∷ []) result }
 {
     if is_outside(bytes, at, address) {
         return NO_INDEX;

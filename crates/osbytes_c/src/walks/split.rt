@@ -3,6 +3,7 @@ ghost use Rattle.std.specs.Prelude.{◌≡◌, ◌≤◌, ◌<◌, ◌+◌, ◌�
 ghost use Rattle.wtf8_core.specs.Occurrence.{OccursNowhere};
 ghost use Rattle.osbytes_c.specs.Answers.{IsOneOf};
 ghost use Rattle.osbytes_c.specs.Steps.{IsFirstCut, IsFirstPiece, IsLastCut, IsLastPiece, IsNoPattern};
+ghost use Rattle.osbytes_c.specs.Statuses.{done, no_index, no_pattern};
 
 use crate::status::{DONE, NO_INDEX, NO_PATTERN};
 use crate::strings::{text, unix};
@@ -23,10 +24,10 @@ pub struct Piece {
 /// The first piece of what comes after an index, between the occurrences of the pattern.
 #[unsafe(no_mangle)]
 pub extern "C" fn osb_core_cut(bytes: &[u8], pattern: &[u8], at: usize, piece: &mut Piece) -> u32
-    ensures piece { result ≡ 0 → IsFirstPiece pattern.now bytes.now at piece.new }
-    ensures index { (result ≡ 18) ↔ (length bytes.now < at) }
-    ensures pattern { (result ≡ 17) ↔ ((at ≤ length bytes.now) × IsNoPattern pattern.now) }
-    ensures answers { IsOneOf (0 ∷ 18 ∷ 17 ∷ []) result }
+    ensures piece { result ≡ done → IsFirstPiece pattern.now bytes.now at piece.new }
+    ensures index { (result ≡ no_index) ↔ (length bytes.now < at) }
+    ensures pattern { (result ≡ no_pattern) ↔ ((at ≤ length bytes.now) × IsNoPattern pattern.now) }
+    ensures answers { IsOneOf (done ∷ no_index ∷ no_pattern ∷ []) result }
 {
     if at > bytes.len() {
         return NO_INDEX;
@@ -41,10 +42,10 @@ pub extern "C" fn osb_core_cut(bytes: &[u8], pattern: &[u8], at: usize, piece: &
 /// The last piece of what comes before an index, between the occurrences of the pattern.
 #[unsafe(no_mangle)]
 pub extern "C" fn osb_core_rcut(bytes: &[u8], pattern: &[u8], at: usize, piece: &mut Piece) -> u32
-    ensures piece { result ≡ 0 → IsLastPiece pattern.now bytes.now at piece.new }
-    ensures index { (result ≡ 18) ↔ (length bytes.now < at) }
-    ensures pattern { (result ≡ 17) ↔ ((at ≤ length bytes.now) × IsNoPattern pattern.now) }
-    ensures answers { IsOneOf (0 ∷ 18 ∷ 17 ∷ []) result }
+    ensures piece { result ≡ done → IsLastPiece pattern.now bytes.now at piece.new }
+    ensures index { (result ≡ no_index) ↔ (length bytes.now < at) }
+    ensures pattern { (result ≡ no_pattern) ↔ ((at ≤ length bytes.now) × IsNoPattern pattern.now) }
+    ensures answers { IsOneOf (done ∷ no_index ∷ no_pattern ∷ []) result }
 {
     if at > bytes.len() {
         return NO_INDEX;

@@ -3,6 +3,7 @@ ghost use Rattle.std.specs.Prelude.{◌≡◌, ◌≤◌, ◌<◌, ◌+◌, ◌^
 ghost use Rattle.osbytes_c.specs.Answers.{IsOneOf};
 ghost use Rattle.osbytes_c.specs.Fills.{Fills, IsOutside, LastPieceViews, PieceViews};
 ghost use Rattle.osbytes_c.specs.Steps.{IsNoPattern};
+ghost use Rattle.osbytes_c.specs.Statuses.{done, no_index, no_pattern};
 
 use crate::status::{DONE, NO_INDEX, NO_PATTERN};
 use crate::walks::split::{first_edge, last_edge, pattern_text};
@@ -19,12 +20,12 @@ pub extern "C" fn osb_core_split_fill(
     out: &mut [View],
     filled: &mut Filled,
 ) -> u32
-    ensures pieces { result ≡ 0 → Fills (PieceViews pattern.now bytes.now address at) out.old
+    ensures pieces { result ≡ done → Fills (PieceViews pattern.now bytes.now address at) out.old
         out.new filled.new }
-    ensures index { (result ≡ 18) ↔ IsOutside address at bytes.now }
-    ensures pattern { (result ≡ 17) ↔ ((¬ (IsOutside address at bytes.now))
+    ensures index { (result ≡ no_index) ↔ IsOutside address at bytes.now }
+    ensures pattern { (result ≡ no_pattern) ↔ ((¬ (IsOutside address at bytes.now))
         × IsNoPattern pattern.now) }
-    ensures answers { IsOneOf (0 ∷ 18 ∷ 17 ∷ []) result }
+    ensures answers { IsOneOf (done ∷ no_index ∷ no_pattern ∷ []) result }
 {
     if is_outside(bytes, at, address) {
         return NO_INDEX;
@@ -46,12 +47,12 @@ pub extern "C" fn osb_core_rsplit_fill(
     out: &mut [View],
     filled: &mut Filled,
 ) -> u32
-    ensures pieces { result ≡ 0 → Fills (LastPieceViews pattern.now bytes.now address at) out.old
+    ensures pieces { result ≡ done → Fills (LastPieceViews pattern.now bytes.now address at) out.old
         out.new filled.new }
-    ensures index { (result ≡ 18) ↔ IsOutside address at bytes.now }
-    ensures pattern { (result ≡ 17) ↔ ((¬ (IsOutside address at bytes.now))
+    ensures index { (result ≡ no_index) ↔ IsOutside address at bytes.now }
+    ensures pattern { (result ≡ no_pattern) ↔ ((¬ (IsOutside address at bytes.now))
         × IsNoPattern pattern.now) }
-    ensures answers { IsOneOf (0 ∷ 18 ∷ 17 ∷ []) result }
+    ensures answers { IsOneOf (done ∷ no_index ∷ no_pattern ∷ []) result }
 {
     if is_outside(bytes, at, address) {
         return NO_INDEX;

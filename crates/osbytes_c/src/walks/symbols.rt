@@ -7,6 +7,7 @@ ghost use Rattle.osbytes_c.specs.Answers.{IsOneOf};
 ghost use Rattle.osbytes_c.specs.Faults.{IsString, IsUnstring};
 ghost use Rattle.osbytes_c.specs.SymbolFills.{IsSymbolStep};
 ghost use Rattle.osbytes_c.specs.Steps.{IsSymbolAt, IsFirstOf, IsSurrogatePrefix, StartsWithNoSymbol, StartsWithSymbol, step_after};
+ghost use Rattle.osbytes_c.specs.Statuses.{done, ended, faulty, no_index, no_platform};
 
 use crate::status::{DONE, ENDED, FAULTY, NO_INDEX, NO_PLATFORM};
 use crate::strings::unix;
@@ -28,18 +29,18 @@ pub struct Step {
 /// The first symbol of what comes after an index, if that is a string of the platform.
 #[unsafe(no_mangle)]
 pub extern "C" fn osb_core_symbol(platform: u32, bytes: &[u8], at: usize, symbol: &mut Step) -> u32
-    ensures symbol { result ≡ 0 → IsString platform (drop at bytes.now) → IsSymbolAt platform
+    ensures symbol { result ≡ done → IsString platform (drop at bytes.now) → IsSymbolAt platform
         bytes.now at symbol.new }
-    ensures first { result ≡ 0 → StartsWithSymbol platform (drop at bytes.now)
+    ensures first { result ≡ done → StartsWithSymbol platform (drop at bytes.now)
         (step_after at symbol.new) }
-    ensures within { result ≡ 0 → (at < symbol.new.end) × (symbol.new.end ≤ length bytes.now) }
-    ensures fault { result ≡ 1 → IsUnstring platform (drop at bytes.now) }
-    ensures none { (result ≡ 1) ↔ ((at < length bytes.now)
+    ensures within { result ≡ done → (at < symbol.new.end) × (symbol.new.end ≤ length bytes.now) }
+    ensures fault { result ≡ faulty → IsUnstring platform (drop at bytes.now) }
+    ensures none { (result ≡ faulty) ↔ ((at < length bytes.now)
         × StartsWithNoSymbol platform (drop at bytes.now)) }
-    ensures index { (result ≡ 18) ↔ ((platform ≤ 2) × (length bytes.now < at)) }
-    ensures ended { (result ≡ 4) ↔ ((platform ≤ 2) × (at ≡ length bytes.now)) }
-    ensures platform { (result ≡ 16) ↔ (2 < platform) }
-    ensures answers { IsOneOf (0 ∷ 1 ∷ 18 ∷ 4 ∷ 16 ∷ []) result }
+    ensures index { (result ≡ no_index) ↔ ((platform ≤ 2) × (length bytes.now < at)) }
+    ensures ended { (result ≡ ended) ↔ ((platform ≤ 2) × (at ≡ length bytes.now)) }
+    ensures platform { (result ≡ no_platform) ↔ (2 < platform) }
+    ensures answers { IsOneOf (done ∷ faulty ∷ no_index ∷ ended ∷ no_platform ∷ []) result }
 {
     if platform > 2 {
         return NO_PLATFORM;

@@ -5,6 +5,7 @@ ghost use Rattle.osbytes_c.specs.Faults.{IsUnstring};
 ghost use Rattle.osbytes_c.specs.Fills.{Fills, IsOutside};
 ghost use Rattle.osbytes_c.specs.SymbolFills.{IsStuck, IsSymbolStep, ShowsSymbol, SymbolViews};
 ghost use Rattle.osbytes_c.specs.Steps.{StartsWithNoSymbol};
+ghost use Rattle.osbytes_c.specs.Statuses.{done, ended, faulty, no_index, no_platform};
 
 use crate::status::{DONE, ENDED, FAULTY, NO_INDEX, NO_PLATFORM};
 use crate::walks::symbols::{Step, symbol_after};
@@ -33,15 +34,15 @@ pub extern "C" fn osb_core_symbols_fill(
     out: &mut [SymbolView],
     filled: &mut Filled,
 ) -> u32
-    ensures symbols { result ≡ 0 → Fills (SymbolViews platform bytes.now address at) out.old
+    ensures symbols { result ≡ done → Fills (SymbolViews platform bytes.now address at) out.old
         out.new filled.new }
-    ensures fault { result ≡ 1 → IsUnstring platform (drop at bytes.now) }
-    ensures stuck { result ≡ 1 → IsStuck platform bytes.now address at (length out.old) }
-    ensures index { (result ≡ 18) ↔ ((platform ≤ 2) × IsOutside address at bytes.now) }
-    ensures ended { (result ≡ 4) ↔ ((platform ≤ 2) × ((¬ (IsOutside address at bytes.now))
+    ensures fault { result ≡ faulty → IsUnstring platform (drop at bytes.now) }
+    ensures stuck { result ≡ faulty → IsStuck platform bytes.now address at (length out.old) }
+    ensures index { (result ≡ no_index) ↔ ((platform ≤ 2) × IsOutside address at bytes.now) }
+    ensures ended { (result ≡ ended) ↔ ((platform ≤ 2) × ((¬ (IsOutside address at bytes.now))
         × (at ≡ length bytes.now))) }
-    ensures platform { (result ≡ 16) ↔ (2 < platform) }
-    ensures answers { IsOneOf (0 ∷ 1 ∷ 18 ∷ 4 ∷ 16 ∷ []) result }
+    ensures platform { (result ≡ no_platform) ↔ (2 < platform) }
+    ensures answers { IsOneOf (done ∷ faulty ∷ no_index ∷ ended ∷ no_platform ∷ []) result }
 {
     if platform > 2 {
         return NO_PLATFORM;
