@@ -8,8 +8,6 @@ ignore file: 5,000 paths. A second file has what git prints with `core.ignorecas
 5,000 paths too. There each letter of a name or a line is small or capital by chance, and more classes have letters.
 """
 
-from __future__ import annotations
-
 import os
 import random
 import shutil
