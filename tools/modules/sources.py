@@ -152,6 +152,14 @@ def reached(at: Path_) -> set[Path_]:
     return items
 
 
+def doc_before(lines: list[str], at: int) -> list[str]:
+    """Returns the doc comment before a line."""
+    start = at
+    while start and (DOC.fullmatch(lines[start - 1]) or lines[start - 1].lstrip().startswith("#[")):
+        start -= 1
+    return [found[1] for line in lines[start:at] if (found := DOC.fullmatch(line))]
+
+
 class Call(NamedTuple):
     """A function of a file: where its head begins (a line counted from 0), and what it belongs to."""
 
@@ -173,10 +181,7 @@ class Call(NamedTuple):
     @property
     def doc(self) -> list[str]:
         """Its doc comment, line by line."""
-        start = self.at
-        while start and (DOC.fullmatch(self.lines[start - 1]) or self.lines[start - 1].lstrip().startswith("#[")):
-            start -= 1
-        return [found[1] for line in self.lines[start : self.at] if (found := DOC.fullmatch(line))]
+        return doc_before(self.lines, self.at)
 
     @property
     def has_example(self) -> bool:
