@@ -1,7 +1,5 @@
 """Commands in an empty environment, on an unpacked archive, as a user without the kit runs them."""
 
-from __future__ import annotations
-
 import re
 import subprocess
 from pathlib import Path

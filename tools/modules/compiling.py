@@ -96,9 +96,9 @@ def is_built(name: str) -> bool:
     return build_of(built(name)) == build_of(toolchain() / "rlibs" / "std.rlib")
 
 
-def files_of(name: str) -> list[Path]:
-    """Returns the files that a crate is compiled from."""
-    folders = (CRATES / name / part for part in PARTS)
+def files_of(name: str, top: Path = ROOT) -> list[Path]:
+    """Returns the files that a crate of a repository is compiled from."""
+    folders = (top / "crates" / name / part for part in PARTS)
     return [path for folder in folders for path in sorted(folder.rglob("*")) if path.is_file()]
 
 

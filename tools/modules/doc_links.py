@@ -5,15 +5,13 @@ below it. Each further part is an item of the module, or a member of the type, b
 examined.
 """
 
-from __future__ import annotations
-
 import re
 from collections import defaultdict
 from functools import cache
 from pathlib import Path
 from typing import Iterator
 
-from sources import CRATES, DOC, Path_, calls_of, crates, name_in, resolved, without_parameters
+from sources import CRATES, DOC, Path_, calls_of, crates, file_of, name_in, resolved, without_parameters
 
 LINK = re.compile(r"\[`([^`\]]+)`\](?![(:])|\]\(([^)\s]*)\)|^ *\[`[^`\]]+`\]: (\S+)$")
 # A link whose target is in a line of its own.
@@ -61,11 +59,6 @@ def module_of(path: Path) -> Path_:
     """Returns the path of the module that a file is."""
     crate, _, *inner = path.relative_to(CRATES).with_suffix("").parts
     return (crate,) if inner in (["lib"], ["main"]) else (crate, *inner)
-
-
-def file_of(module: Path_) -> Path:
-    crate, *inner = module
-    return CRATES.joinpath(crate, "src", *(inner or ["lib"])).with_suffix(".rt")
 
 
 def leads(path: Path, link: str) -> bool:

@@ -4,8 +4,6 @@ An example is a fenced block of a doc comment. It is the body of a test, which h
 and its allocator `alloc`; its `use` lines come first. Each is a test in a module of its own.
 """
 
-from __future__ import annotations
-
 import re
 from pathlib import Path
 from typing import Iterator, NamedTuple

@@ -15,7 +15,7 @@ from typing import Iterator, NamedTuple
 
 from compiling import CRATES, LIST, PARTS, built, is_current, stamp_beside, stamps
 from replacing import copy_folder
-from sources import ROOT
+from sources import ROOT, libraries
 
 PROJECT = "os_str_bytes"
 # The program logic that the libraries are proved in, as `rt version` ends.
@@ -77,20 +77,9 @@ def sum_of_checkout() -> str:
     return sum.hexdigest()
 
 
-def libraries() -> list[str]:
-    """Returns the libraries that users get, lowest first: the first group of crates.txt."""
-    return list(lines_of(LIST.read_text(encoding="utf-8").split("\n\n")[0]))
-
-
 def lines_of(text: str) -> dict[str, str]:
     """Returns the lines of a crates.txt by the crates that they name, without comments."""
     return {row[1]: row[0].strip() for row in re.finditer(r"^(\w+)[^:\n#]*:[^\n#]*", text, re.M)}
-
-
-def sources(top: Path, name: str) -> list[Path]:
-    """Returns the files that a library of a repository is made from."""
-    folders = (top / "crates" / name / part for part in PARTS)
-    return [path for folder in folders for path in sorted(folder.rglob("*")) if path.is_file()]
 
 
 def sum_of(path: Path) -> str:

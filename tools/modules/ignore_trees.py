@@ -8,8 +8,6 @@ ignore file: 5,000 paths. A second file has what git prints with `core.ignorecas
 5,000 paths too. There each letter of a name or a line is small or capital by chance, and more classes have letters.
 """
 
-from __future__ import annotations
-
 import os
 import random
 import shutil
@@ -57,7 +55,7 @@ def ignore_file(names: list[bytes], folds: bool) -> bytes:
 def make_tree(top: bytes, depth: int, folds: bool) -> None:
     for name in random.sample(NAMES, random.randrange(1, 5)):
         path = os.path.join(top, mixed(name, folds))
-        if depth and random.random() < 0.6:
+        if depth and random.random() < 0.6 and not os.path.isfile(path):
             os.makedirs(path, exist_ok=True)
             make_tree(path, depth - 1, folds)
         elif not os.path.exists(path):

@@ -4,8 +4,6 @@ A tool that leaves something out prints a line, and writes it into the file that
 ./test --all keeps these lines in out/passed, and tools/release/release fails if there are any.
 """
 
-from __future__ import annotations
-
 import os
 
 

@@ -1,7 +1,5 @@
 """The released file of the Rattle libraries, with documents and with tools/release/use, which copies them."""
 
-from __future__ import annotations
-
 import re
 import shutil
 import tempfile

@@ -1,16 +1,8 @@
 """Calls of path_rules and path_building, made by the program test_path_calls of tests/."""
 
-from __future__ import annotations
+from typing import NamedTuple
 
-import os
-import tempfile
-from contextlib import contextmanager
-from pathlib import Path
-from typing import Iterator, NamedTuple
-
-from laid_in import PROGRAMS_AT, run_program
-
-PROGRAM = "test_path_calls"
+from laid_in import rows_of
 
 
 class Call(NamedTuple):
@@ -22,28 +14,7 @@ class Call(NamedTuple):
     expected: bytes | str = b""
 
 
-@contextmanager
-def compiled_once() -> Iterator[None]:
-    """Keeps the program until the end, if the gate hasn't compiled it."""
-    with tempfile.TemporaryDirectory(prefix=f"{PROGRAM}-") as folder:
-        is_own = PROGRAMS_AT not in os.environ
-        os.environ.setdefault(PROGRAMS_AT, folder)
-        try:
-            yield
-        finally:
-            if is_own:
-                del os.environ[PROGRAMS_AT]
-
-
 def returned(calls: list[Call]) -> list[bytes | str]:
     """Returns what each call returned."""
     lines = ("\t".join([call.name, call.platform, *(path.hex() for path in call.paths)]) for call in calls)
-    with tempfile.TemporaryDirectory() as folder:
-        given = Path(folder, "calls")
-        given.write_text("".join(f"{line}\n" for line in lines), encoding="ascii")
-        run = run_program(PROGRAM, {"calls": given})
-    found = run.stdout.splitlines()
-    if run.returncode or len(found) != len(calls):
-        said = run.stderr.strip()[-2000:]
-        raise SystemExit(f"{PROGRAM}: FAILED: it printed {len(found)} lines for {len(calls)} calls: {said}")
-    return [line if line.startswith("!") else bytes.fromhex(line) for line in found]
+    return [row if row.startswith("!") else bytes.fromhex(row) for row in rows_of("test_path_calls", "calls", lines)]

@@ -4,8 +4,6 @@ A table has the program's commands, its options with the commands that take them
 An operand is a word in capitals: PLATFORM and TO are one of three, the name of a file is completed, any other isn't.
 """
 
-from __future__ import annotations
-
 import re
 import tomllib
 from functools import cache

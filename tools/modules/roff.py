@@ -1,7 +1,5 @@
 """Texts in roff, the language of man pages."""
 
-from __future__ import annotations
-
 import re
 
 from handed_on import version

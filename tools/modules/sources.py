@@ -8,6 +8,7 @@ from __future__ import annotations
 
 import os
 import re
+import sys
 from functools import cache
 from pathlib import Path
 from typing import Iterator, NamedTuple
@@ -34,6 +35,12 @@ TYPE = re.compile(r"(?:pub )?(?:trait|struct|enum) (\w+)")
 ALIAS = re.compile(r"pub type (\w+)<.*> = (\w+)<")
 IMPL = re.compile(r"impl\b(.*?)(?: \{.*)?$")
 DERIVE = re.compile(r"#\[derive(?:_where)?\(([\w, ]+)")
+
+
+def usage(text: str) -> int:
+    """Prints how a tool is used, and returns the status for that."""
+    print(text, file=sys.stderr)
+    return 2
 
 
 def processors() -> int:
@@ -65,6 +72,11 @@ def product() -> list[str]:
     return [name for name in listed(before) if root_of(name).exists()]
 
 
+def libraries() -> list[str]:
+    """Returns the libraries that users link, lowest first: the first group of crates.txt."""
+    return list(listed(LIST.read_text(encoding="utf-8").split("\n\n")[0]))
+
+
 def root_of(crate: str) -> Path:
     """Returns the root file of a library."""
     return CRATES / crate / "src" / "lib.rt"
@@ -78,11 +90,15 @@ def files_of(crate: str) -> list[Path]:
 Path_ = tuple[str, ...]
 
 
+def file_of(at: Path_) -> Path:
+    """Returns the file that a module would be."""
+    crate, *inner = at
+    return CRATES.joinpath(crate, "src", *(inner or ["lib"])).with_suffix(".rt")
+
+
 def source(at: Path_) -> str:
     """Returns the source of a module; of what is none, nothing."""
-    crate, *inner = at
-    path = CRATES.joinpath(crate, "src", *(inner or ["lib"])).with_suffix(".rt")
-    return path.read_text(encoding="utf-8") if path.exists() else ""
+    return file_of(at).read_text(encoding="utf-8") if file_of(at).exists() else ""
 
 
 def uses(text: str) -> list[tuple[list[str], str]]:
@@ -136,6 +152,14 @@ def reached(at: Path_) -> set[Path_]:
     return items
 
 
+def doc_before(lines: list[str], at: int) -> list[str]:
+    """Returns the doc comment before a line."""
+    start = at
+    while start and (DOC.fullmatch(lines[start - 1]) or lines[start - 1].lstrip().startswith("#[")):
+        start -= 1
+    return [found[1] for line in lines[start:at] if (found := DOC.fullmatch(line))]
+
+
 class Call(NamedTuple):
     """A function of a file: where its head begins (a line counted from 0), and what it belongs to."""
 
@@ -157,10 +181,7 @@ class Call(NamedTuple):
     @property
     def doc(self) -> list[str]:
         """Its doc comment, line by line."""
-        start = self.at
-        while start and (DOC.fullmatch(self.lines[start - 1]) or self.lines[start - 1].lstrip().startswith("#[")):
-            start -= 1
-        return [found[1] for line in self.lines[start : self.at] if (found := DOC.fullmatch(line))]
+        return doc_before(self.lines, self.at)
 
     @property
     def has_example(self) -> bool:

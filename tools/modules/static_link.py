@@ -1,7 +1,5 @@
 """The proved programs, linked with musl, so that they run on each Linux on x86-64 and need no library."""
 
-from __future__ import annotations
-
 import struct
 import subprocess
 import tempfile

@@ -4,8 +4,6 @@ Archives are extracted into a temporary folder, deep below its top, by a process
 a name with `..` nor one with a root can write outside: what appears beside the folder is found and reported too.
 """
 
-from __future__ import annotations
-
 import io
 import multiprocessing
 import os

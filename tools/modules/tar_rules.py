@@ -1,7 +1,5 @@
 """Archives by rule: each spelling of a number, each type, each order of headers, each end."""
 
-from __future__ import annotations
-
 from itertools import product
 from typing import Callable, Iterator
 

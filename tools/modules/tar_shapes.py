@@ -1,11 +1,9 @@
 """Archives at random: headers that readers read in different ways, in any order."""
 
-from __future__ import annotations
-
 import random
 from typing import Iterator
 
-from tar_blocks import END, GNU, INNER, STEPS, USTAR, V7, Archive, entry, header, long_name, member, padded, pax
+from tar_blocks import END, GNU, INNER, STEPS, USTAR, V7, Archive, entry, header, long_name, member, pax
 from tar_rules import SIZES
 
 RANDOM = 200

@@ -1,7 +1,5 @@
 """Ordinary archives, as the tar programs of the machine write them."""
 
-from __future__ import annotations
-
 import io
 import os
 import shutil

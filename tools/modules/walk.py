@@ -5,8 +5,6 @@ built over the libraries that are used now. Its interface is what the crates abo
 its types, definitions and lemma files, as the prover writes them beside the proofs.
 """
 
-from __future__ import annotations
-
 import hashlib
 import json
 import os
