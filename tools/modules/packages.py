@@ -178,10 +178,12 @@ def documents(places: dict[str, str]) -> dict[str, Entry]:
     return {to: Entry((with_links(texts[path], path, places) if path.endswith(".md") else texts[path]).encode()) for path, to in there.items()}
 
 
-def with_sums(entries: dict[str, Entry], place: str) -> dict[str, Entry]:
-    """Returns the files of an archive, and at a place in it one with their sums."""
+def finished(entries: dict[str, Entry], project: str, mark: Mark = PASSED) -> dict[str, Entry]:
+    """Returns the files of an archive, with the note of a mark before the page at its top, and one with their sums."""
+    page = entries["README.md"]
+    entries = {**entries, "README.md": page._replace(content=mark.note.encode() + page.content)}
     sums = "".join(f"{hashlib.sha256(entry.content).hexdigest()}  {path}\n" for path, entry in entries.items() if not entry.link)
-    return {**entries, place: Entry(sums.encode())}
+    return {**entries, f"share/doc/{project}/SHA256SUMS": Entry(sums.encode())}
 
 
 def library_entries(built: Path) -> dict[str, Entry]:
@@ -196,24 +198,17 @@ def library_entries(built: Path) -> dict[str, Entry]:
     }
     for name, text in man_pages().items():
         entries[f"share/man/man3/{name}.3"] = Entry(text.encode())
-    return with_sums(entries, "share/doc/osbytes/SHA256SUMS")
-
-
-def marked(entries: dict[str, Entry], mark: Mark) -> dict[str, Entry]:
-    """Returns the files of an archive, with the note of a mark before the page at its top."""
-    page = entries["README.md"]
-    return {**entries, "README.md": page._replace(content=mark.note.encode() + page.content)}
+    return entries
 
 
 def windows_entries(built: Path) -> dict[str, Entry]:
     """Returns what the archive has of a library that is built for Windows in a folder, by paths in it."""
-    entries = {
+    return {
         **documents(DOCUMENTS),
         "bin/osbytes.dll": Entry((built / "osbytes.dll").read_bytes(), 0o755),
         **{f"lib/{name}": Entry((built / name).read_bytes()) for name in ("libosbytes.a", "libosbytes.dll.a", "osbytes.lib")},
         **{path: Entry(text.encode()) for path, text in found_by("Windows").items()},
     }
-    return with_sums(entries, "share/doc/osbytes/SHA256SUMS")
 
 
 def zip_entries(folder: Path, top: str, entries: dict[str, Entry]) -> Path:
@@ -243,7 +238,8 @@ def pack_entries(folder: Path, top: str, entries: dict[str, Entry]) -> Path:
 
 def make_archive(built: Path, folder: Path, processor: str, mark: Mark = PASSED) -> Path:
     """Makes the archive of a library that is built in a folder."""
-    return pack_entries(folder, f"libosbytes-{version()}{mark.label}-linux-{processor}", marked(library_entries(built), mark))
+    entries = finished(library_entries(built), "osbytes", mark)
+    return pack_entries(folder, f"libosbytes-{version()}{mark.label}-linux-{processor}", entries)
 
 
 def make_wheel(built: Path, folder: Path, processor: str, mark: Mark = PASSED) -> Path:
@@ -254,7 +250,7 @@ def make_wheel(built: Path, folder: Path, processor: str, mark: Mark = PASSED) -
 
 def make_for_windows(built: Path, folder: Path) -> list[Path]:
     """Makes the archive and the wheel of a library that is built for Windows in a folder."""
-    archive = zip_entries(folder, f"libosbytes-{version()}-windows-x86_64", windows_entries(built))
+    archive = zip_entries(folder, f"libosbytes-{version()}-windows-x86_64", finished(windows_entries(built), "osbytes"))
     return [archive, build_backend.make_wheel(folder, built / "osbytes.dll", WINDOWS_TAG)]
 
 
@@ -290,10 +286,11 @@ def program_entries(programs: dict[str, bytes]) -> dict[str, Entry]:
     entries = {**documents(PROGRAM_DOCUMENTS), **{f"bin/{name}": Entry(content, 0o755) for name, content in programs.items()}}
     for name in PROGRAMS:
         entries |= {f"share/{path}": Entry(text.encode()) for path, text in files_of(name).items()}
-    return with_sums(entries, "share/doc/osbytes-programs/SHA256SUMS")
+    return entries
 
 
 def make_programs(places: dict[str, Path], folder: Path, mark: Mark = PASSED) -> Path:
     """Makes the archive of the programs, which are at these places, for Linux on x86-64."""
     programs = {name: place.read_bytes() for name, place in places.items()}
-    return pack_entries(folder, f"osbytes-programs-{version()}{mark.label}-linux-x86_64", marked(program_entries(programs), mark))
+    entries = finished(program_entries(programs), "osbytes-programs", mark)
+    return pack_entries(folder, f"osbytes-programs-{version()}{mark.label}-linux-x86_64", entries)
