@@ -656,7 +656,8 @@ pub trait PathExt<'a>: Sized + Copy {
     /// - `Incomplete` if a name after the Windows path would be read as a part of its beginning, as
     ///   after `\\server` ([`path_building::Base::new`]).
     /// - `Reserved` if a name of the Windows path is reserved ([`PathExt::is_reserved`]), as `C:\nul`,
-    ///   and `C:\a `, which Windows reads as `C:\a`. After `\\?\` none is.
+    ///   and `C:\a `, which Windows reads as `C:\a`. After `\\?\` only an empty name is and one with a
+    ///   `/`, as in `\\?\C:\a\\b` and `\\?\C:/a`.
     ///
     /// ```
     /// use os_path::{BaseError, PathExt, path};
