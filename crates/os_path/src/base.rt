@@ -5,9 +5,10 @@ ghost use Rattle.path_building.specs.Checked.{IsBelowBase, IsCheckedJoin};
 ghost use Rattle.path_building.specs.Faults.{IsBaseFault, IsNameFault};
 ghost use Rattle.std.specs.Prelude.{◌≡◌, IfErr, IfOk};
 
+use crate::made::path_of;
 use crate::style::PathStyle;
 use path_building::{BaseError, NameError};
-use platform_str::{OsString, Path, PathBuf};
+use platform_str::{Path, PathBuf};
 use std::alloc::{AllocError, Allocator};
 use std::marker::PhantomData;
 
@@ -89,7 +90,7 @@ impl<'a, E: PathStyle> Base<'a, E> {
             (λ error. IsNameFault E.follows (path_bytes path.entry) error) }
     {
         match self.base.join(alloc, path.as_os_str().as_encoded_bytes()) {
-            Ok(joined) => Ok(PathBuf::from(OsString::from_encoded_bytes_unchecked(joined))),
+            Ok(joined) => Ok(path_of(joined)),
             Err(error) => Err(error),
         }
     }

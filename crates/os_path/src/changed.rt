@@ -6,8 +6,9 @@ ghost use Rattle.path_building.specs.Join.{IsJoin};
 ghost use Rattle.path_building.specs.FileName.{IsNamed, IsExtensionSet, IsExtensionAdded};
 ghost use Rattle.path_rules.specs.Name.{IsExtensionText};
 
+use crate::made::path_of;
 use crate::style::PathStyle;
-use platform_str::{OsStr, OsString, Path, PathBuf};
+use platform_str::{OsStr, Path, PathBuf};
 use std::alloc::{AllocError, Allocator};
 
 /// The path after a path was pushed, and whether it could be.
@@ -21,10 +22,7 @@ pub(crate) fn pushed<E: PathStyle, A: Allocator + Clone>(
 {
     let mut vec = path.into_os_string().into_encoded_bytes();
     let outcome = path_building::push(E::style(), &mut vec, more.as_os_str().as_encoded_bytes());
-    (
-        PathBuf::from(OsString::from_encoded_bytes_unchecked(vec)),
-        outcome,
-    )
+    (path_of(vec), outcome)
 }
 
 /// The path without its last component, and whether it had a parent.
@@ -39,17 +37,11 @@ pub(crate) fn popped<E: PathStyle, A: Allocator>(
 {
     let mut vec = path.into_os_string().into_encoded_bytes();
     let Some(parent) = path_rules::parent(E::style(), vec.as_slice()) else {
-        return (
-            PathBuf::from(OsString::from_encoded_bytes_unchecked(vec)),
-            false,
-        );
+        return (path_of(vec), false);
     };
     let len = parent.len();
     vec.truncate(len);
-    (
-        PathBuf::from(OsString::from_encoded_bytes_unchecked(vec)),
-        true,
-    )
+    (path_of(vec), true)
 }
 
 /// The path with another last name, and whether it could get it.
@@ -63,10 +55,7 @@ pub(crate) fn named<E: PathStyle, A: Allocator + Clone>(
 {
     let mut vec = path.into_os_string().into_encoded_bytes();
     let outcome = path_building::set_file_name(E::style(), &mut vec, name.as_encoded_bytes());
-    (
-        PathBuf::from(OsString::from_encoded_bytes_unchecked(vec)),
-        outcome,
-    )
+    (path_of(vec), outcome)
 }
 
 /// The path with another extension, and whether it has a last name.
@@ -81,10 +70,7 @@ pub(crate) fn with_extension_set<E: PathStyle, A: Allocator>(
 {
     let mut vec = path.into_os_string().into_encoded_bytes();
     let outcome = path_building::set_extension(E::style(), &mut vec, extension.as_encoded_bytes());
-    (
-        PathBuf::from(OsString::from_encoded_bytes_unchecked(vec)),
-        outcome,
-    )
+    (path_of(vec), outcome)
 }
 
 /// The path with one more extension, and whether it has a last name.
@@ -99,8 +85,5 @@ pub(crate) fn with_extension_added<E: PathStyle, A: Allocator>(
 {
     let mut vec = path.into_os_string().into_encoded_bytes();
     let outcome = path_building::add_extension(E::style(), &mut vec, extension.as_encoded_bytes());
-    (
-        PathBuf::from(OsString::from_encoded_bytes_unchecked(vec)),
-        outcome,
-    )
+    (path_of(vec), outcome)
 }

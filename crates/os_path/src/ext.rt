@@ -5,7 +5,7 @@ ghost use Rattle.path_building.specs.Join.{IsJoin};
 ghost use Rattle.path_building.specs.FileName.{IsNamed, IsExtensionSet, IsExtensionAdded};
 ghost use Rattle.path_building.specs.FileStem.{IsStemSet};
 ghost use Rattle.path_building.specs.Trailing.{IsWithTrailingSep};
-ghost use Rattle.path_rules.specs.Name.{IsExtensionText};
+ghost use Rattle.path_rules.specs.Name.{IsExtension, IsExtensionText, HasNoExtension};
 ghost use Rattle.path_rules.specs.Components.{AreComponents};
 ghost use Rattle.path_rules.specs.Parent.{IsParent, HasNoParent, HasFileName, HasNoFileName};
 ghost use Rattle.path_rules.specs.Root.{HasRoot, IsAbsolute};
@@ -34,18 +34,17 @@ ghost use Rattle.os_path.specs.Names.{HasFileStem, HasFilePrefix, HasExtension, 
 
 use crate::ancestors::Ancestors;
 use crate::base::Base;
-use crate::components::Components;
+use crate::compared::{are_equal, order};
+use crate::components::{Components, name_of};
 use crate::iter::Iter;
-use crate::reserved::is_reserved_path;
+use crate::made::{part, path_of};
+use crate::prefixes::prefix_of;
+use crate::reserved::has_reserved_name;
 use crate::style::PathStyle;
-use crate::styles::ConvertError;
-use crate::{
-    built, checked, compared, full_paths, normal, parts, prefixes, relative, simplify, stripped,
-    styles,
-};
-use path_building::{AbsoluteError, BaseError, JoinError, NormalizeError};
+use crate::styles::{ConvertError, checked};
+use path_building::{AbsoluteError, BaseError, JoinError, NormalizeError, StyleError};
 use path_rules::Prefix;
-use platform_str::{OsStr, Path, PathBuf};
+use platform_str::{OsStr, Path, PathBuf, Platform};
 use std::alloc::{AllocError, Allocator};
 use std::cmp::Ordering;
 
@@ -132,8 +131,8 @@ pub trait PathExt<'a>: Sized + Copy {
         ensures { MatchOption result (HasNoParent Self.Platform.follows (bytes_of self))
             (λ parent. IsParent Self.Platform.follows (bytes_of self) (path_bytes parent)) }
     {
-        match parts::parent(OsStr::from_encoded_bytes_unchecked(self.path_bytes())) {
-            Some(parent) => Some(Path::new(parent)),
+        match path_rules::parent(Self::Platform::style(), self.path_bytes()) {
+            Some(parent) => Some(part(parent)),
             None => None,
         }
     }
@@ -153,7 +152,7 @@ pub trait PathExt<'a>: Sized + Copy {
     final fn ancestors(self) -> Ancestors<'a, Self::Platform>
         ensures { result ≡ Some (bytes_of self) }
     {
-        Ancestors::new(OsStr::from_encoded_bytes_unchecked(self.path_bytes()))
+        Ancestors::new(part(self.path_bytes()))
     }
 
     /// The last component if it is a name (std's `Path::file_name`).
@@ -170,7 +169,10 @@ pub trait PathExt<'a>: Sized + Copy {
         ensures { MatchOption result (HasNoFileName Self.Platform.follows (bytes_of self))
             (λ name. HasFileName Self.Platform.follows (bytes_of self) (bytes name)) }
     {
-        parts::file_name(OsStr::from_encoded_bytes_unchecked(self.path_bytes()))
+        let Some(last) = self.components().next_back() else {
+            return None;
+        };
+        name_of(last)
     }
 
     /// The last name without its extension and the dot before it (std's `Path::file_stem`).
@@ -186,7 +188,11 @@ pub trait PathExt<'a>: Sized + Copy {
         ensures { MatchOption result (HasNoFileName Self.Platform.follows (bytes_of self))
             (λ stem. HasFileStem Self.Platform.follows (bytes_of self) (bytes stem)) }
     {
-        parts::file_stem(OsStr::from_encoded_bytes_unchecked(self.path_bytes()))
+        let Some(name) = self.file_name() else {
+            return None;
+        };
+        let stem = path_rules::stem(name.as_encoded_bytes());
+        Some(OsStr::from_encoded_bytes_unchecked(stem))
     }
 
     /// The last name up to its first dot that isn't its first byte (std's `Path::file_prefix`).
@@ -202,7 +208,11 @@ pub trait PathExt<'a>: Sized + Copy {
         ensures { MatchOption result (HasNoFileName Self.Platform.follows (bytes_of self))
             (λ prefix. HasFilePrefix Self.Platform.follows (bytes_of self) (bytes prefix)) }
     {
-        parts::file_prefix(OsStr::from_encoded_bytes_unchecked(self.path_bytes()))
+        let Some(name) = self.file_name() else {
+            return None;
+        };
+        let prefix = path_rules::name_prefix(name.as_encoded_bytes());
+        Some(OsStr::from_encoded_bytes_unchecked(prefix))
     }
 
     /// What comes after the last dot of the last name, if that dot isn't its first byte (std's
@@ -220,7 +230,10 @@ pub trait PathExt<'a>: Sized + Copy {
         ensures { MatchOption result (LacksExtension Self.Platform.follows (bytes_of self))
             (λ extension. HasExtension Self.Platform.follows (bytes_of self) (bytes extension)) }
     {
-        parts::extension(OsStr::from_encoded_bytes_unchecked(self.path_bytes()))
+        match self.file_name() {
+            Some(name) => extension_of(name),
+            None => None,
+        }
     }
 
     // Prefixes and roots.
@@ -241,7 +254,7 @@ pub trait PathExt<'a>: Sized + Copy {
         ensures { MatchOption result (HasNoPrefix Self.Platform.follows (bytes_of self))
             (λ prefix. HasPrefix Self.Platform.follows (bytes_of self) (os_kind_of prefix)) }
     {
-        prefixes::prefix_of(OsStr::from_encoded_bytes_unchecked(self.path_bytes()))
+        prefix_of(OsStr::from_encoded_bytes_unchecked(self.path_bytes()))
     }
 
     /// Whether the path has a root (std's `Path::has_root`).
@@ -356,9 +369,12 @@ pub trait PathExt<'a>: Sized + Copy {
             (λ rest. (more : List Item) × IsStripped Self.Platform.follows (bytes_of self)
             (path_bytes base.entry) (path_bytes rest) more) }
     {
-        let path = OsStr::from_encoded_bytes_unchecked(self.path_bytes());
-        match stripped::strip_prefix(path, base.as_os_str()) {
-            Some(rest) => Some(Path::new(rest)),
+        match path_rules::strip_prefix(
+            Self::Platform::style(),
+            self.path_bytes(),
+            base.as_os_str().as_encoded_bytes(),
+        ) {
+            Some(rest) => Some(part(rest)),
             None => None,
         }
     }
@@ -377,9 +393,10 @@ pub trait PathExt<'a>: Sized + Copy {
         ensures { IsTrue result
             ↔ HaveAlikeComponents Self.Platform.follows (bytes_of self) (path_bytes other.entry) }
     {
-        compared::equals(
-            OsStr::from_encoded_bytes_unchecked(self.path_bytes()),
-            other.as_os_str(),
+        are_equal(
+            Self::Platform::style(),
+            self.path_bytes(),
+            other.as_os_str().as_encoded_bytes(),
         )
     }
 
@@ -397,9 +414,10 @@ pub trait PathExt<'a>: Sized + Copy {
     final fn compare(self, other: Path<'_, Self::Platform>) -> Ordering
         ensures { IsOrder Self.Platform.follows (bytes_of self) (path_bytes other.entry) result }
     {
-        compared::compare(
-            OsStr::from_encoded_bytes_unchecked(self.path_bytes()),
-            other.as_os_str(),
+        order(
+            Self::Platform::style(),
+            self.path_bytes(),
+            other.as_os_str().as_encoded_bytes(),
         )
     }
 
@@ -418,7 +436,7 @@ pub trait PathExt<'a>: Sized + Copy {
     final fn is_reserved(self) -> bool
         ensures { IsTrue result ↔ IsReservedPath Self.Platform.follows (bytes_of self) }
     {
-        is_reserved_path(OsStr::<Self::Platform>::from_encoded_bytes_unchecked(self.path_bytes()))
+        has_reserved_name(Self::Platform::style(), self.path_bytes())
     }
 
     // Separators at the end.
@@ -452,7 +470,7 @@ pub trait PathExt<'a>: Sized + Copy {
     final fn trim_trailing_sep(self) -> Path<'a, Self::Platform>
         ensures { TrimsTrailing Self.Platform.follows (bytes_of self) (path_bytes result) }
     {
-        Path::new(parts::trim_trailing_sep(OsStr::from_encoded_bytes_unchecked(self.path_bytes())))
+        part(path_rules::trim_trailing_sep(Self::Platform::style(), self.path_bytes()))
     }
 
     // Normal forms.
@@ -478,7 +496,7 @@ pub trait PathExt<'a>: Sized + Copy {
     final fn simplified(self) -> Path<'a, Self::Platform>
         ensures { IsSimplified Self.Platform.follows (bytes_of self) (path_bytes result) }
     {
-        Path::new(simplify::simplified(OsStr::from_encoded_bytes_unchecked(self.path_bytes())))
+        part(path_rules::simplified(Self::Platform::style(), self.path_bytes()))
     }
 
     /// The normal form of the path: the path without `.`, and without each `..` and the name
@@ -516,10 +534,8 @@ pub trait PathExt<'a>: Sized + Copy {
         ensures err { IfErr result
             (λ error. IsNormalizeFault Self.Platform.follows (bytes_of self) error) }
     {
-        normal::normalize(
-            alloc,
-            OsStr::from_encoded_bytes_unchecked(self.path_bytes()),
-        )
+        let made = path_building::normalize(alloc, Self::Platform::style(), self.path_bytes())?;
+        Ok(path_of(made))
     }
 
     /// The path cleaned: without `.`, without each `..` and the name before it, and without a `..`
@@ -554,10 +570,8 @@ pub trait PathExt<'a>: Sized + Copy {
         ensures { IfOk result
             (λ clean. IsCleaned Self.Platform.follows (bytes_of self) (path_vec_of clean).items) }
     {
-        normal::clean(
-            alloc,
-            OsStr::from_encoded_bytes_unchecked(self.path_bytes()),
-        )
+        let made = path_building::clean(alloc, Self::Platform::style(), self.path_bytes())?;
+        Ok(path_of(made))
     }
 
     // What is built.
@@ -586,10 +600,12 @@ pub trait PathExt<'a>: Sized + Copy {
         ensures { IfOk result (λ ended. IsWithTrailingSep Self.Platform.follows (bytes_of self)
             (path_vec_of ended).items) }
     {
-        built::with_trailing_sep(
+        let made = path_building::with_trailing_sep(
             alloc,
-            OsStr::from_encoded_bytes_unchecked(self.path_bytes()),
-        )
+            Self::Platform::style(),
+            self.path_bytes(),
+        )?;
+        Ok(path_of(made))
     }
 
     /// Joins a path to this one, in new memory (std's `Path::join`).
@@ -620,8 +636,13 @@ pub trait PathExt<'a>: Sized + Copy {
         ensures { IfOk result (λ joined. IsJoin Self.Platform.follows (bytes_of self)
             (path_bytes path.entry) (path_vec_of joined).items) }
     {
-        let base = OsStr::from_encoded_bytes_unchecked(self.path_bytes());
-        built::join(alloc, base, path.as_os_str())
+        let made = path_building::join(
+            alloc,
+            Self::Platform::style(),
+            self.path_bytes(),
+            path.as_os_str().as_encoded_bytes(),
+        )?;
+        Ok(path_of(made))
     }
 
     /// Returns the path as a base, below which [`Base::join`] puts names that come out of an archive
@@ -635,7 +656,8 @@ pub trait PathExt<'a>: Sized + Copy {
     /// - `Incomplete` if a name after the Windows path would be read as a part of its beginning, as
     ///   after `\\server` ([`path_building::Base::new`]).
     /// - `Reserved` if a name of the Windows path is reserved ([`PathExt::is_reserved`]), as `C:\nul`,
-    ///   and `C:\a `, which Windows reads as `C:\a`. After `\\?\` none is.
+    ///   and `C:\a `, which Windows reads as `C:\a`. After `\\?\` only an empty name is and one with a
+    ///   `/`, as in `\\?\C:\a\\b` and `\\?\C:/a`.
     ///
     /// ```
     /// use os_path::{BaseError, PathExt, path};
@@ -655,7 +677,7 @@ pub trait PathExt<'a>: Sized + Copy {
         ensures err { IfErr result
             (λ error. IsBaseFault Self.Platform.follows (bytes_of self) error) }
     {
-        Base::new(Path::new(OsStr::from_encoded_bytes_unchecked(self.path_bytes())))
+        Base::new(part(self.path_bytes()))
     }
 
     /// Joins a path to this one that can't leave it, in new memory (typed-path's `join_checked`), as
@@ -701,8 +723,15 @@ pub trait PathExt<'a>: Sized + Copy {
             (λ error. IsJoinFault Self.Platform.follows (bytes_of self) (path_bytes path.entry)
             error) }
     {
-        let base = OsStr::from_encoded_bytes_unchecked(self.path_bytes());
-        checked::join_checked(alloc, base, path.as_os_str())
+        match path_building::join_checked(
+            alloc,
+            Self::Platform::style(),
+            self.path_bytes(),
+            path.as_os_str().as_encoded_bytes(),
+        ) {
+            Ok(made) => Ok(path_of(made)),
+            Err(error) => Err(error),
+        }
     }
 
     /// Returns a path below this one, as [`PathExt::join_checked`] does, and keeps a separator at the
@@ -736,8 +765,15 @@ pub trait PathExt<'a>: Sized + Copy {
             (λ error. IsJoinFault Self.Platform.follows (bytes_of self) (path_bytes path.entry)
             error) }
     {
-        let base = OsStr::from_encoded_bytes_unchecked(self.path_bytes());
-        checked::join_checked_keeping_sep(alloc, base, path.as_os_str())
+        match path_building::join_checked_keeping_sep(
+            alloc,
+            Self::Platform::style(),
+            self.path_bytes(),
+            path.as_os_str().as_encoded_bytes(),
+        ) {
+            Ok(made) => Ok(path_of(made)),
+            Err(error) => Err(error),
+        }
     }
 
     /// Returns the path as an absolute path, in new memory (std's `path::absolute`). A relative path
@@ -788,8 +824,15 @@ pub trait PathExt<'a>: Sized + Copy {
         ensures err { IfErr result (λ error. IsAbsoluteFault Self.Platform.follows
             (bytes_of self) (path_bytes directory.entry) error) }
     {
-        let path = OsStr::from_encoded_bytes_unchecked(self.path_bytes());
-        full_paths::absolute(alloc, path, directory.as_os_str())
+        match path_building::absolute(
+            alloc,
+            Self::Platform::style(),
+            self.path_bytes(),
+            directory.as_os_str().as_encoded_bytes(),
+        ) {
+            Ok(made) => Ok(path_of(made)),
+            Err(error) => Err(error),
+        }
     }
 
     /// Returns the path relative to a base, in new memory (the crate pathdiff's `diff_paths`). The
@@ -827,8 +870,16 @@ pub trait PathExt<'a>: Sized + Copy {
         ensures { IfOk result (λ way. IsRelativeFrom Self.Platform.follows (bytes_of self)
             (path_bytes base.entry) (option_map (λ p. (path_vec_of p).items) way)) }
     {
-        let path = OsStr::from_encoded_bytes_unchecked(self.path_bytes());
-        relative::relative_from(alloc, path, base.as_os_str())
+        let way = path_building::relative_from(
+            alloc,
+            Self::Platform::style(),
+            self.path_bytes(),
+            base.as_os_str().as_encoded_bytes(),
+        )?;
+        match way {
+            Some(way) => Ok(Some(path_of(way))),
+            None => Ok(None),
+        }
     }
 
     /// The path of another platform with the same components, in new memory (typed-path's
@@ -865,8 +916,16 @@ pub trait PathExt<'a>: Sized + Copy {
         ensures err { IfErr result (λ error. IsConvertFault Self.Platform.follows F.follows
             F.first_fault (bytes_of self) error) }
     {
-        let path = OsStr::<Self::Platform>::from_encoded_bytes_unchecked(self.path_bytes());
-        styles::with_style(alloc, path)
+        match path_building::with_style(
+            alloc,
+            Self::Platform::style(),
+            F::style(),
+            self.path_bytes(),
+        ) {
+            Ok(made) => checked(made),
+            Err(StyleError::Component(index)) => Err(ConvertError::Component(index)),
+            Err(StyleError::Memory) => Err(ConvertError::Memory),
+        }
     }
 
     /// The path with another last name, in new memory (std's `Path::with_file_name`): the name is
@@ -892,8 +951,13 @@ pub trait PathExt<'a>: Sized + Copy {
         ensures { IfOk result (λ named. IsNamed Self.Platform.follows (bytes_of self)
             (bytes name.entry) (path_vec_of named).items) }
     {
-        let path = OsStr::from_encoded_bytes_unchecked(self.path_bytes());
-        built::with_file_name(alloc, path, name)
+        let made = path_building::with_file_name(
+            alloc,
+            Self::Platform::style(),
+            self.path_bytes(),
+            name.as_encoded_bytes(),
+        )?;
+        Ok(path_of(made))
     }
 
     /// Returns the path with another stem of its last name, in new memory (CPython's
@@ -926,8 +990,13 @@ pub trait PathExt<'a>: Sized + Copy {
         ensures { IfOk result (λ made. IsStemSet Self.Platform.follows (bytes_of self)
             (bytes stem.entry) (path_vec_of made).items) }
     {
-        let path = OsStr::from_encoded_bytes_unchecked(self.path_bytes());
-        built::with_file_stem(alloc, path, stem)
+        let made = path_building::with_file_stem(
+            alloc,
+            Self::Platform::style(),
+            self.path_bytes(),
+            stem.as_encoded_bytes(),
+        )?;
+        Ok(path_of(made))
     }
 
     /// The path with another extension of its last name, in new memory (std's
@@ -958,8 +1027,13 @@ pub trait PathExt<'a>: Sized + Copy {
             × IsExtensionSet Self.Platform.follows (bytes_of self) (bytes extension.entry)
             (path_vec_of made).items is_set) }
     {
-        let path = OsStr::from_encoded_bytes_unchecked(self.path_bytes());
-        built::with_extension(alloc, path, extension)
+        let made = path_building::with_extension(
+            alloc,
+            Self::Platform::style(),
+            self.path_bytes(),
+            extension.as_encoded_bytes(),
+        )?;
+        Ok(path_of(made))
     }
 
     /// The path with an extension after its last name, in new memory (std's
@@ -990,8 +1064,13 @@ pub trait PathExt<'a>: Sized + Copy {
             × IsExtensionAdded Self.Platform.follows (bytes_of self) (bytes extension.entry)
             (path_vec_of made).items is_added) }
     {
-        let path = OsStr::from_encoded_bytes_unchecked(self.path_bytes());
-        built::with_added_extension(alloc, path, extension)
+        let made = path_building::with_added_extension(
+            alloc,
+            Self::Platform::style(),
+            self.path_bytes(),
+            extension.as_encoded_bytes(),
+        )?;
+        Ok(path_of(made))
     }
 }
 
@@ -1004,5 +1083,16 @@ impl<'a, E: PathStyle + 'a> PathExt<'a> for Path<'a, E> {
 
     fn path_bytes(self) -> &'a [u8] {
         self.as_os_str().as_encoded_bytes()
+    }
+}
+
+/// The extension of a name.
+fn extension_of<'a, E: Platform>(name: OsStr<'a, E>) -> Option<OsStr<'a, E>>
+    ensures { MatchOption result (HasNoExtension (bytes name.entry))
+        (λ extension. (stem : List ℕ) × IsExtension (bytes name.entry) stem (bytes extension)) }
+{
+    match path_rules::extension(name.as_encoded_bytes()) {
+        Some(extension) => Some(OsStr::from_encoded_bytes_unchecked(extension)),
+        None => None,
     }
 }

@@ -21,27 +21,20 @@
 mod ancestors;
 mod base;
 mod buf;
-mod built;
 mod by_components;
 mod changed;
-mod checked;
 mod collected;
 mod common_bases;
 mod compared;
 mod component_ext;
 mod components;
 mod ext;
-mod full_paths;
 mod iter;
 pub mod laws;
 mod literal;
-mod normal;
-mod parts;
+mod made;
 mod prefixes;
-mod relative;
 mod reserved;
-mod simplify;
-mod stripped;
 mod style;
 mod styles;
 

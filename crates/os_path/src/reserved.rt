@@ -5,7 +5,6 @@ ghost use Rattle.path_rules.specs.Reserved.{IsReserved};
 ghost use Rattle.path_rules.specs.Views.{item_of};
 ghost use Rattle.os_path.specs.Reserved.{IsReservedItem, HasReservedItem, IsReservedPath};
 
-use crate::style::PathStyle;
 use path_rules::{Component, Components, Style};
 use platform_str::{OsStr, Platform};
 
@@ -25,15 +24,8 @@ pub fn is_reserved<E: Platform>(name: OsStr<'_, E>) -> bool
     path_rules::is_reserved(name.as_encoded_bytes())
 }
 
-/// Whether a path has a reserved name.
-pub(crate) fn is_reserved_path<E: PathStyle>(path: OsStr<'_, E>) -> bool
-    ensures { IsTrue result ↔ IsReservedPath E.follows (bytes path.entry) }
-{
-    has_reserved_name(E::style(), path.as_encoded_bytes())
-}
-
 /// Whether a path of a style has a reserved name.
-fn has_reserved_name(style: Style, path: &[u8]) -> bool
+pub(crate) fn has_reserved_name(style: Style, path: &[u8]) -> bool
     ensures { IsTrue result ↔ IsReservedPath style path.now }
 {
     match style {

@@ -1,14 +1,12 @@
 //! A path of one platform as a path of another.
 ghost use Rattle.std.specs.Prelude.{◌≡◌, IfOk, IfErr};
-ghost use Rattle.platform_str.specs.Strings.{bytes, path_vec_of};
-ghost use Rattle.path_building.specs.Restyled.{IsRestyled};
+ghost use Rattle.platform_str.specs.Strings.{path_vec_of};
 ghost use Rattle.wtf8_core.specs.declared.fault.EncodingError as of_bytes;
 ghost use Rattle.os_path.specs.declared.styles.ConvertError.TheVariants as why;
-ghost use Rattle.os_path.specs.Converted.{IsConvertFault};
 
+use crate::made::path_of;
 use crate::style::PathStyle;
-use path_building::StyleError;
-use platform_str::{OsStr, OsString, PathBuf, write_number};
+use platform_str::{PathBuf, write_number};
 use std::alloc::Allocator;
 use std::error::Error;
 use std::fmt;
@@ -56,31 +54,16 @@ impl fmt::Display for ConvertError {
 
 impl Error for ConvertError {}
 
-/// The path of another platform with the same components.
-pub(crate) fn with_style<E: PathStyle, F: PathStyle, A: Allocator + Clone>(
-    alloc: A,
-    path: OsStr<'_, E>,
-) -> Result<PathBuf<F, A>, ConvertError>
-    ensures ok { IfOk result (λ made. IsRestyled E.follows F.follows
-        (bytes path.entry) (path_vec_of made).items) }
-    ensures err { IfErr result
-        (λ error. IsConvertFault E.follows F.follows F.first_fault (bytes path.entry) error) }
-{
-    match path_building::with_style(alloc, E::style(), F::style(), path.as_encoded_bytes()) {
-        Ok(made) => checked(made),
-        Err(StyleError::Component(index)) => Err(ConvertError::Component(index)),
-        Err(StyleError::Memory) => Err(ConvertError::Memory),
-    }
-}
-
 /// Bytes as a path, if they are a string of the platform.
-fn checked<F: PathStyle, A: Allocator>(made: Vec<u8, A>) -> Result<PathBuf<F, A>, ConvertError>
+pub(crate) fn checked<F: PathStyle, A: Allocator>(
+    made: Vec<u8, A>,
+) -> Result<PathBuf<F, A>, ConvertError>
     ensures ok { IfOk result (λ path. (path_vec_of path).items ≡ made.items) }
     ensures err { IfErr result (λ error. (fault : of_bytes.EncodingError)
         × ((error ≡ why.Encoding fault) × F.first_fault made.items fault)) }
 {
     match F::check(&made) {
-        Ok(()) => Ok(PathBuf::from(OsString::from_encoded_bytes_unchecked(made))),
+        Ok(()) => Ok(path_of(made)),
         Err(fault) => Err(ConvertError::Encoding(fault)),
     }
 }

@@ -6,10 +6,11 @@ use Rattle.path_rules.specs.declared.rules.Rules.TheVariants as rules
 use Rattle.path_rules.specs.declared.rules.Style as whose
 use Rattle.path_rules.specs.declared.rules.Style.TheVariants as style
 use Rattle.path_rules.specs.Component.{Item, Prefix, RootDir, CurDir, ParentDir, Normal}
-use Rattle.path_rules.specs.Prefix.{Kind, Verbatim, VerbatimUnc, VerbatimDisk, Device, Unc, Disk, IsPrefixOf, EitherWay, HasKind, rules_of, begins_verbatim}
+use Rattle.path_rules.specs.Prefix.{Kind, Verbatim, VerbatimUnc, VerbatimDisk, Device, Unc, Disk, IsPrefixOf, EitherWay, HasKind, WithPrefix, rules_of, begins_verbatim}
 use Rattle.path_rules.specs.Parsed.{IsVerbatimKind}
 use Rattle.path_rules.specs.Components.{AreComponents}
 use Rattle.path_rules.specs.Reserved.{is_dot_or_space, IsReserved}
+use Rattle.path_rules.specs.Simplified.{HasSingleSeparators}
 use Rattle.path_building.specs.Beginning.{BeginsTwice}
 use Rattle.path_building.specs.Written.{BeginsAsObject}
 
@@ -82,9 +83,13 @@ AreFree style.Windows items = AllByRecursion IsFree items
 abbrev pub HasFreeNames : whose.Style → List ℕ → Type 0
 HasFreeNames w path = (items : List Item) × (AreComponents w path items × AreFree w items)
 
--- Windows reads a name of the path otherwise: without the dot or the space at its end, as a stream after a colon, or as a device. After `\\?\` it reads each name as it is
+-- after `\\?\` a `/` or two `\` in a row, where Windows reads a name with a `/` and an empty one
+abbrev pub IsMisread : Kind → List ℕ → Type 0
+IsMisread kind rest = IsVerbatimKind kind × ¬ (HasSingleSeparators rest)
+
+-- Windows reads a name of the path otherwise: without the dot or the space at its end, as a stream after a colon, or as a device. After `\\?\` it reads each name as it is, also one that no file has
 abbrev pub HasReservedName : whose.Style → List ℕ → Type 0
-HasReservedName w path = ¬ (HasKind w path IsVerbatimKind) × ¬ (HasFreeNames w path)
+HasReservedName w path = (¬ (HasKind w path IsVerbatimKind) × ¬ (HasFreeNames w path)) ⊎ WithPrefix w path IsMisread
 
 -- a complete path without NUL, whose names Windows reads as they are
 abbrev pub IsBase : whose.Style → List ℕ → Type 0

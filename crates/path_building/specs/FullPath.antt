@@ -7,7 +7,7 @@ use Rattle.path_building.specs.declared.full_paths.AbsoluteError.{AbsoluteError}
 use Rattle.path_building.specs.declared.full_paths.AbsoluteError.TheVariants as error
 use Rattle.path_rules.specs.Component.{Item, Prefix, RootDir, CurDir, ParentDir, Normal}
 use Rattle.path_rules.specs.Components.{AreComponents}
-use Rattle.path_rules.specs.Prefix.{Kind, Verbatim, VerbatimUnc, VerbatimDisk, Device, Unc, Disk, IsPrefixOf, IsPrefixed}
+use Rattle.path_rules.specs.Prefix.{Kind, Verbatim, VerbatimUnc, VerbatimDisk, Device, Unc, Disk, IsPrefixOf, IsPrefixed, EitherWay, HasKind}
 use Rattle.path_rules.specs.Root.{BeginsWithSeparator, IsAbsolute}
 use Rattle.path_building.specs.Base.{LacksPart, HasFreeNames}
 use Rattle.path_building.specs.Cleaned.{IsCleaned}
@@ -26,8 +26,7 @@ IsDeviceKind (Disk letter) = ⊥
 
 -- a path with such a prefix, which is absolute as it is
 abbrev pub IsDevicePath : whose.Style → List ℕ → Type 0
-IsDevicePath style.Unix path = ⊥
-IsDevicePath style.Windows path = (kind : Kind) × ((rest : List ℕ) × (IsPrefixOf path kind rest × IsDeviceKind kind))
+IsDevicePath w path = HasKind w path IsDeviceKind
 
 -- the path isn't empty, its prefix lacks no part, and no name is reserved
 pub record IsPlaceable (w : whose.Style) (path : List ℕ) : Type 0 where
@@ -77,15 +76,15 @@ AreOneDrive (Disk a) (Disk b) = a ≡ b
 AreOneDrive k l = ⊥
 
 -- the directory is on the drive that is the prefix of this kind
-abbrev pub IsOnDrive : Kind → List ℕ → Type 0
-IsOnDrive kind directory = (other : Kind) × ((rest : List ℕ) × (IsPrefixOf directory other rest × AreOneDrive kind other))
+abbrev pub IsOnDrive : whose.Style → Kind → List ℕ → Type 0
+IsOnDrive w kind directory = HasKind w directory (AreOneDrive kind)
 
 -- what follows a drive is below a directory on that drive
 pub record IsBelowDrive (path directory mid : List ℕ) : Type 0 where
   pub kind : Kind
   pub rest : List ℕ
   pub prefix : IsPrefixOf path kind rest
-  pub drive : IsOnDrive kind directory
+  pub drive : IsOnDrive style.Windows kind directory
   pub below : IsCleanedBelow rest directory mid
 
 -- what an absolute path is written as
@@ -114,10 +113,9 @@ pub record IsPlacedEnded (w : whose.Style) (path directory full : List ℕ) : Ty
 abbrev pub IsFullPath : whose.Style → List ℕ → List ℕ → List ℕ → Type 0
 IsFullPath w path directory full = (IsDevicePath w path × (full ≡ path)) ⊎ IsPlacedEnded w path directory full
 
--- if the path has a drive, the directory is on it
+-- the path has no prefix, or that is a drive and the directory is on it
 abbrev pub IsOnItsDrive : whose.Style → List ℕ → List ℕ → Type 0
-IsOnItsDrive style.Unix path directory = Unit {0}
-IsOnItsDrive style.Windows path directory = (kind : Kind) (rest : List ℕ) → IsPrefixOf path kind rest → IsOnDrive kind directory
+IsOnItsDrive w path directory = EitherWay w path (λ bare. Unit {0}) (λ kind rest. IsOnDrive w kind directory)
 
 -- why a path is neither absolute nor below the directory
 abbrev pub IsPlaceFault : whose.Style → List ℕ → List ℕ → AbsoluteError → Type 0

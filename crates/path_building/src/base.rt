@@ -5,15 +5,15 @@ ghost use Rattle.path_rules.specs.declared.rules.Rules.TheVariants as rule;
 ghost use Rattle.path_rules.specs.Component.{components_in};
 ghost use Rattle.path_rules.specs.Views.{item_of};
 ghost use Rattle.path_rules.specs.Separators.{Edge};
-ghost use Rattle.path_rules.specs.Prefix.{rules_of};
+ghost use Rattle.path_rules.specs.Prefix.{WithPrefix, rules_of};
 ghost use Rattle.path_rules.specs.Parsed.{FoundOr, FoundWith, kind_found};
 ghost use Rattle.path_building.specs.Written.{BeginsAsObject};
-ghost use Rattle.path_building.specs.Base.{HasNoNul, IsFirstNul, NamesNoObject, EndsInDotOrSpace, IsOpenKind, BeginsOpen, LacksPart, IsVerbatimAlone, IsFree, AreFree, HasFreeNames, HasReservedName, IsBase};
+ghost use Rattle.path_building.specs.Base.{HasNoNul, IsFirstNul, NamesNoObject, EndsInDotOrSpace, IsOpenKind, BeginsOpen, LacksPart, IsVerbatimAlone, IsFree, AreFree, HasFreeNames, IsMisread, HasReservedName, IsBase};
 
 use crate::beginning::{begins_twice, is_question_mark};
 use crate::error_text::write_at_byte;
 use memchr::memchr;
-use path_rules::parts::{Parsed, next_in};
+use path_rules::parts::{Parsed, has_single_separators, next_in};
 use path_rules::{Component, Prefix, Rules, Style, is_reserved};
 use std::error::Error;
 use std::fmt;
@@ -34,7 +34,8 @@ pub enum BaseError {
     Nul(usize),
     /// The Windows path is incomplete: a name after it would be read as a part of its beginning.
     Incomplete,
-    /// A name of the Windows path is reserved ([`path_rules::is_reserved`]), as `C:\nul` and `C:\a `.
+    /// A name of the Windows path is reserved ([`path_rules::is_reserved`]), as `C:\nul` and `C:\a `, or
+    /// is none that Windows can have, as in `\\?\C:\a\\b`.
     Reserved,
 }
 
@@ -85,7 +86,8 @@ impl<'a> Base<'a> {
     ///   begins with two separators, as `\\server`, or with `\??\`.
     /// - `Reserved` if a name of the Windows path is reserved ([`path_rules::is_reserved`]), as
     ///   `C:\nul`, and `C:\a `, which Windows reads as `C:\a`. After `\\?\`, where Windows reads
-    ///   names as they are, none is.
+    ///   names as they are, only an empty name is and one with a `/`, as in `\\?\C:\a\\b` and
+    ///   `\\?\C:/a`.
     ///
     /// ```
     /// use path_building::{Base, BaseError};
@@ -93,6 +95,8 @@ impl<'a> Base<'a> {
     ///
     /// assert!(rt; Base::new(Style::Windows, br"C:\files").is_ok());
     /// let rejected = Base::new(Style::Windows, br"C:\files ");
+    /// assert!(rt; rejected.is_err_and(|e| e == BaseError::Reserved));
+    /// let rejected = Base::new(Style::Windows, br"\\?\C:/a");
     /// assert!(rt; rejected.is_err_and(|e| e == BaseError::Reserved));
     /// let rejected = Base::new(Style::Windows, br"\\?\unc\server");
     /// assert!(rt; rejected.is_err_and(|e| e == BaseError::Incomplete));
@@ -125,7 +129,6 @@ impl<'a> Base<'a> {
     /// assert!(rt; base.parsed().is_absolute());
     /// assert_eq!(rt; base.parsed().whole, br"C:\files".as_slice());
     /// ```
-    #[tactic(auto, using(crate::proofs::lemmas::Bases::is_base))]
     pub fn parsed(&self) -> Parsed<'a>
         ensures style { result.style ≡ base_style self.now }
         ensures path { result.whole.now ≡ base_path self.now }
@@ -145,14 +148,8 @@ pub(crate) fn first_nul(bytes: &[u8]) -> Option<usize>
 
 /// Whether a Windows path is incomplete as a base. Windows then reads the next name as a part of
 /// its prefix, or the path as one of another kind.
-pub(crate) fn lacks_part(style: Style, path: &[u8]) -> bool
-    ensures { IsTrue result ↔ LacksPart style path.now }
-{
-    is_open(&Parsed::new(style, path))
-}
-
 #[tactic(auto, using(crate::proofs::lemmas::Bases::open_found))]
-fn is_open(path: &Parsed<'_>) -> bool
+pub(crate) fn is_open(path: &Parsed<'_>) -> bool
     ensures { IsTrue result ↔ LacksPart path.now.style path.now.whole.now }
 {
     begins_open(path.style, path.prefix, path.rest)
@@ -195,17 +192,30 @@ fn ends_in_dot_or_space(name: &[u8]) -> bool
 fn has_reserved_name(path: &Parsed<'_>) -> bool
     ensures { IsTrue result ↔ HasReservedName path.now.style path.now.whole.now }
 {
-    !path.is_verbatim() && !are_names_free(path)
+    !path.is_verbatim() && !are_names_free(path) || is_misread(path)
+}
+
+/// Whether a path that begins with `\\?\` has a `/` or two `\` in a row after its prefix.
+#[tactic(auto, using(path_rules::proofs::lemmas::Parsings::with_found))]
+fn is_misread(path: &Parsed<'_>) -> bool
+    ensures { IsTrue result ↔ WithPrefix path.now.style path.now.whole.now IsMisread }
+{
+    misreads(path.prefix, path.rest)
+}
+
+fn misreads(prefix: Option<Prefix<&[u8]>>, rest: &[u8]) -> bool
+    ensures { IsTrue result ↔ FoundWith IsMisread (kind_found prefix.entry) rest.now }
+{
+    match prefix {
+        Some(Prefix::Verbatim(_) | Prefix::VerbatimUnc(_, _) | Prefix::VerbatimDisk(_)) => {
+            !has_single_separators(rest)
+        }
+        _ => false,
+    }
 }
 
 /// Whether no name of a Windows path is reserved.
-pub(crate) fn has_free_names(style: Style, path: &[u8]) -> bool
-    ensures { IsTrue result ↔ HasFreeNames style path.now }
-{
-    are_names_free(&Parsed::new(style, path))
-}
-
-fn are_names_free(path: &Parsed<'_>) -> bool
+pub(crate) fn are_names_free(path: &Parsed<'_>) -> bool
     ensures { IsTrue result ↔ HasFreeNames path.now.style path.now.whole.now }
 {
     let head = path.head();

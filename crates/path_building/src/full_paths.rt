@@ -1,21 +1,22 @@
 //! Absolute paths.
 ghost use Rattle.std.specs.Prelude.{◌≡◌, ◌↔◌, map, IsTrue, IfOk, IfErr};
 ghost use Rattle.path_rules.specs.declared.rules.Style.TheVariants as whose;
+ghost use Rattle.path_rules.specs.Parsed.{FoundOr, KindFound, kind_found};
 ghost use Rattle.path_rules.specs.Prefix.{Disk};
 ghost use Rattle.path_rules.specs.PrefixViews.{kind_of};
 ghost use Rattle.path_rules.specs.Views.{item_of};
 ghost use Rattle.path_building.specs.Collected.{ArePushed};
 ghost use Rattle.path_building.specs.FullPath.{IsDeviceKind, IsDevicePath, IsFullDirectory, BeginsWithTwo, without_root, IsRespelled, IsPushedBelow, IsCleanedBelow, AreOneDrive, IsOnDrive, IsOwnPlace, IsPlaceBelow, IsPlaced, IsFullPath, IsOnItsDrive, IsPlaceFault, IsAbsoluteFault};
 
-use crate::base::{has_free_names, lacks_part};
+use crate::base::{are_names_free, is_open};
 use crate::cleaning::clean;
 use crate::collected::push_all;
 use crate::joining::join;
 use crate::normal::all_items;
 use crate::relative::after_dot;
 use crate::trailing::end_as;
-use path_rules::parts::begins_with_separator;
-use path_rules::{Component, Prefix, Rules, Style, is_absolute, windows_prefix};
+use path_rules::parts::{Parsed, begins_with_separator};
+use path_rules::{Component, Prefix, Rules, Style};
 use std::alloc::{AllocError, Allocator};
 use std::error::Error;
 use std::fmt;
@@ -135,72 +136,76 @@ pub fn absolute<A: Allocator + Clone>(
     ensures ok { IfOk result (λ full. IsFullPath style path.now directory.now full.items) }
     ensures err { IfErr result (λ error. IsAbsoluteFault style path.now directory.now error) }
 {
-    if path.is_empty() {
+    full_path(alloc, &Parsed::new(style, path), directory)
+}
+
+/// The absolute path of a path that was parsed.
+fn full_path<A: Allocator + Clone>(
+    alloc: A,
+    path: &Parsed<'_>,
+    directory: &[u8],
+) -> Result<Vec<u8, A>, AbsoluteError>
+    ensures ok { IfOk result (λ full. IsFullPath path.now.style path.now.whole.now
+        directory.now full.items) }
+    ensures err { IfErr result (λ error. IsAbsoluteFault path.now.style path.now.whole.now
+        directory.now error) }
+{
+    if path.whole.is_empty() {
         return Err(AbsoluteError::Empty);
     }
-    if is_device(style, path) {
-        return Ok(Vec::from_slice(alloc, path)?);
+    if is_device(path) {
+        return Ok(Vec::from_slice(alloc, path.whole)?);
     }
-    if lacks_part(style, path) {
+    if is_open(path) {
         return Err(AbsoluteError::Prefix);
     }
-    if !has_free_names(style, path) {
+    if !are_names_free(path) {
         return Err(AbsoluteError::Reserved);
     }
-    let mut full = placed(alloc, style, path, directory)?;
-    end_as(style, &mut full, path)?;
+    let mut full = placed(alloc, path, directory)?;
+    end_as(path.style, &mut full, path.whole)?;
     Ok(full)
 }
 
 /// Whether a path begins with `\\?\` or `\\.\`.
-fn is_device(style: Style, path: &[u8]) -> bool
-    ensures { IsTrue result ↔ IsDevicePath style path.now }
+#[tactic(auto, using(path_rules::proofs::lemmas::Parsings::has_kind))]
+fn is_device(path: &Parsed<'_>) -> bool
+    ensures { IsTrue result ↔ IsDevicePath path.now.style path.now.whole.now }
 {
-    match style {
-        Style::Unix => false,
-        Style::Windows => is_windows_device(path),
-    }
+    is_device_prefix(path.prefix)
 }
 
-fn is_windows_device(path: &[u8]) -> bool
-    ensures { IsTrue result ↔ IsDevicePath whose.Windows path.now }
-{
-    match windows_prefix(path) {
-        Some((prefix, _)) => is_device_prefix(prefix),
-        None => false,
-    }
-}
-
-fn is_device_prefix(prefix: Prefix<&[u8]>) -> bool
-    ensures { IsTrue result ↔ IsDeviceKind (kind_of prefix.entry) }
+fn is_device_prefix(prefix: Option<Prefix<&[u8]>>) -> bool
+    ensures { IsTrue result ↔ KindFound IsDeviceKind (kind_found prefix.entry) }
 {
     match prefix {
-        Prefix::Unc(_, _) => false,
-        Prefix::Disk(_) => false,
-        _ => true,
+        Some(Prefix::Unc(_, _) | Prefix::Disk(_)) => false,
+        Some(_) => true,
+        None => false,
     }
 }
 
 /// The path, but for the separator at its end.
 fn placed<A: Allocator + Clone>(
     alloc: A,
-    style: Style,
-    path: &[u8],
+    path: &Parsed<'_>,
     directory: &[u8],
 ) -> Result<Vec<u8, A>, AbsoluteError>
-    ensures ok { IfOk result (λ mid. IsPlaced style path.now directory.now mid.items) }
-    ensures err { IfErr result (λ error. IsPlaceFault style path.now directory.now error) }
+    ensures ok { IfOk result (λ mid. IsPlaced path.now.style path.now.whole.now
+        directory.now mid.items) }
+    ensures err { IfErr result (λ error. IsPlaceFault path.now.style path.now.whole.now
+        directory.now error) }
 {
-    if is_absolute(style, path) {
-        return Ok(own_place(alloc, style, path)?);
+    if path.is_absolute() {
+        return Ok(own_place(alloc, path.style, path.whole)?);
     }
-    if !is_full_directory(style, directory) {
+    if !is_full_directory(path.style, directory) {
         return Err(AbsoluteError::Directory);
     }
-    if !is_on_its_drive(style, path, directory) {
+    if !is_on_its_drive(path, directory) {
         return Err(AbsoluteError::Drive);
     }
-    Ok(place_below(alloc, style, path, directory)?)
+    Ok(place_below(alloc, path, directory)?)
 }
 
 /// What an absolute path is written as.
@@ -266,39 +271,44 @@ fn after_root<'s, 'p>(items: &'s [Component<&'p [u8]>]) -> &'s [Component<&'p [u
 fn is_full_directory(style: Style, directory: &[u8]) -> bool
     ensures { IsTrue result ↔ IsFullDirectory style directory.now }
 {
-    is_absolute(style, directory) && !lacks_part(style, directory)
+    is_full(&Parsed::new(style, directory))
+}
+
+fn is_full(directory: &Parsed<'_>) -> bool
+    ensures { IsTrue result ↔ IsFullDirectory directory.now.style directory.now.whole.now }
+{
+    directory.is_absolute() && !is_open(directory)
 }
 
 /// Whether a directory is on the drive of a path, if the path has one.
-fn is_on_its_drive(style: Style, path: &[u8], directory: &[u8]) -> bool
-    ensures { IsTrue result ↔ IsOnItsDrive style path.now directory.now }
+fn is_on_its_drive(path: &Parsed<'_>, directory: &[u8]) -> bool
+    ensures { IsTrue result ↔ IsOnItsDrive path.now.style path.now.whole.now directory.now }
 {
-    match style {
-        Style::Unix => true,
-        Style::Windows => is_on_windows_drive(path, directory),
-    }
+    is_on_found_drive(path, directory)
 }
 
-fn is_on_windows_drive(path: &[u8], directory: &[u8]) -> bool
-    ensures { IsTrue result ↔ IsOnItsDrive whose.Windows path.now directory.now }
+fn is_on_found_drive(path: &Parsed<'_>, directory: &[u8]) -> bool
+    ensures { IsTrue result ↔ FoundOr (λ bare. Unit {0})
+        (λ kind rest. IsOnDrive path.now.style kind directory.now) (kind_found path.now.prefix)
+        path.now.rest.now }
 {
-    match windows_prefix(path) {
-        Some((prefix, _)) => is_on_drive(prefix, directory),
+    match path.prefix {
+        Some(prefix) => is_on_drive(prefix, &Parsed::new(path.style, directory)),
         None => true,
     }
 }
 
-fn is_on_drive(prefix: Prefix<&[u8]>, directory: &[u8]) -> bool
-    ensures { IsTrue result ↔ IsOnDrive (kind_of prefix.entry) directory.now }
+#[tactic(auto, using(path_rules::proofs::lemmas::Parsings::has_kind))]
+fn is_on_drive(prefix: Prefix<&[u8]>, directory: &Parsed<'_>) -> bool
+    ensures { IsTrue result
+        ↔ IsOnDrive directory.now.style (kind_of prefix.entry) directory.now.whole.now }
 {
-    match windows_prefix(directory) {
-        Some((other, _)) => are_one_drive(prefix, other),
-        None => false,
-    }
+    are_one_drive(prefix, directory.prefix)
 }
 
-fn are_one_drive(prefix: Prefix<&[u8]>, other: Prefix<&[u8]>) -> bool
-    ensures { IsTrue result ↔ AreOneDrive (kind_of prefix.entry) (kind_of other.entry) }
+fn are_one_drive(prefix: Prefix<&[u8]>, other: Option<Prefix<&[u8]>>) -> bool
+    ensures { IsTrue result
+        ↔ KindFound (AreOneDrive (kind_of prefix.entry)) (kind_found other.entry) }
 {
     match prefix {
         Prefix::Disk(letter) => is_drive(letter, other),
@@ -306,11 +316,11 @@ fn are_one_drive(prefix: Prefix<&[u8]>, other: Prefix<&[u8]>) -> bool
     }
 }
 
-fn is_drive(letter: u8, prefix: Prefix<&[u8]>) -> bool
-    ensures { IsTrue result ↔ AreOneDrive (Disk letter) (kind_of prefix.entry) }
+fn is_drive(letter: u8, prefix: Option<Prefix<&[u8]>>) -> bool
+    ensures { IsTrue result ↔ KindFound (AreOneDrive (Disk letter)) (kind_found prefix.entry) }
 {
     match prefix {
-        Prefix::Disk(other) => letter == other,
+        Some(Prefix::Disk(other)) => letter == other,
         _ => false,
     }
 }
@@ -318,16 +328,16 @@ fn is_drive(letter: u8, prefix: Prefix<&[u8]>) -> bool
 /// A path that isn't absolute, below a directory.
 fn place_below<A: Allocator + Clone>(
     alloc: A,
-    style: Style,
-    path: &[u8],
+    path: &Parsed<'_>,
     directory: &[u8],
 ) -> Result<Vec<u8, A>, AllocError>
-    requires { IsOnItsDrive style path.now directory.now }
-    ensures { IfOk result (λ mid. IsPlaceBelow style path.now directory.now mid.items) }
+    requires { IsOnItsDrive path.now.style path.now.whole.now directory.now }
+    ensures { IfOk result (λ mid. IsPlaceBelow path.now.style path.now.whole.now
+        directory.now mid.items) }
 {
-    match style {
-        Style::Unix => pushed_below(alloc, path, directory),
-        Style::Windows => windows_below(alloc, path, directory),
+    match path.style {
+        Style::Unix => pushed_below(alloc, path.whole, directory),
+        Style::Windows => cleaned_below(alloc, path.rest, directory),
     }
 }
 
@@ -341,21 +351,6 @@ fn pushed_below<A: Allocator + Clone>(
 {
     let items = all_items(alloc.clone()?, Style::Unix, path)?;
     pushed(alloc, directory, after_dot(&items))
-}
-
-fn windows_below<A: Allocator + Clone>(
-    alloc: A,
-    path: &[u8],
-    directory: &[u8],
-) -> Result<Vec<u8, A>, AllocError>
-    requires { IsOnItsDrive whose.Windows path.now directory.now }
-    ensures { IfOk result
-        (λ mid. IsPlaceBelow whose.Windows path.now directory.now mid.items) }
-{
-    match windows_prefix(path) {
-        Some((_, rest)) => cleaned_below(alloc, rest, directory),
-        None => cleaned_below(alloc, path, directory),
-    }
 }
 
 /// What is joined to a Windows directory, cleaned.

@@ -248,7 +248,7 @@ fn has_doubled_root(style: Style, path: &[u8]) -> bool
 {
     match style {
         Style::Unix => false,
-        Style::Windows => has_empty_share(path),
+        Style::Windows => has_empty_share(&Parsed::new(style, path)),
     }
 }
 

@@ -3,14 +3,15 @@ ghost use Rattle.std.specs.Prelude.{◌≡◌, ◌++◌, ◌∷◌, [], ◌↔�
 ghost use Rattle.path_rules.specs.declared.rules.Style.TheVariants as whose;
 ghost use Rattle.path_rules.specs.declared.head.Start.TheVariants.{Root};
 ghost use Rattle.path_rules.specs.StyleRules.{main_separator};
-ghost use Rattle.path_rules.specs.PrefixViews.{kind_of};
+ghost use Rattle.path_rules.specs.Parsed.{KindFound, kind_found};
+ghost use Rattle.path_rules.specs.Prefix.{HasKind};
 ghost use Rattle.path_rules.specs.Views.{item_of};
 ghost use Rattle.path_building.specs.Cleaned.{begins_as_verbatim, separated_by, one_spelling};
-ghost use Rattle.path_building.specs.Written.{spelling, more_names, joined_names, LacksShare, HasEmptyShare, object_dir};
+ghost use Rattle.path_building.specs.Written.{spelling, more_names, joined_names, LacksShare, object_dir};
 ghost use Rattle.path_building.specs.Spelled.{root_bytes, start_bytes, after_bytes, ObjectNext};
 
-use path_rules::parts::Start;
-use path_rules::{Component, Prefix, Rules, Style, windows_prefix};
+use path_rules::parts::{Parsed, Start};
+use path_rules::{Component, Prefix, Rules, Style};
 use std::alloc::{AllocError, Allocator};
 
 /// Writes a path of a prefix, a start and names. It allocates `capacity` bytes, and more if the
@@ -265,20 +266,18 @@ fn is_object_dir(name: &[u8]) -> bool
 
 /// Whether a path begins with a prefix `\\?\UNC\server` without a share: a name that follows it
 /// after one separator would be its share.
-pub(crate) fn has_empty_share(path: &[u8]) -> bool
-    ensures { IsTrue result ↔ HasEmptyShare path.now }
+#[tactic(auto, using(path_rules::proofs::lemmas::Parsings::has_kind))]
+pub(crate) fn has_empty_share(path: &Parsed<'_>) -> bool
+    ensures { IsTrue result ↔ HasKind path.now.style path.now.whole.now LacksShare }
 {
-    match windows_prefix(path) {
-        Some((prefix, _)) => is_without_share(prefix),
-        None => false,
-    }
+    is_without_share(path.prefix)
 }
 
-fn is_without_share(prefix: Prefix<&[u8]>) -> bool
-    ensures { IsTrue result ↔ LacksShare (kind_of prefix.entry) }
+fn is_without_share(prefix: Option<Prefix<&[u8]>>) -> bool
+    ensures { IsTrue result ↔ KindFound LacksShare (kind_found prefix.entry) }
 {
     match prefix {
-        Prefix::VerbatimUnc(_, share) => share.is_empty(),
+        Some(Prefix::VerbatimUnc(_, share)) => share.is_empty(),
         _ => false,
     }
 }

@@ -72,8 +72,16 @@ fn windows_simplified(path: &[u8]) -> &[u8]
     rest
 }
 
-/// Whether bytes have no `/` and no two `\` in a row.
-fn has_single_separators(bytes: &[u8]) -> bool
+/// Whether bytes have no `/` and no two `\` in a row. After `\\?\` Windows reads a `/` as a part of a
+/// name, and an empty name between two `\`.
+///
+/// ```
+/// use path_rules::parts::has_single_separators;
+///
+/// assert!(rt; has_single_separators(br"\a\b\"));
+/// assert!(rt; !has_single_separators(br"\a\\b") && !has_single_separators(b"/a"));
+/// ```
+pub fn has_single_separators(bytes: &[u8]) -> bool
     ensures { IsTrue result ↔ HasSingleSeparators bytes.now }
 {
     let mut rest = bytes;

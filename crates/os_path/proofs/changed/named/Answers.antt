@@ -5,8 +5,8 @@ use Rattle.os_path.proofs.lemmas.Cuts.{cuts}
 use Rattle.os_path.proofs.lemmas.Joined.{named_formed, on_either, named_same, on_ok}
 use Rattle.os_path.proofs.changed.named.Goals as goal
 
-pub from_encoded_bytes_unchecked-requires : goal.from_encoded_bytes_unchecked-requires
-from_encoded_bytes_unchecked-requires g c =
+pub path_of-requires : goal.path_of-requires
+path_of-requires g c =
     let laws = g.met.E.Platform.laws in
     let formed = g.E.Platform.well_formed in
     let cut = cuts formed laws.cut_prefix laws.cut_suffix in
@@ -23,7 +23,7 @@ returns-clause-ok g c =
     let old = c.into_encoded_bytes-vec.result.items in
     let new = c.set_file_name-outcome.new.path.items in
     let was : old ≡ (path_vec_of c.args.path).items = ap (λ v. v.items) (c.into_encoded_bytes-vec.ensures.value ∙ c.into_os_string.ensures) in
-    let made : new ≡ (path_vec_of c.from.result).items = ap (λ v. v.items) (sym (c.from.ensures ∙ c.from_encoded_bytes_unchecked.ensures)) in
-    on_ok (IsNamed c.style.result old c.as_encoded_bytes.result.now new) (IsNamed w (path_vec_of c.args.path).items (bytes c.args.name) (path_vec_of c.from.result).items)
-    (named_same c.style.result w old (path_vec_of c.args.path).items c.as_encoded_bytes.result.now (bytes c.args.name) new (path_vec_of c.from.result).items c.style.ensures was c.as_encoded_bytes.ensures.value made)
+    let made : new ≡ (path_vec_of c.path_of.result).items = sym c.path_of.ensures in
+    on_ok (IsNamed c.style.result old c.as_encoded_bytes.result.now new) (IsNamed w (path_vec_of c.args.path).items (bytes c.args.name) (path_vec_of c.path_of.result).items)
+    (named_same c.style.result w old (path_vec_of c.args.path).items c.as_encoded_bytes.result.now (bytes c.args.name) new (path_vec_of c.path_of.result).items c.style.ensures was c.as_encoded_bytes.ensures.value made)
     c.set_file_name-outcome.result c.set_file_name-outcome.ensures.ok

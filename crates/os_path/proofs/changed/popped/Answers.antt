@@ -4,8 +4,8 @@ use Rattle.os_path.proofs.lemmas.Cuts.{cuts}
 use Rattle.os_path.proofs.lemmas.Joined.{parent_formed}
 use Rattle.os_path.proofs.changed.popped.Goals as goal
 
-pub from_encoded_bytes_unchecked-requires-2 : goal.from_encoded_bytes_unchecked-requires-2
-from_encoded_bytes_unchecked-requires-2 g c =
+pub path_of-requires-2 : goal.path_of-requires-2
+path_of-requires-2 g c =
     let laws = g.met.E.Platform.laws in
     let formed = g.E.Platform.well_formed in
     let w = c.style.result in

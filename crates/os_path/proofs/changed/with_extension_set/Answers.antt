@@ -4,8 +4,8 @@ use Rattle.os_path.proofs.lemmas.Cuts.{cuts}
 use Rattle.os_path.proofs.lemmas.Joined.{set_formed, on_either}
 use Rattle.os_path.proofs.changed.with_extension_set.Goals as goal
 
-pub from_encoded_bytes_unchecked-requires : goal.from_encoded_bytes_unchecked-requires
-from_encoded_bytes_unchecked-requires g c =
+pub path_of-requires : goal.path_of-requires
+path_of-requires g c =
     let laws = g.met.E.Platform.laws in
     let formed = g.E.Platform.well_formed in
     let cut = cuts formed laws.cut_prefix laws.cut_suffix in

@@ -1,4 +1,4 @@
-use Rattle.std.proofs.Common.{◌≡◌, ◌∙◌, sym, ap, subst}
+use Rattle.std.proofs.Common.{◌≡◌, ◌∙◌, sym, subst}
 use Rattle.platform_str.specs.Strings.{path_bytes, path_vec_of}
 use Rattle.path_building.specs.BaseViews.{base_path, base_style}
 use Rattle.path_building.specs.Checked.{IsBelowBase, IsCheckedJoin}
@@ -7,8 +7,8 @@ use Rattle.os_path.proofs.lemmas.Bases.{one_style}
 use Rattle.os_path.proofs.lemmas.CheckedParts.{checked_formed}
 use Rattle.os_path.proofs.base.Base.join.Goals as goal
 
-pub from_encoded_bytes_unchecked-requires : goal.from_encoded_bytes_unchecked-requires
-from_encoded_bytes_unchecked-requires g c =
+pub path_of-requires : goal.path_of-requires
+path_of-requires g c =
     let laws = g.met.E.Platform.laws in
     let it = c.args.self.now in
     checked_formed g.E.Platform.well_formed g.E.Platform.units g.met.E.Platform.occurrence laws.cut_prefix laws.cut_suffix (base_style it.base) (base_path it.base) c.as_encoded_bytes.result.now c.in-Ok.joined.items c.in-Ok.ensures.ok it.formed c.as_encoded_bytes.ensures.formed
@@ -16,7 +16,7 @@ from_encoded_bytes_unchecked-requires g c =
 pub returns-in-Ok-clause-ok : goal.returns-in-Ok-clause-ok
 returns-in-Ok-clause-ok g c =
     let it = c.args.self.now in
-    let made : c.in-Ok.joined.items ≡ (path_vec_of c.from.result).items = ap (λ v. v.items) (sym (c.from.ensures ∙ c.from_encoded_bytes_unchecked.ensures)) in
+    let made : c.in-Ok.joined.items ≡ (path_vec_of c.path_of.result).items = sym c.path_of.ensures in
     let path : c.as_encoded_bytes.result.now ≡ path_bytes c.args.path = c.as_encoded_bytes.ensures.value ∙ c.as_os_str.ensures in
     subst (IsCheckedJoin g.E.PathStyle.follows (base_path it.base) (path_bytes c.args.path)) made
     (subst (λ s. IsCheckedJoin g.E.PathStyle.follows (base_path it.base) s c.in-Ok.joined.items) path
@@ -25,7 +25,7 @@ returns-in-Ok-clause-ok g c =
 pub returns-in-Ok-clause-below : goal.returns-in-Ok-clause-below
 returns-in-Ok-clause-below g c =
     let it = c.args.self.now in
-    let made : c.in-Ok.joined.items ≡ (path_vec_of c.from.result).items = ap (λ v. v.items) (sym (c.from.ensures ∙ c.from_encoded_bytes_unchecked.ensures)) in
+    let made : c.in-Ok.joined.items ≡ (path_vec_of c.path_of.result).items = sym c.path_of.ensures in
     subst (IsBelowBase g.E.PathStyle.follows (base_path it.base)) made
     (subst (λ w. IsBelowBase w (base_path it.base) c.in-Ok.joined.items) (one_style _ _ it.style_is) c.in-Ok.ensures.below)
 

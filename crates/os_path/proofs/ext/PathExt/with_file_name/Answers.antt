@@ -1,16 +1,18 @@
-use Rattle.std.proofs.Common.{refl, ◌∙◌}
+use Rattle.os_path.proofs.lemmas.Cuts.{cuts}
+use Rattle.os_path.proofs.lemmas.Joined.{named_formed, named_same}
+use Rattle.std.proofs.Common.{sym}
 use Rattle.platform_str.specs.Strings.{bytes, path_vec_of}
-use Rattle.path_building.specs.FileName.{IsNamed}
-use Rattle.path_building.proofs.lemmas.Joins.{if_ok}
-use Rattle.os_path.proofs.lemmas.Joined.{named_same}
 use Rattle.os_path.proofs.ext.PathExt.with_file_name.Goals as goal
+
+pub path_of-requires : goal.path_of-requires
+path_of-requires g c =
+    let P = g.Self.Platform.Platform in
+    let met = g.met.Self.Platform.Platform in
+    let laws = met.laws in
+    let cut = cuts P.well_formed laws.cut_prefix laws.cut_suffix in
+    named_formed P.well_formed P.units met.occurrence cut laws.cut_prefix laws.cut_suffix c.style.result c.path_bytes.result.now c.as_encoded_bytes.result.now c.in_ok-made.made.items c.in_ok-made.ensures c.path_bytes.ensures.formed c.as_encoded_bytes.ensures.formed
 
 pub returns : goal.returns
 returns g c =
-    let w = g.Self.Platform.PathStyle.follows in
-    let path = c.from_encoded_bytes_unchecked-path.result in
-    let self = g.Self.PathExt.bytes_of c.args.self in
-    let name = bytes c.args.name in
-    if_ok (λ named. IsNamed w (bytes path) name (path_vec_of named).items) (λ named. IsNamed w self name (path_vec_of named).items)
-    (λ named h. named_same w w (bytes path) self name name (path_vec_of named).items (path_vec_of named).items refl (c.from_encoded_bytes_unchecked-path.ensures ∙ c.path_bytes.ensures.value) refl refl h)
-    c.with_file_name.result c.with_file_name.ensures
+    named_same c.style.result g.Self.Platform.PathStyle.follows c.path_bytes.result.now (g.Self.PathExt.bytes_of c.args.self) c.as_encoded_bytes.result.now (bytes c.args.name) c.in_ok-made.made.items (path_vec_of c.path_of.result).items c.style.ensures
+    c.path_bytes.ensures.value c.as_encoded_bytes.ensures.value (sym c.path_of.ensures) c.in_ok-made.ensures

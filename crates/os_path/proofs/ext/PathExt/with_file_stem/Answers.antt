@@ -1,16 +1,16 @@
-use Rattle.std.proofs.Common.{refl, ◌∙◌}
+use Rattle.os_path.proofs.lemmas.StemParts.{stem_set_formed, stem_set_same}
+use Rattle.std.proofs.Common.{sym}
 use Rattle.platform_str.specs.Strings.{bytes, path_vec_of}
-use Rattle.path_building.specs.FileStem.{IsStemSet}
-use Rattle.path_building.proofs.lemmas.Joins.{if_ok}
-use Rattle.os_path.proofs.lemmas.StemParts.{stem_set_same}
 use Rattle.os_path.proofs.ext.PathExt.with_file_stem.Goals as goal
+
+pub path_of-requires : goal.path_of-requires
+path_of-requires g c =
+    let P = g.Self.Platform.Platform in
+    let met = g.met.Self.Platform.Platform in
+    let laws = met.laws in
+    stem_set_formed P.well_formed P.units met.occurrence laws.cut_prefix laws.cut_suffix c.style.result c.path_bytes.result.now c.as_encoded_bytes.result.now c.in_ok-made.made.items c.in_ok-made.ensures c.path_bytes.ensures.formed c.as_encoded_bytes.ensures.formed
 
 pub returns : goal.returns
 returns g c =
-    let w = g.Self.Platform.PathStyle.follows in
-    let path = c.from_encoded_bytes_unchecked-path.result in
-    let self = g.Self.PathExt.bytes_of c.args.self in
-    let stem = bytes c.args.stem in
-    if_ok (λ made. IsStemSet w (bytes path) stem (path_vec_of made).items) (λ made. IsStemSet w self stem (path_vec_of made).items)
-    (λ made h. stem_set_same w w (bytes path) self stem stem (path_vec_of made).items (path_vec_of made).items refl (c.from_encoded_bytes_unchecked-path.ensures ∙ c.path_bytes.ensures.value) refl refl h)
-    c.with_file_stem.result c.with_file_stem.ensures
+    stem_set_same c.style.result g.Self.Platform.PathStyle.follows c.path_bytes.result.now (g.Self.PathExt.bytes_of c.args.self) c.as_encoded_bytes.result.now (bytes c.args.stem) c.in_ok-made.made.items (path_vec_of c.path_of.result).items c.style.ensures
+    c.path_bytes.ensures.value c.as_encoded_bytes.ensures.value (sym c.path_of.ensures) c.in_ok-made.ensures

@@ -1,6 +1,0 @@
-use Rattle.platform_str.specs.Strings.{bytes}
-use Rattle.os_path.proofs.lemmas.Names.{extension_last}
-use Rattle.os_path.proofs.parts.extension.Goals as goal
-
-pub returns-in-Some : goal.returns-in-Some
-returns-in-Some g c = extension_last bytes g.E.PathStyle.follows (bytes c.args.path) (bytes c.in-Some.name) c.in-Some.ensures c.extension_of.result c.extension_of.ensures

@@ -1,9 +1,0 @@
-use Rattle.os_path.proofs.lemmas.Cuts.{cuts}
-use Rattle.os_path.proofs.lemmas.Names.{prefix_formed}
-use Rattle.os_path.proofs.parts.prefix_of.Goals as goal
-
-pub from_encoded_bytes_unchecked-requires : goal.from_encoded_bytes_unchecked-requires
-from_encoded_bytes_unchecked-requires g c =
-    let laws = g.met.E.Platform.laws in
-    let formed = g.E.Platform.well_formed in
-    prefix_formed formed (cuts formed laws.cut_prefix laws.cut_suffix) c.as_encoded_bytes.result.now c.name_prefix.result.now c.name_prefix.ensures c.as_encoded_bytes.ensures.formed
