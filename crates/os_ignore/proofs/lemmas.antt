@@ -6,10 +6,12 @@ pub mod Classes
 pub mod Cuts
 pub mod Escaped
 pub mod LineReadings
+pub mod Known
 pub mod Lasts
 pub mod Nameless
 pub mod OneMeaning
 pub mod OneReading
+pub mod OneReason
 pub mod OneVerdict
 pub mod Parts
 pub mod Rests

@@ -1,6 +1,6 @@
 -- The lines of an ignore file (gitignore, and git's dir.c where it says more).
 use Rattle.std.specs.Prelude.{◌≡◌, ◌⊎◌, ◌+◌, ℕ, nat_eq, ◌&&◌, cond, Bool, false, List, [], ◌∷◌, ◌++◌, Option, Some, None, Result, Ok, Err}
-use Rattle.std.specs.List.{slice_get}
+use Rattle.std.specs.List.{AllByRecursion, slice_get}
 use Rattle.os_ignore.specs.declared.letter.Letter.{Letter}
 use Rattle.os_ignore.specs.declared.line.Line.{Line}
 use Rattle.os_ignore.specs.declared.reason.NoPattern.{NoPattern}
@@ -39,6 +39,14 @@ abbrev pub NoTextAt : List ℕ → ℕ → Type 0
 NoTextAt file number = (before : ℕ) → number ≡ before + 1 → slice_get (pieces 0xA (without_mark file)) before ≡ None
 
 module _ {A : Type 0} where
+  -- the file has a line of this line's number
+  abbrev pub IsThere : List ℕ → Line A → Type 0
+  IsThere file line = NoTextAt file line.number → ⊥
+
+  -- so for each of the lines: its negation is refuted
+  abbrev pub AreThere : List ℕ → List (Line A) → Type 0
+  AreThere file lines = (AllByRecursion (IsThere file) lines → ⊥) → ⊥
+
   -- the line, if there is one
   abbrev pub list_of : Result (Line A) NoPattern → List (Line A)
   list_of (Err reason) = []

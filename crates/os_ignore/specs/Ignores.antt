@@ -4,6 +4,8 @@ use Rattle.std.specs.List.{AllByRecursion}
 use Rattle.os_ignore.specs.declared.file.File.{File}
 use Rattle.os_ignore.specs.declared.ignore.Ignore.{Ignore}
 use Rattle.os_ignore.specs.declared.reason.NoPattern.{NoPattern}
+use Rattle.os_ignore.specs.declared.verdict.Verdict.{Verdict}
+use Rattle.os_ignore.specs.declared.verdict.Verdict.TheVariants.{Neither, Ignored, TakenIn}
 use Rattle.os_ignore.specs.Components.{pieces}
 use Rattle.os_ignore.specs.Directories.{IsPlace}
 use Rattle.os_ignore.specs.Files.{AreLines, IsLineText, IsTextAt, NoTextAt, without_mark}
@@ -58,6 +60,12 @@ module _ {A : Type 0} where
   -- no file has a line of these numbers
   abbrev pub HasNoText : List (File A) → ℕ → ℕ → Type 0
   HasNoText files number line = AllByRecursion (FileHasNoText number line) files
+
+  -- one of the files has the line that decides
+  abbrev pub HasLineOf : List (File A) → Verdict → Type 0
+  HasLineOf files Neither = Unit {0}
+  HasLineOf files (Ignored file line) = HasNoText files file line → ⊥
+  HasLineOf files (TakenIn file line) = HasNoText files file line → ⊥
 
   -- the files are in one directory, have one number, and are read from one text in one way
   pub record AreOfOneText (file other : File A) : Type 0 where

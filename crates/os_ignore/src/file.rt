@@ -1,6 +1,6 @@
 //! An ignore file: its lines, and the directory that it is in.
 ghost use Rattle.std.specs.Prelude.{◌≡◌, ◌++◌, length, map, IfOk, MatchOption, None, Some};
-ghost use Rattle.os_ignore.specs.Files.{without_mark, IsWithoutReturn, IsLineText, IsTextAt, NoTextAt, AreLines, list_of};
+ghost use Rattle.os_ignore.specs.Files.{without_mark, IsWithoutReturn, IsLineText, IsTextAt, NoTextAt, AreLines, AreThere, list_of};
 ghost use Rattle.std.specs.List.{AllByRecursion, slice_get};
 ghost use Rattle.os_ignore.specs.Components.{pieces};
 ghost use Rattle.os_ignore.specs.Tags.{AreTags, IsTag};
@@ -25,6 +25,7 @@ pub struct File<A: Allocator = Global> {
     pub tags: Vec<u8, A>,
     ghost count: { length tags.items ≡ length lines.items },
     ghost tagged: { AreTags lines.items tags.items },
+    ghost there: { AreThere content.items lines.items },
 }
 
 /// Without the byte order mark that a file may begin with.

@@ -1,12 +1,13 @@
 //! Laws of ignore files. Each is the contract of a function that does nothing.
-ghost use Rattle.std.specs.Prelude.{◌≡◌, ◌↔◌, ◌<◌, ◌∷◌, ◌++◌, Bool, ℕ, List, length, true, false};
+ghost use Rattle.std.specs.Prelude.{◌≡◌, ◌↔◌, ◌<◌, ◌∷◌, ◌++◌, Bool, ℕ, List, Option, length, true, false};
 ghost use Rattle.std.specs.List.{AllZip};
 ghost use Rattle.os_ignore.specs.declared.file.File.{File};
 ghost use Rattle.os_ignore.specs.declared.line.Line.{Line};
 ghost use Rattle.os_ignore.specs.declared.reason.NoPattern.{NoPattern};
 ghost use Rattle.os_ignore.specs.declared.verdict.Verdict.{Verdict};
 ghost use Rattle.os_ignore.specs.Components.{IsPlain, IsLastComponent};
-ghost use Rattle.os_ignore.specs.Ignores.{IsFileAt, AreOfOneText, IsBlanked};
+ghost use Rattle.os_ignore.specs.Files.{HasReason};
+ghost use Rattle.os_ignore.specs.Ignores.{IsFileAt, AreOfOneText, HasLineOf, IsBlanked};
 ghost use Rattle.os_ignore.specs.Letters.{escaped};
 ghost use Rattle.os_ignore.specs.Lines.{IsLine, SaysNothing};
 ghost use Rattle.os_ignore.specs.Matching.{LineMatches};
@@ -48,6 +49,19 @@ pub fn taken_in_again<A: Allocator>()
 pub fn never_both<A: Allocator>()
     ensures { (folds : Bool) → (text : List ℕ) → (line : Line A) → (reason : NoPattern)
         → IsLine folds text line → SaysNothing folds A text reason → ⊥ }
+{}
+
+/// A line is a pattern, or is none for one reason: what [`no_pattern`](crate::no_pattern) returns.
+pub fn one_reason<A: Allocator>()
+    ensures { (line : List ℕ) → (a : Option NoPattern) → (b : Option NoPattern)
+        → HasReason A line a → HasReason A line b → a ≡ b }
+{}
+
+/// A line that decides is a line of one of the files: [`Ignore::line`](crate::Ignore::line) returns a
+/// text for the numbers of a verdict.
+pub fn known_line<A: Allocator>()
+    ensures { (files : List (File A)) → (path : List ℕ) → (is_dir : Bool) → (v : Verdict)
+        → IsVerdict files path is_dir v → HasLineOf files v }
 {}
 
 /// The line of a name whose bytes are all quoted matches the paths with this last component, and no

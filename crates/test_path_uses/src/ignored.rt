@@ -4,6 +4,7 @@ ghost use Rattle.os_ignore.specs.declared.file.File.{File};
 ghost use Rattle.os_ignore.specs.declared.line.Line.{Line};
 ghost use Rattle.os_ignore.specs.declared.reason.NoPattern.{NoPattern};
 ghost use Rattle.os_ignore.specs.declared.verdict.Verdict.{Verdict};
+ghost use Rattle.os_ignore.specs.declared.verdict.Verdict.TheVariants.{Neither};
 ghost use Rattle.os_ignore.specs.Components.{IsPlain, IsLastComponent};
 ghost use Rattle.os_ignore.specs.declared.reason.NoPattern.TheVariants.{Comment};
 ghost use Rattle.os_ignore.specs.Files.{HasReason, IsTextAt, NoTextAt};
@@ -215,6 +216,31 @@ pub fn is_comment<A: Allocator + Copy>(alloc: A, line: &[u8]) -> Result<bool, Al
     match no_pattern(alloc, line)? {
         Some(NoPattern::Comment) => Ok(true),
         _ => Ok(false),
+    }
+}
+
+/// Why a line is no pattern, twice: for one reason.
+pub fn reasons_of<A: Allocator + Copy>(
+    alloc: A,
+    line: &[u8],
+) -> Result<(Option<NoPattern>, Option<NoPattern>), AllocError>
+    ensures { IfOk result (λ reasons. reasons.0 ≡ reasons.1) }
+{
+    laws::one_reason::<A>();
+    let first = no_pattern(alloc, line)?;
+    let second = no_pattern(alloc, line)?;
+    Ok((first, second))
+}
+
+/// Whether a line with a text decides a path. If none does, no line decides it.
+pub fn has_deciding_text<A: Allocator + Copy>(ignore: &Ignore<A>, path: &[u8], is_dir: bool) -> bool
+    ensures { result ≡ false → IsVerdict (files_of ignore.now) path.now is_dir Neither }
+{
+    laws::known_line::<A>();
+    match ignore.matched(path, is_dir) {
+        Verdict::Neither => false,
+        Verdict::Ignored { file, line } => ignore.line(file, line).is_some(),
+        Verdict::TakenIn { file, line } => ignore.line(file, line).is_some(),
     }
 }
 

@@ -9,6 +9,7 @@ ghost use Rattle.wildcards.specs.Sets.{Has, IsHit, AreFound, AreHits};
 use crate::candidates::{Query, Stage};
 use crate::enough::{if_enough, is_text};
 use crate::filter::{Filter, Place};
+use crate::indices::make_ascending;
 use crate::letters::Letters;
 use crate::options::Options;
 use crate::path::matches;
@@ -300,8 +301,7 @@ impl<A: Allocator> PatternSet<A> {
         found.clear();
         match self.add_matches::<L, B>(path, found) {
             Ok(()) => {
-                found.sort_unstable();
-                found.dedup();
+                make_ascending(found);
                 Ok(())
             }
             Err(error) => {

@@ -44,7 +44,7 @@ one_strip letters false false r q h k = (refl, h.0 ∙ sym k.0)
 one_strip letters true false r q h k = let never : true ≡ false = k.1 r (slash false) h in absurd cc
 one_strip letters false true r q h k = let never : true ≡ false = h.1 q (slash false) k in absurd cc
 
-not_quoted : (letters : List Letter) (d : Bool) (r : List Letter) → IsStripped letters d r → EndsQuoted letters → ⊥
+pub not_quoted : (letters : List Letter) (d : Bool) (r : List Letter) → IsStripped letters d r → EndsQuoted letters → ⊥
 not_quoted letters true r h k =
     let same = (same_from_push r k.0 (slash false) (slash true) (sym h ∙ k.1)).1 in
     let never : false ≡ true = ap (λ z. z.quoted) same in absurd cc

@@ -53,7 +53,7 @@ one_whole line w v (inl h) (inr k) = absurd (k.1 w h)
 one_whole line w v (inr h) (inl k) = absurd (h.1 v k)
 one_whole line w v (inr h) (inr k) = h.0 ∙ sym k.0
 
-one_text : (line t u : List ℕ) → IsLineText line t → IsLineText line u → t ≡ u
+pub one_text : (line t u : List ℕ) → IsLineText line t → IsLineText line u → t ≡ u
 one_text line t u h k =
     let e : t ∷ h.more ≡ u ∷ k.more = sym h.first ∙ ap (pieces 0x0) (one_whole line h.whole k.whole h.without_return k.without_return) ∙ k.first in
     cc

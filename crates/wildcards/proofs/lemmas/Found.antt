@@ -1,5 +1,5 @@
 -- Lists of numbers, sorted and each kept once.
-use Rattle.std.proofs.Common.{◌≡◌, ◌⊎◌, inl, inr, ◌<◌, ◌≤◌, ℕ, zero, suc, List, [], ◌∷◌, ◌++◌, length, eqb, refl, sym, arith}
+use Rattle.std.proofs.Common.{◌≡◌, ◌↔◌, ◌⊎◌, inl, inr, ◌<◌, ◌≤◌, ℕ, zero, suc, List, [], ◌∷◌, ◌++◌, length, eqb, refl, sym, subst, arith}
 use Rattle.std.specs.List.{AllByRecursion, AllPairs, Contains, dedup}
 use Rattle.std.specs.List.Sorted.{IsPermutation, IsSorted}
 use Rattle.std.specs.Ordering.{nat_cmp}
@@ -78,10 +78,32 @@ pairs_ascend (x ∷ xs) h = (
   pairs_ascend xs (λ i j d l k. h (suc i) (suc j) d (omega (arith, l)) (omega (arith, k))),
 )
 
--- what is found, sorted, and each kept once
-pub in_order : {A : Type 0} (o : Options) (patterns : List (Pattern A)) (path found sorted : List ℕ) → IsPermutation found sorted → IsSorted nat_cmp sorted → AreFound o patterns path found → AreHits o patterns path (dedup eqb sorted)
-in_order o patterns path found sorted p s f = record {
-  sound = λ i h. f.sound i (contains_has found i (Contains-permutation sorted found i (IsPermutation-sym found sorted p) (Contains-from_dedup eqb sorted i (has_contains (dedup eqb sorted) i h))));
-  complete = λ i hit. contains_has (dedup eqb sorted) i (Contains-dedup_nat sorted i (Contains-permutation found sorted i p (has_contains found i (f.complete i hit))));
-  ascends = pairs_ascend (dedup eqb sorted) (AllPairs-from_increasing (dedup eqb sorted) (IsStrictlyIncreasing-dedup sorted s));
+-- sorted, and each kept once
+pub sorted_has : (found sorted : List ℕ) → IsPermutation found sorted → (i : ℕ) → Has found i ↔ Has (dedup eqb sorted) i
+sorted_has found sorted p i = (
+  λ h. contains_has (dedup eqb sorted) i (Contains-dedup_nat sorted i (Contains-permutation found sorted i p (has_contains found i h))),
+  λ h. contains_has found i (Contains-permutation sorted found i (IsPermutation-sym found sorted p) (Contains-from_dedup eqb sorted i (has_contains (dedup eqb sorted) i h))),
+)
+
+pub sorted_ascends : (sorted : List ℕ) → IsSorted nat_cmp sorted → Ascends (dedup eqb sorted)
+sorted_ascends sorted s = pairs_ascend (dedup eqb sorted) (AllPairs-from_increasing (dedup eqb sorted) (IsStrictlyIncreasing-dedup sorted s))
+
+-- a number below the first of those that ascend
+pub ascends_one : (all left rest : List ℕ) (x : ℕ) → left ≡ x ∷ rest → ((y : ℕ) (ys : List ℕ) → rest ≡ y ∷ ys → x < y) → (Ascends left → Ascends all) → Ascends rest → Ascends all
+ascends_one all left [] x e below h up = h (subst Ascends (sym e) (tt, tt))
+ascends_one all left (y ∷ ys) x e below h up = h (subst Ascends (sym e) ((l, lower ys up.0), up))
+  where
+    l : x < y
+    l = below y ys refl
+
+    lower : (zs : List ℕ) → AllByRecursion (λ z. y < z) zs → AllByRecursion (λ z. x < z) zs
+    lower [] k = tt
+    lower (z ∷ zs) k = let m = k.0 in (omega (arith, l, m), lower zs k.1)
+
+-- what is found, in order
+pub in_order : {A : Type 0} (o : Options) (patterns : List (Pattern A)) (path found ordered : List ℕ) → ((i : ℕ) → Has found i ↔ Has ordered i) → Ascends ordered → AreFound o patterns path found → AreHits o patterns path ordered
+in_order o patterns path found ordered same up f = record {
+  sound = λ i h. f.sound i ((same i).1 h);
+  complete = λ i hit. (same i).0 (f.complete i hit);
+  ascends = up;
 }

@@ -1,5 +1,7 @@
 use Rattle.std.proofs.Common.{length, map, sym, ap, subst, ◌∙◌}
+use Rattle.os_ignore.specs.Files.{AreThere}
 use Rattle.os_ignore.specs.Tags.{AreTags}
+use Rattle.os_ignore.proofs.lemmas.Known.{all_lines}
 use Rattle.os_ignore.proofs.lemmas.Tags.{own_tags, own_count}
 use Rattle.os_ignore.proofs.file.new_file.Goals as goal
 
@@ -10,4 +12,5 @@ invariant_of-result g c =
     record {
       count = ap length tags ∙ own_count lines;
       tagged = subst (AreTags lines) (sym tags) (own_tags lines c.in_ok-lines.ensures.tags);
+      there = subst (λ z. AreThere z lines) (sym c.in_ok-from_slice-2.ensures.items) (all_lines c.args.folds c.args.content.now lines c.in_ok-lines.ensures.lines);
     }
