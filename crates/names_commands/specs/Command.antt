@@ -1,5 +1,5 @@
 -- What the options and operands of the command line request.
-use Rattle.std.specs.Prelude.{◌≡◌, ◌≢◌, ◌⊎◌, ◌↔◌, ℕ, ◌<◌, ◌^◌, IsTrue, List, [], ◌∷◌, Option, None, Some, codes}
+use Rattle.std.specs.Prelude.{◌≡◌, ◌≢◌, ◌⊎◌, ◌↔◌, ℕ, ◌<◌, ◌^◌, Bool, true, false, IsTrue, List, [], ◌∷◌, map, string_bytes, None, Some, codes}
 use Rattle.std.specs.Str.Parse.{IsNumeral, digits_value, without_leading_plus}
 use Rattle.glob_patterns.specs.declared.options.GlobOptions.{GlobOptions}
 use Rattle.glob_patterns.specs.Options.{usual_options}
@@ -7,7 +7,7 @@ use Rattle.os_args.specs.Reading.{UnexpectedArgument}
 use Rattle.os_args.specs.Views.{fault_of}
 use Rattle.os_args.specs.Word.{Value}
 use Rattle.wildcards.specs.declared.separators.Separators.TheVariants.{Slash, SlashAndBackslash}
-use Rattle.program_frame.specs.Arguments.{HasOption, LastValue, operands_of}
+use Rattle.program_frame.specs.Arguments.{AreValues, HasOption, LastValue, operands_of, text_of}
 use Rattle.program_frame.specs.ListOptions.{AreStated}
 use Rattle.program_frame.specs.Os.{os_word}
 use Rattle.program_frame.specs.declared.arguments.Given.{Given}
@@ -18,17 +18,24 @@ use Rattle.program_frame.specs.declared.misuse.Misuse.TheVariants.{Argument, Mis
 use Rattle.program_frame.specs.declared.os.Os.{Os}
 use Rattle.program_frame.specs.declared.os.Os.TheVariants.{Unix, Windows, Wasm}
 use Rattle.names_commands.specs.Options.{word_of}
-use Rattle.names_commands.specs.Pick.{TakesIgnore, glob_words}
+use Rattle.names_commands.specs.Pick.{ArePatterns, TakesIgnore}
 use Rattle.names_commands.specs.declared.command.Command.{Command}
-use Rattle.names_commands.specs.declared.command.Command.TheVariants.{ListNames, ListWords, Filter, Why, Join, JoinWords, Check, Help, Version}
+use Rattle.names_commands.specs.declared.command.Command.TheVariants.{Help, Version, On}
 use Rattle.names_commands.specs.declared.command.Name.{Name}
 use Rattle.names_commands.specs.declared.command.Name.TheVariants as name
 use Rattle.names_commands.specs.declared.command.Request.{Request}
+use Rattle.names_commands.specs.declared.command.RequestError.{RequestError}
+use Rattle.names_commands.specs.declared.command.RequestError.TheVariants.{Memory, Misuse as OfMisuse}
+use Rattle.names_commands.specs.declared.command.Work.{Work}
+use Rattle.names_commands.specs.declared.command.Work.TheVariants.{Each, Picked, Why}
+use Rattle.names_commands.specs.declared.matching.Form.{Form}
+use Rattle.names_commands.specs.declared.matching.Form.TheVariants as form
 use Rattle.names_commands.specs.declared.option.NamesOption.{NamesOption}
 use Rattle.names_commands.specs.declared.option.NamesOption.TheVariants as option
-use Rattle.names_commands.specs.declared.pick.Pick.{Pick}
 use Rattle.names_commands.specs.declared.task.EmptyLine.{EmptyLine}
 use Rattle.names_commands.specs.declared.task.EmptyLine.TheVariants.{IsRejected as LineIsRejected, IsEmptyName}
+use Rattle.names_commands.specs.declared.task.Task.{Task}
+use Rattle.names_commands.specs.declared.task.Task.TheVariants.{ListAll, ListWords, Check, Join, JoinWords}
 use Rattle.names_commands.specs.declared.task.WordForm.{WordForm}
 use Rattle.names_commands.specs.declared.task.WordForm.TheVariants.{Posix, OneLine}
 
@@ -114,17 +121,16 @@ SomePicked given more = (more ≢ []) ⊎ OptionsPick given
 abbrev pub NeedsPick : Line → Name → Type 0
 NeedsPick given command = (command ≡ name.Filter) ⊎ HasOption option.Invert given
 
--- this picks names: the pattern that is an operand, beside the options, or the names that these don't pick
-pub record IsPick (given : Line) (os : Os) (more : List (List ℕ)) (pick : Pick) : Type 0 where
-  pub glob : more ≡ glob_words pick.glob
-  pub some : SomePicked given more
-  pub ignores : HasOption option.Ignore given → TakesIgnore os
-  pub inverted : IsTrue pick.inverted ↔ HasOption option.Invert given
+-- there is one or none
+abbrev pub AtMostOne : List (List ℕ) → Type 0
+AtMostOne [] = Unit {0}
+AtMostOne (word ∷ []) = Unit {0}
+AtMostOne (word ∷ other ∷ more) = ⊥
 
--- it does, or all names are picked
-abbrev pub IsMaybePick : Line → Os → List (List ℕ) → Option Pick → Type 0
-IsMaybePick given os more None = (¬ (SomePicked given more)) × (¬ (HasOption option.Invert given))
-IsMaybePick given os more (Some pick) = IsPick given os more pick
+-- whether names are picked: by a pattern that is an operand, or by options; or all names are meant
+abbrev pub Picks : Line → Os → List (List ℕ) → Bool → Type 0
+Picks given os more true = AtMostOne more × (SomePicked given more × (HasOption option.Ignore given → TakesIgnore os))
+Picks given os more false = (¬ (SomePicked given more)) × (¬ (HasOption option.Invert given))
 
 -- how words of a shell are written: each on one line where that is requested
 abbrev pub IsForm : Line → WordForm → Type 0
@@ -140,15 +146,30 @@ abbrev pub IsEmptyLine : Line → EmptyLine → Type 0
 IsEmptyLine given LineIsRejected = ¬ (HasOption option.Empty given)
 IsEmptyLine given IsEmptyName = HasOption option.Empty given
 
+-- the work of `list`: the names that are picked in a form, or a task for each name
+abbrev pub listing : Bool → Form → Task → Work
+listing true shape task = Picked shape
+listing false shape task = Each task
+
+-- the command is `list`, and names are picked or all are meant
+abbrev pub Lists : Line → Os → Bool → Type 0
+Lists given os picks = (more : List (List ℕ)) × (HasOperands given name.List os more × (Fits name.List given × Picks given os more picks))
+
+-- the work that these make up, on the platform
+abbrev pub MakesUpWork : Line → Os → Work → Type 0
+MakesUpWork given os (Each ListAll) = Lists given os false × NoWords given
+MakesUpWork given os (Each (ListWords words)) = Lists given os false × ((os ≡ Unix) × IsForm given words)
+MakesUpWork given os (Each Check) = HasOperands given name.Check os [] × Fits name.Check given
+MakesUpWork given os (Each (Join empty)) = HasOperands given name.Join os [] × (Fits name.Join given × (NoWords given × IsEmptyLine given empty))
+MakesUpWork given os (Each JoinWords) = HasOperands given name.Join os [] × (Fits name.Join given × ((os ≡ Unix) × (¬ (NoWords given))))
+MakesUpWork given os (Picked form.Line) = Lists given os true × NoWords given
+MakesUpWork given os (Picked (form.Word words)) = Lists given os true × ((os ≡ Unix) × IsForm given words)
+MakesUpWork given os (Picked form.Name) = (more : List (List ℕ)) × (HasOperands given name.Filter os more × (Fits name.Filter given × Picks given os more true))
+MakesUpWork given os Why = HasOperands given name.Why os [] × (Fits name.Why given × (HasOption option.Ignore given × TakesIgnore os))
+
 -- the command that these make up
 abbrev pub MakesUp : Line → Command → Type 0
-MakesUp given (ListNames os pick) = (more : List (List ℕ)) × (HasOperands given name.List os more × (Fits name.List given × (NoWords given × IsMaybePick given os more pick)))
-MakesUp given (ListWords form pick) = (more : List (List ℕ)) × (HasOperands given name.List Unix more × (Fits name.List given × (IsForm given form × IsMaybePick given Unix more pick)))
-MakesUp given (Filter os pick) = (more : List (List ℕ)) × (HasOperands given name.Filter os more × (Fits name.Filter given × IsPick given os more pick))
-MakesUp given (Why os) = HasOperands given name.Why os [] × (Fits name.Why given × (HasOption option.Ignore given × TakesIgnore os))
-MakesUp given (Join os empty) = HasOperands given name.Join os [] × (Fits name.Join given × (NoWords given × IsEmptyLine given empty))
-MakesUp given JoinWords = HasOperands given name.Join Unix [] × (Fits name.Join given × (¬ (NoWords given)))
-MakesUp given (Check os) = HasOperands given name.Check os [] × Fits name.Check given
+MakesUp given (On os work) = MakesUpWork given os work
 MakesUp given Help = ⊥
 MakesUp given Version = ⊥
 
@@ -168,13 +189,37 @@ IsMax given max =
 abbrev pub IsListed : Line → ListOptions → Type 0
 IsListed given list = (max : ℕ) × (IsMax given max × AreStated option.Lines option.Unterminated max given list)
 
+-- all that options and operands state: the command, how the list is written, the patterns, of which the first `plain` come before those of `--name`, the values of `--ignore`, and whether the names are picked that don't match
+pub record Asked : Type 0 where
+  pub command : Command
+  pub list : ListOptions
+  pub plain : ℕ
+  pub globs : List (List ℕ)
+  pub files : List (List ℕ)
+  pub inverted : Bool
+
+-- what a request states
+abbrev pub asked_of : {A : Type 0} → Request A → Asked
+asked_of request = record {
+  command = request.command;
+  list = request.list;
+  plain = request.plain;
+  globs = map string_bytes request.patterns.items;
+  files = map text_of request.files.items;
+  inverted = request.inverted;
+}
+
+-- these state the patterns, the ignore files, and whether the other names are picked
+abbrev pub StatesPicks : Line → Asked → Type 0
+StatesPicks given a = ArePatterns given a.plain a.globs × (AreValues option.Ignore given a.files × (IsTrue a.inverted ↔ HasOption option.Invert given))
+
 -- these make up the request: help, wherever its option is; the version; or a command
-abbrev pub AsksFor : Line → Request → Type 0
-AsksFor given r =
-    (HasOption option.Help given × (r.command ≡ Help))
+abbrev pub AsksFor : Line → Asked → Type 0
+AsksFor given a =
+    (HasOption option.Help given × (a.command ≡ Help))
     ⊎ ((¬ (HasOption option.Help given)) × (
-    (HasOption option.Version given × (r.command ≡ Version))
-    ⊎ ((¬ (HasOption option.Version given)) × (IsListed given r.list × MakesUp given r.command))
+    (HasOption option.Version given × (a.command ≡ Version))
+    ⊎ ((¬ (HasOption option.Version given)) × (IsListed given a.list × (MakesUp given a.command × StatesPicks given a)))
     ))
 
 -- what is missing: a command, a platform after it, what picks names, or an ignore file
@@ -237,8 +282,13 @@ IsMisuse given (Misplaced word where_to) = IsMisplaced given word.now where_to.n
 
 -- these make up no request, and this is wrong with them
 pub record IsRejected (given : Line) (misuse : Misuse) : Type 0 where
-  pub no_request : (request : Request) → ¬ (AsksFor given request)
+  pub no_request : (asked : Asked) → ¬ (AsksFor given asked)
   pub wrong : IsMisuse given misuse
+
+-- why there is no request of these; an allocation may fail
+abbrev pub IsRequestError : Line → RequestError → Type 0
+IsRequestError given (OfMisuse misuse) = IsRejected given misuse
+IsRequestError given Memory = Unit {0}
 
 -- how a pattern is matched on the platform: `\` is a separator on Windows alone
 abbrev pub options_of : Os → GlobOptions

@@ -7,7 +7,6 @@ pub mod Options
 pub mod Files
 pub mod Command
 pub mod Pick
-pub mod Work
 pub mod Program
 pub mod Back
 pub mod Words

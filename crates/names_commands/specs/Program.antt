@@ -1,5 +1,5 @@
 -- The whole program, from the words after its name to its exit status.
-use Rattle.std.specs.Prelude.{◌≡◌, ◌⊎◌, ◌+◌, ℕ, Bool, List, drop, Option, None, Some, Result, Err, ⊤}
+use Rattle.std.specs.Prelude.{◌≡◌, ◌⊎◌, ◌+◌, ℕ, Bool, List, drop, Option, Result, Err, ⊤}
 use Rattle.std.specs.Fmt.InlineText.{inline_text}
 use Rattle.os_str_bytes.specs.Platform.{Ghosts}
 use Rattle.os_ignore.specs.declared.file.File.{File}
@@ -11,7 +11,7 @@ use Rattle.os_args.specs.declared.error.ArgumentError.{ArgumentError}
 use Rattle.os_str_bytes.specs.Wasm.{Wasm}
 use Rattle.os_str_bytes.specs.WasmPlatform.TheImpl as wasm
 use Rattle.platform_str.specs.declared.os_str.OsStr.{OsStr}
-use Rattle.program_frame.specs.Arguments.{AreGiven, AreValues, HasFault}
+use Rattle.program_frame.specs.Arguments.{AreGiven, HasFault}
 use Rattle.program_frame.specs.Files.{KnownFiles}
 use Rattle.program_frame.specs.declared.misuse.Misuse as misuse
 use Rattle.program_frame.specs.declared.misuse.Misuse.TheVariants.{Argument}
@@ -27,25 +27,22 @@ use Rattle.program_frame.specs.declared.fault.Failure.TheVariants.{Memory, Write
 use Rattle.program_frame.specs.declared.lists.fault.ListFault.TheVariants.{Run}
 use Rattle.program_frame.specs.declared.lists.options.ListOptions.{ListOptions}
 use Rattle.names_commands.specs.declared.command.Command.{Command}
+use Rattle.names_commands.specs.declared.command.Command.TheVariants.{Help, Version, On}
+use Rattle.names_commands.specs.declared.command.Work.{Work}
+use Rattle.names_commands.specs.declared.command.Work.TheVariants.{Each, Picked, Why}
 use Rattle.program_frame.specs.declared.lists.program_fault.Fault as program_fault
 use Rattle.program_frame.specs.declared.lists.program_fault.Fault.TheVariants.{List as OfList, Words}
 use Rattle.names_commands.specs.declared.fault.Refusal.{Refusal}
 use Rattle.names_commands.specs.declared.fault.CommandFault.{CommandFault}
 use Rattle.names_commands.specs.declared.fault.CommandFault.TheVariants.{Unreadable, Misuse, Pattern, NoFile, Unread}
 use Rattle.names_commands.specs.declared.matching.Form.{Form}
-use Rattle.names_commands.specs.declared.plan.Plan.{Plan}
-use Rattle.names_commands.specs.declared.plan.Work.{Work}
-use Rattle.names_commands.specs.declared.plan.Work.TheVariants.{Each, Picked, Why}
 use Rattle.names_commands.specs.Caret.{IsPointed}
 use Rattle.names_commands.specs.Ignoring.{AreRead, IsFileIn, IsFirstUnread}
 use Rattle.names_commands.specs.Matching.{picking, AreWrittenOut, IsChosen, IsFirstFault, IsPicked}
-use Rattle.names_commands.specs.Pick.{AreChosen, added_before, typed_fault}
+use Rattle.names_commands.specs.Pick.{added_before, typed_fault}
 use Rattle.names_commands.specs.Why.{deciding}
-use Rattle.names_commands.specs.declared.option.NamesOption.TheVariants.{Ignore}
-use Rattle.names_commands.specs.declared.command.Request.{Request}
-use Rattle.names_commands.specs.Command.{AsksFor, IsRejected, Line, options_of}
+use Rattle.names_commands.specs.Command.{Asked, AsksFor, IsRejected, Line, options_of}
 use Rattle.names_commands.specs.Task.{rules_of}
-use Rattle.names_commands.specs.Work.{work_of}
 
 -- what keeps the program from its output
 abbrev pub Fault : Type 0
@@ -107,56 +104,35 @@ module _ (known : KnownFiles) (A : Type 0) where
       ((why : CommandFault) × IsFileFault names why × EndsAtOnce (Words why) input left old new answer)
       ⊎ ((files : List (File A)) × AreRead known names files × Runs (picking p shape list (IsPicked inverted Chosen files)) OfList input left old new answer)
 
-  -- the run ends with the first ignore file that can't be read. Or it writes the lines of the files that decide names, and these names, on a platform that states this of its strings, from a list that is written so
-  abbrev pub RunsReasons : {E : Type 0} → Ghosts E → ListOptions → List (List ℕ) → Doing
-  RunsReasons p list values input left old new answer =
-      ((why : CommandFault) × IsFileFault values why × EndsAtOnce (Words why) input left old new answer)
-      ⊎ ((files : List (File A)) × AreRead known values files × Runs (deciding p list values files) OfList input left old new answer)
+  -- where this is requested, on a platform that states this of its strings:
+  module _ {E : Type 0} (p : Ghosts E) (asked : Asked) where
+    -- the run ends with the first ignore file that can't be read. Or it writes the lines of the files that decide names, and these names
+    abbrev pub RunsReasons : Doing
+    RunsReasons input left old new answer =
+        ((why : CommandFault) × IsFileFault asked.files why × EndsAtOnce (Words why) input left old new answer)
+        ⊎ ((files : List (File A)) × AreRead known asked.files files × Runs (deciding p asked.list asked.files files) OfList input left old new answer)
 
-  -- on such a platform, where a plan states what is done, and the first `plain` patterns come before those of `--name`:
-  module _ {E : Type 0} (p : Ghosts E) (plan : Plan) (plain : ℕ) where
-    -- the run ends with the first of the patterns that has a fault. Or it writes the names that one of them matches, or all where there are none, but for those that the files ignore; or, inverted, the others
-    abbrev pub RunsPatterns : List (List ℕ) → List (List ℕ) → Doing
-    RunsPatterns globs names input left old new answer =
-        ((index : ℕ) × (fault : PatternFault) × (first : IsFirstFault p (options_of plan.os) globs index fault) × (why : Fault) × IsOfPattern (added_before plain index) (index + 1) first.text fault why × EndsAtOnce why input left old new answer)
-        ⊎ ((written : List (List (List Mark))) × AreWrittenOut p (options_of plan.os) globs written × RunsBut p plan.form plan.list plan.pick.inverted (IsChosen p (options_of plan.os) written) names input left old new answer)
+    -- the run ends with the first of the patterns that has a fault. Or it writes in this form the names that one of them matches, or all where there are none, but for those that the files ignore; or, inverted, the others
+    abbrev pub RunsPicked : Os → Form → Doing
+    RunsPicked os shape input left old new answer =
+        ((index : ℕ) × (fault : PatternFault) × (first : IsFirstFault p (options_of os) asked.globs index fault) × (why : Fault) × IsOfPattern (added_before asked.plain index) (index + 1) first.text fault why × EndsAtOnce why input left old new answer)
+        ⊎ ((written : List (List (List Mark))) × AreWrittenOut p (options_of os) asked.globs written × RunsBut p shape asked.list asked.inverted (IsChosen p (options_of os) written) asked.files input left old new answer)
 
-  -- where these options and operands are given:
-  module _ (given : Line) where
-    -- on a platform that states this of its strings, the result for the patterns and the ignore files that pick names
-    abbrev pub RunsChosen : {E : Type 0} → Ghosts E → Plan → Doing
-    RunsChosen p plan input left old new answer = (plain : ℕ) × (globs : List (List ℕ)) × (names : List (List ℕ)) × AreChosen given plan.pick plain globs names × RunsPatterns p plan plain globs names input left old new answer
+    -- what is done with a list
+    abbrev pub DoesWork : Os → Work → Doing
+    DoesWork os (Each what) input left old new answer = Runs (rules_of p (record { task = what; list = asked.list })) OfList input left old new answer
+    DoesWork os (Picked shape) input left old new answer = UnlessOutOfMemory (RunsPicked os shape) input left old new answer
+    DoesWork os Why input left old new answer = UnlessOutOfMemory RunsReasons input left old new answer
 
-    -- that result, unless memory is refused first
-    abbrev pub RunsPick : {E : Type 0} → Ghosts E → Plan → Doing
-    RunsPick p plan input left old new answer = UnlessOutOfMemory (RunsChosen p plan) input left old new answer
+  -- what a command does
+  abbrev pub DoesCommand : Asked → Command → Doing
+  DoesCommand asked Help input left old new answer = WritesSomeText input left old new answer
+  DoesCommand asked Version input left old new answer = WritesSomeText input left old new answer
+  DoesCommand asked (On os work) input left old new answer = DoesWork (strings os) asked os work input left old new answer
 
-    -- on the platform of the plan
-    abbrev pub RunsPlan : Plan → Doing
-    RunsPlan plan input left old new answer = RunsPick (strings plan.os) plan input left old new answer
-
-    -- the result for the ignore files that decide names, on a platform that states this of its strings
-    abbrev pub RunsWhyOn : {E : Type 0} → Ghosts E → ListOptions → Doing
-    RunsWhyOn p list input left old new answer = (values : List (List ℕ)) × AreValues Ignore given values × RunsReasons p list values input left old new answer
-
-    -- on this platform, unless an allocation fails first
-    abbrev pub RunsWhy : Os → ListOptions → Doing
-    RunsWhy os list input left old new answer = UnlessOutOfMemory (RunsWhyOn (strings os) list) input left old new answer
-
-    -- what is done with a list of names that is written so, on a platform that states this of its strings
-    abbrev pub RunsWork : {E : Type 0} → Ghosts E → ListOptions → Work → Doing
-    RunsWork p list (Each what) input left old new answer = Runs (rules_of p (record { task = what; list = list })) OfList input left old new answer
-    RunsWork p list (Picked os shape pick) input left old new answer = RunsPick p (record { os = os; form = shape; pick = pick; list = list }) input left old new answer
-    RunsWork p list Why input left old new answer = UnlessOutOfMemory (RunsWhyOn p list) input left old new answer
-
-    -- a work on the names of a platform, or none
-    abbrev pub DoesWork : ListOptions → Option (Os × Work) → Doing
-    DoesWork list None input left old new answer = WritesSomeText input left old new answer
-    DoesWork list (Some of) input left old new answer = RunsWork (strings of.0) list of.1 input left old new answer
-
-    -- what a request for this command does with a list that is written so
-    abbrev pub Does : Command → ListOptions → Doing
-    Does command list input left old new answer = DoesWork list (work_of command) input left old new answer
+  -- what a request does
+  abbrev pub Does : Asked → Doing
+  Does asked input left old new answer = DoesCommand asked asked.command input left old new answer
 
   -- the options and operands make up no request, and the run ends at once with what is wrong
   abbrev pub RejectsLine : Line → Doing
@@ -166,7 +142,7 @@ module _ (known : KnownFiles) (A : Type 0) where
   abbrev pub RunsLine : Line → Doing
   RunsLine given input left old new answer =
       RejectsLine given input left old new answer
-      ⊎ ((request : Request) × (AsksFor given request × Does given request.command request.list input left old new answer))
+      ⊎ ((asked : Asked) × (AsksFor given asked × Does asked input left old new answer))
 
   -- the arguments have a fault, and the run ends at once with the first
   abbrev pub RejectsWords : List (List ℕ) → Doing

@@ -3,7 +3,6 @@ use Rattle.std.specs.Prelude.{◌≡◌, ◌⊎◌, ℕ, ◌<◌, ◌≤◌, tru
 use Rattle.os_command_line.specs.Shell.{IsRead, language}
 use Rattle.os_command_line.specs.ShellWriting.{IsLineWord, quoted_word}
 use Rattle.os_command_line.specs.declared.shell.fault.WordsFault.{WordsFault}
-use Rattle.program_frame.specs.Items.{Lacks}
 use Rattle.program_frame.specs.ListOptions.{byte_of}
 use Rattle.program_frame.specs.declared.lists.options.ListOptions.{ListOptions}
 use Rattle.program_frame.specs.declared.lists.fault.ItemFault.{ItemFault}

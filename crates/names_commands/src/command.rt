@@ -1,35 +1,67 @@
 //! Commands, and the requests that options and operands make up.
 ghost use Rattle.std.specs.Prelude.{◌≡◌, ◌≢◌, ◌↔◌, IfOk, IfErr, IsTrue, MatchOption};
 ghost use Rattle.program_frame.specs.Arguments.{operands_of};
-ghost use Rattle.names_commands.specs.Command.{AsksFor, Fits, HasOperands, IsMisuse, IsRejected, MakesUp, TakesOption, name_word};
+ghost use Rattle.names_commands.specs.Command.{AsksFor, Fits, HasOperands, IsMisuse, IsRequestError, MakesUp, TakesOption, asked_of, listing, name_word};
 ghost use Rattle.names_commands.specs.declared.command.Name.{Name as DeclaredName};
 ghost use Rattle.names_commands.specs.declared.command.Name.TheVariants.{Filter as FilterName, Join as JoinName, List as ListName, Why as WhyName};
 
 use crate::fitting::{fits, ignores, no_operand, words};
-use crate::given::{LONGEST_NAME, empty_line, form_of, listed, maybe_pick};
+use crate::given::{LONGEST_NAME, empty_line, form_of, listed, picks};
+use crate::matching::Form;
 use crate::option::NamesOption;
-use crate::pick::Pick;
-use crate::task::{EmptyLine, WordForm};
-use program_frame::arguments::{Given, has, next_operand};
+use crate::pick::patterns_of;
+use crate::task::{EmptyLine, Task};
+use program_frame::arguments::{Given, has, next_operand, values};
 use program_frame::lists::options::ListOptions;
 use program_frame::misuse::Misuse;
 use program_frame::os::Os;
+use std::alloc::{AllocError, Allocator, Global};
 
 /// Options and operands, as they were given.
 pub type Line<'s, 'a> = &'s [Given<'a, NamesOption>];
 
-/// What the program does, and how the list of names is written.
-#[derive(Clone, Copy, PartialEq, Eq)]
-pub struct Request<'a> {
+/// All that options and operands state.
+#[derive(Drop)]
+pub struct Request<'a, A: Allocator = Global> {
     /// What the program does.
-    pub command: Command<'a>,
+    pub command: Command,
     /// How the list is written: the byte that ends a name, whether the last item of the input may lack
     /// its end, and how many bytes a name may have.
     pub list: ListOptions,
+    /// The patterns that pick names: the operand, then those of `--glob` and then those of `--name`,
+    /// with `**/` before each of these. A name matches if one of them matches it, or there are none, and no
+    /// line of the ignore files ignores it.
+    pub patterns: Vec<String<A>, A>,
+    /// How many patterns come before those of `--name`.
+    pub plain: usize,
+    /// The values of `--ignore`, which state ignore files.
+    pub files: Vec<&'a str, A>,
+    /// Whether the names are picked that don't match.
+    pub inverted: bool,
 }
 
-impl<'a> Request<'a> {
-    /// The request that options and operands make up. It doesn't allocate.
+/// Why options and operands make up no request.
+#[derive(Clone, Copy)]
+pub enum RequestError<'a> {
+    /// What is wrong with them: something is missing, a word is invalid, an option isn't for the
+    /// command or the platform, or an operand is one too many.
+    Misuse(Misuse<'a>),
+    /// An allocation failed.
+    Memory,
+}
+
+impl<'a> From<AllocError> for RequestError<'a> {
+    ghost use Rattle.names_commands.specs.declared.command.RequestError.TheVariants.{Memory};
+
+    ghost from_gives = { λ _ error. error ≡ Memory };
+
+    fn from(_error: AllocError) -> Self {
+        RequestError::Memory
+    }
+}
+
+impl<'a, A: Allocator + Copy> Request<'a, A> {
+    /// The request that options and operands make up.
     ///
     /// `--help` and `--version` are requests wherever they stand. Otherwise the operands are a
     /// command, a platform and, for `list` and `filter`, a pattern. Options stand anywhere. The last
@@ -38,44 +70,68 @@ impl<'a> Request<'a> {
     ///
     /// # Errors
     ///
-    /// What is wrong: something is missing, a word is invalid, an option isn't for the command or
-    /// the platform, or an operand is one too many. Arguments that make up a request aren't rejected.
+    /// [`RequestError::Misuse`] if they make up no request, and [`RequestError::Memory`] if an allocation
+    /// fails.
     ///
     /// ```
-    /// use names_commands::command::{Command, Request};
+    /// use names_commands::command::{Command, Request, RequestError, Work};
     /// use names_commands::option::NamesOption;
+    /// use names_commands::task::Task;
     /// use program_frame::arguments::Given;
     /// use program_frame::lists::options::ListOptions;
     /// use program_frame::os::Os;
     ///
     /// let max = Given::Valued(NamesOption::Max, "255");
     /// let given = [Given::Operand("check"), Given::Operand("wasm"), max];
-    /// let Ok(request) = Request::parse(&given) else { return Ok(()) };
-    /// assert!(rt; request.command == Command::Check(Os::Wasm));
+    /// let Ok(request) = Request::parse(alloc, &given) else { return Ok(()) };
+    /// assert!(rt; request.command == Command::On(Os::Wasm, Work::Each(Task::Check)));
     /// assert!(rt; request.list == ListOptions::new(255));
-    /// let Err(error) = Request::parse(&given[..1]) else { return Ok(()) };
+    /// let Err(RequestError::Misuse(misuse)) = Request::parse(alloc, &given[..1]) else { return Ok(()) };
     /// let text = "missing platform (unix, windows or wasm)";
-    /// assert_eq!(rt; format!(in alloc; "{error}")?.as_str(), text);
+    /// assert_eq!(rt; format!(in alloc; "{misuse}")?.as_str(), text);
     /// ```
-    pub fn parse(given: Line<'_, 'a>) -> Result<Request<'a>, Misuse<'a>>
-        ensures request { IfOk result (λ request. AsksFor given.entry.now request) }
-        ensures misuse { IfErr result (λ misuse. IsRejected given.entry.now misuse) }
+    pub fn parse(alloc: A, given: Line<'_, 'a>) -> Result<Request<'a, A>, RequestError<'a>>
+        ensures request { IfOk result (λ request. AsksFor given.entry.now (asked_of request)) }
+        ensures error { IfErr result (λ error. IsRequestError given.entry.now error) }
     {
         if has(given, NamesOption::Help) {
-            let (command, list) = (Command::Help, ListOptions::new(LONGEST_NAME));
-            return Ok(Request { command, list });
+            return Ok(Request::of_text(alloc, Command::Help));
         }
         if has(given, NamesOption::Version) {
-            let (command, list) = (Command::Version, ListOptions::new(LONGEST_NAME));
-            return Ok(Request { command, list });
+            return Ok(Request::of_text(alloc, Command::Version));
         }
         let list = match listed(given) {
             Ok(list) => list,
-            Err(misuse) => return Err(misuse),
+            Err(misuse) => return Err(RequestError::Misuse(misuse)),
         };
-        match Command::parse(given) {
-            Ok(command) => Ok(Request { command, list }),
-            Err(misuse) => Err(misuse),
+        let command = match Command::parse(given) {
+            Ok(command) => command,
+            Err(misuse) => return Err(RequestError::Misuse(misuse)),
+        };
+        let (patterns, plain) = patterns_of(alloc, given)?;
+        let files = values(alloc, given, NamesOption::Ignore)?;
+        let inverted = has(given, NamesOption::Invert);
+        Ok(Request {
+            command,
+            list,
+            patterns,
+            plain,
+            files,
+            inverted,
+        })
+    }
+
+    /// The request for a text of the program's own.
+    fn of_text(alloc: A, command: Command) -> Request<'a, A>
+        ensures { result.command ≡ command }
+    {
+        Request {
+            command,
+            list: ListOptions::new(LONGEST_NAME),
+            patterns: Vec::new(alloc),
+            plain: 0,
+            files: Vec::new(alloc),
+            inverted: false,
         }
     }
 }
@@ -156,34 +212,31 @@ impl Name {
 
 /// What the program does.
 #[derive(Clone, Copy, PartialEq, Eq)]
-pub enum Command<'a> {
-    /// `list`: reads names, and writes the escape of each on a line, or of those that are picked.
-    ListNames(Os, Option<Pick<'a>>),
-    /// `list --sh` or `list --sh-line`: reads names of Unix, and writes the word of each on a line, as a
-    /// shell reads it, or of those that are picked.
-    ListWords(WordForm, Option<Pick<'a>>),
-    /// `filter`: reads names, and writes those that are picked, each with its end.
-    Filter(Os, Pick<'a>),
-    /// `why`: reads names, and writes the line of an ignore file that decides each, with the escape of
-    /// the name. The names that no line decides are left out.
-    Why(Os),
-    /// `join`: reads what `list` writes, and writes the names, each with its end. With `--empty` an
-    /// empty line is the escape of the empty name.
-    Join(Os, EmptyLine),
-    /// `join --sh` or `join --sh-line`: reads lines of words, as `list --sh-line` writes them, and
-    /// writes the names of Unix that they are, each with its end.
-    JoinWords,
-    /// `check`: reads names, and writes nothing.
-    Check(Os),
+pub enum Command {
     /// `--help`: writes what the commands are.
     Help,
     /// `--version`: writes the version.
     Version,
+    /// Reads a list of this platform, and does this work.
+    On(Os, Work),
 }
 
-impl<'a> Command<'a> {
+/// What is done with a list.
+#[derive(Clone, Copy, PartialEq, Eq)]
+pub enum Work {
+    /// This is done with each item: `join`, `check`, and `list` where nothing picks names.
+    Each(Task),
+    /// The names that are picked are written in this form: `filter`, and `list` where something picks
+    /// names.
+    Picked(Form),
+    /// `why`: the line of an ignore file that decides a name is written, with the escape of the name. The
+    /// names that no line decides are left out.
+    Why,
+}
+
+impl Command {
     /// The command that options and operands make up.
-    fn parse(given: Line<'_, 'a>) -> Result<Command<'a>, Misuse<'a>>
+    fn parse<'a>(given: Line<'_, 'a>) -> Result<Command, Misuse<'a>>
         ensures command { IfOk result (λ command. MakesUp given.entry.now command) }
         ensures misuse { IfErr result (λ misuse. IsMisuse given.entry.now misuse) }
     {
@@ -199,19 +252,17 @@ impl<'a> Command<'a> {
         let Some(os) = Os::named(platform) else {
             return Err(Misuse::Invalid("platform", platform));
         };
-        match fits(given, command) {
-            Ok(()) => Command::of(given, command, os, more),
-            Err(misuse) => Err(misuse),
-        }
+        fits(given, command)?;
+        Command::of(given, command, os, more)
     }
 
     /// The command of this name on a platform, with the operands of `more`.
-    fn of(
+    fn of<'a>(
         given: Line<'_, 'a>,
         command: Name,
         os: Os,
         more: Line<'_, 'a>,
-    ) -> Result<Command<'a>, Misuse<'a>>
+    ) -> Result<Command, Misuse<'a>>
         requires operands { HasOperands given.now command os (operands_of more.now) }
         requires fits { Fits command given.now }
         ensures command { IfOk result (λ command. MakesUp given.entry.now command) }
@@ -222,86 +273,82 @@ impl<'a> Command<'a> {
             Name::Filter => Command::filter(given, os, more),
             Name::Why => Command::why(given, os, more),
             Name::Join => Command::join(given, os, more),
-            Name::Check => match no_operand(given, Name::Check, os, more) {
-                Ok(()) => Ok(Command::Check(os)),
-                Err(misuse) => Err(misuse),
-            },
+            Name::Check => {
+                no_operand(given, Name::Check, os, more)?;
+                Ok(Command::On(os, Work::Each(Task::Check)))
+            }
         }
     }
 
     /// `list`.
-    fn list(given: Line<'_, 'a>, os: Os, more: Line<'_, 'a>) -> Result<Command<'a>, Misuse<'a>>
+    fn list<'a>(given: Line<'_, 'a>, os: Os, more: Line<'_, 'a>) -> Result<Command, Misuse<'a>>
         requires operands { HasOperands given.now ListName os (operands_of more.now) }
         requires fits { Fits ListName given.now }
         ensures command { IfOk result (λ command. MakesUp given.entry.now command) }
         ensures misuse { IfErr result (λ misuse. IsMisuse given.entry.now misuse) }
     {
-        let pick = match maybe_pick(given, Name::List, os, more) {
-            Ok(pick) => pick,
-            Err(misuse) => return Err(misuse),
-        };
+        let picked = picks(given, Name::List, os, more)?;
         let Some((form, option)) = form_of(given) else {
-            return Ok(Command::ListNames(os, pick));
+            return Ok(Command::On(os, listing(picked, Form::Line, Task::ListAll)));
         };
-        match words(given, os, option) {
-            Ok(()) => Ok(Command::ListWords(form, pick)),
-            Err(misuse) => Err(misuse),
-        }
+        words(given, os, option)?;
+        Ok(Command::On(os, listing(picked, Form::Word(form), Task::ListWords(form))))
     }
 
     /// `filter`.
-    fn filter(given: Line<'_, 'a>, os: Os, more: Line<'_, 'a>) -> Result<Command<'a>, Misuse<'a>>
+    fn filter<'a>(given: Line<'_, 'a>, os: Os, more: Line<'_, 'a>) -> Result<Command, Misuse<'a>>
         requires operands { HasOperands given.now FilterName os (operands_of more.now) }
         requires fits { Fits FilterName given.now }
         ensures command { IfOk result (λ command. MakesUp given.entry.now command) }
         ensures misuse { IfErr result (λ misuse. IsMisuse given.entry.now misuse) }
     {
-        match maybe_pick(given, Name::Filter, os, more) {
-            Ok(Some(pick)) => Ok(Command::Filter(os, pick)),
-            Ok(None) => Err(Misuse::Missing("GLOB, --glob, --name or --ignore")),
-            Err(misuse) => Err(misuse),
+        let picked = picks(given, Name::Filter, os, more)?;
+        if picked {
+            Ok(Command::On(os, Work::Picked(Form::Name)))
+        } else {
+            Err(Misuse::Missing("GLOB, --glob, --name or --ignore"))
         }
     }
 
     /// `why`.
-    fn why(given: Line<'_, 'a>, os: Os, more: Line<'_, 'a>) -> Result<Command<'a>, Misuse<'a>>
+    fn why<'a>(given: Line<'_, 'a>, os: Os, more: Line<'_, 'a>) -> Result<Command, Misuse<'a>>
         requires operands { HasOperands given.now WhyName os (operands_of more.now) }
         requires fits { Fits WhyName given.now }
         ensures command { IfOk result (λ command. MakesUp given.entry.now command) }
         ensures misuse { IfErr result (λ misuse. IsMisuse given.entry.now misuse) }
     {
-        match no_operand(given, Name::Why, os, more) {
-            Ok(()) => {}
-            Err(misuse) => return Err(misuse),
-        }
-        match ignores(given, os) {
-            Ok(()) => {}
-            Err(misuse) => return Err(misuse),
-        }
+        no_operand(given, Name::Why, os, more)?;
+        ignores(given, os)?;
         if has(given, NamesOption::Ignore) {
-            Ok(Command::Why(os))
+            Ok(Command::On(os, Work::Why))
         } else {
             Err(Misuse::Missing("--ignore"))
         }
     }
 
     /// `join`.
-    fn join(given: Line<'_, 'a>, os: Os, more: Line<'_, 'a>) -> Result<Command<'a>, Misuse<'a>>
+    fn join<'a>(given: Line<'_, 'a>, os: Os, more: Line<'_, 'a>) -> Result<Command, Misuse<'a>>
         requires operands { HasOperands given.now JoinName os (operands_of more.now) }
         requires fits { Fits JoinName given.now }
         ensures command { IfOk result (λ command. MakesUp given.entry.now command) }
         ensures misuse { IfErr result (λ misuse. IsMisuse given.entry.now misuse) }
     {
-        match no_operand(given, Name::Join, os, more) {
-            Ok(()) => {}
-            Err(misuse) => return Err(misuse),
-        }
+        no_operand(given, Name::Join, os, more)?;
         let Some((_, option)) = form_of(given) else {
-            return Ok(Command::Join(os, empty_line(given)));
+            return Ok(Command::On(os, Work::Each(Task::Join(empty_line(given)))));
         };
-        match words(given, os, option) {
-            Ok(()) => Ok(Command::JoinWords),
-            Err(misuse) => Err(misuse),
-        }
+        words(given, os, option)?;
+        Ok(Command::On(os, Work::Each(Task::JoinWords)))
+    }
+}
+
+/// The work of `list`: the names that are picked in a form, or a task for each name.
+fn listing(picked: bool, form: Form, task: Task) -> Work
+    ensures { result ≡ listing picked form task }
+{
+    if picked {
+        Work::Picked(form)
+    } else {
+        Work::Each(task)
     }
 }

@@ -1,14 +1,13 @@
 //! What options and operands state: a limit, what picks names, and how they are written.
 ghost use Rattle.std.specs.Prelude.{◌≡◌, ◌↔◌, [], IfOk, IfErr, IsTrue, MatchOption};
 ghost use Rattle.program_frame.specs.Arguments.{HasOption, operands_of};
-ghost use Rattle.names_commands.specs.Command.{HasOperands, IsEmptyLine, IsForm, IsListed, IsMax, IsMaybePick, IsMisuse, IsWordOption, NoWords, OptionsPick, TakesOption, options_of};
+ghost use Rattle.names_commands.specs.Command.{HasOperands, IsEmptyLine, IsForm, IsListed, IsMax, IsMisuse, IsWordOption, NoWords, OptionsPick, Picks, TakesOption, options_of};
 ghost use Rattle.names_commands.specs.Pick.{TakesIgnore};
 ghost use Rattle.names_commands.specs.declared.option.NamesOption.TheVariants.{Glob, Ignore};
 
 use crate::command::{Line, Name};
 use crate::fitting::{ignores, surplus};
 use crate::option::NamesOption;
-use crate::pick::Pick;
 use crate::task::{EmptyLine, WordForm};
 use glob_patterns::{GlobOptions, Separators};
 use program_frame::arguments::{has, last_value, next_operand};
@@ -24,13 +23,9 @@ pub(crate) fn listed<'a>(given: Line<'_, 'a>) -> Result<ListOptions, Misuse<'a>>
     ensures list { IfOk result (λ list. IsListed given.entry.now list) }
     ensures misuse { IfErr result (λ misuse. IsMisuse given.entry.now misuse) }
 {
-    match limit(given) {
-        Ok(max) => {
-            let (lines, unterminated) = (NamesOption::Lines, NamesOption::Unterminated);
-            Ok(ListOptions::stated(given, lines, unterminated, max))
-        }
-        Err(misuse) => Err(misuse),
-    }
+    let max = limit(given)?;
+    let (lines, unterminated) = (NamesOption::Lines, NamesOption::Unterminated);
+    Ok(ListOptions::stated(given, lines, unterminated, max))
 }
 
 /// The limit that options state.
@@ -47,64 +42,54 @@ fn limit<'a>(given: Line<'_, 'a>) -> Result<usize, Misuse<'a>>
     }
 }
 
-/// What picks names, if anything does.
-pub(crate) fn maybe_pick<'a>(
+/// Whether something picks names.
+pub(crate) fn picks<'a>(
     given: Line<'_, 'a>,
     command: Name,
     os: Os,
     more: Line<'_, 'a>,
-) -> Result<Option<Pick<'a>>, Misuse<'a>>
+) -> Result<bool, Misuse<'a>>
     requires operands { HasOperands given.now command os (operands_of more.now) }
     requires takes { TakesOption command Glob }
-    ensures pick { IfOk result
-        (λ pick. IsMaybePick given.entry.now os (operands_of more.entry.now) pick) }
+    ensures picks { IfOk result
+        (λ picks. Picks given.entry.now os (operands_of more.entry.now) picks) }
     ensures misuse { IfErr result (λ misuse. IsMisuse given.entry.now misuse) }
 {
-    match ignores(given, os) {
-        Ok(()) => {}
-        Err(misuse) => return Err(misuse),
-    }
-    let Some((glob, rest)) = next_operand(more) else {
+    ignores(given, os)?;
+    let Some((_, rest)) = next_operand(more) else {
         return options_pick(given, command, os, more);
     };
     match next_operand(rest) {
         Some((word, _)) => Err(Misuse::Argument(surplus(word))),
-        None => {
-            Ok(Some(Pick {
-                glob: Some(glob),
-                inverted: has(given, NamesOption::Invert),
-            }))
-        }
+        None => Ok(true),
     }
 }
 
-/// What picks names where no pattern is an operand.
+/// Whether something picks names where no pattern is an operand.
 fn options_pick<'a>(
     given: Line<'_, 'a>,
     command: Name,
     os: Os,
     more: Line<'_, 'a>,
-) -> Result<Option<Pick<'a>>, Misuse<'a>>
+) -> Result<bool, Misuse<'a>>
     requires operands { HasOperands given.now command os (operands_of more.now) }
     requires none { operands_of more.now ≡ [] }
     requires ignores { HasOption Ignore given.now → TakesIgnore os }
-    ensures pick { IfOk result
-        (λ pick. IsMaybePick given.entry.now os (operands_of more.entry.now) pick) }
+    ensures picks { IfOk result
+        (λ picks. Picks given.entry.now os (operands_of more.entry.now) picks) }
     ensures misuse { IfErr result (λ misuse. IsMisuse given.entry.now misuse) }
 {
-    let inverted = has(given, NamesOption::Invert);
-    if picks(given) {
-        let glob = None;
-        return Ok(Some(Pick { glob, inverted }));
+    if an_option_picks(given) {
+        return Ok(true);
     }
-    if inverted {
+    if has(given, NamesOption::Invert) {
         return Err(Misuse::Missing("GLOB, --glob, --name or --ignore"));
     }
-    Ok(None)
+    Ok(false)
 }
 
 /// Whether an option picks names.
-fn picks(given: Line<'_, '_>) -> bool
+fn an_option_picks(given: Line<'_, '_>) -> bool
     ensures { IsTrue result ↔ OptionsPick given.entry.now }
 {
     has(given, NamesOption::Glob)

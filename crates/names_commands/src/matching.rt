@@ -30,37 +30,51 @@ pub enum Form {
     Word(WordForm),
 }
 
-/// Which names are picked.
+/// Each name that is picked is written, and nothing for the others.
 #[derive(Clone, Copy)]
-pub struct Picker<'g, E: Platform, A: Allocator = Global> {
-    /// Those that a pattern of this set matches, or all where there is no set,
+pub struct Matching<'g, E: Platform, A: Allocator = Global> {
+    /// Memory for the directories above a name is of this allocator.
+    pub alloc: A,
+    /// Those are picked that a pattern of this set matches, or all where there is no set,
     pub globs: Option<&'g GlobSet<E, A>>,
     /// but for those that the lines of these files ignore. One `./` before a name is left out, and a `/`
     /// at its end marks a directory.
     pub ignore: &'g Ignore<A>,
     /// Whether the other names are picked.
     pub inverted: bool,
+    /// How each name is written.
+    pub form: Form,
+    /// How the list is written.
+    pub list: ListOptions,
 }
 
-impl<'g, E: Platform, A: Allocator + Copy> Picker<'g, E, A> {
-    /// Whether the name is picked. The walk must be one of the picker's files.
+impl<'g, E: Platform, A: Allocator + Copy> Matching<'g, E, A> {
+    /// Whether the name is picked. The walk must be one of the same ignore files.
     ///
     /// # Errors
     ///
     /// [`AllocError`] if the allocation for the name or for the directories above it fails.
     ///
     /// ```
-    /// use names_commands::matching::Picker;
+    /// use names_commands::matching::{Form, Matching};
     /// use os_ignore::{Ignore, Walk};
     /// use os_str_bytes::{OsStr, Unix};
+    /// use program_frame::lists::options::ListOptions;
     ///
     /// let ignore = Ignore::new(alloc, b"*.o\nout/\n")?;
-    /// let picker = Picker { globs: None, ignore: &ignore, inverted: false };
+    /// let names = Matching {
+    ///     alloc,
+    ///     globs: None,
+    ///     ignore: &ignore,
+    ///     inverted: false,
+    ///     form: Form::Name,
+    ///     list: ListOptions::new(255),
+    /// };
     /// let mut walk = Walk::new(alloc, &ignore);
-    /// assert!(rt; picker.picks(&mut walk, OsStr::<Unix>::new("./a.c"))?);
-    /// assert!(rt; !picker.picks(&mut walk, OsStr::new("./a.o"))?);
-    /// assert!(rt; picker.picks(&mut walk, OsStr::new("out"))?);
-    /// assert!(rt; !picker.picks(&mut walk, OsStr::new("out/"))?);
+    /// assert!(rt; names.picks(&mut walk, OsStr::<Unix>::new("./a.c"))?);
+    /// assert!(rt; !names.picks(&mut walk, OsStr::new("./a.o"))?);
+    /// assert!(rt; names.picks(&mut walk, OsStr::new("out"))?);
+    /// assert!(rt; !names.picks(&mut walk, OsStr::new("out/"))?);
     /// ```
     pub fn picks(&self, walk: &mut Walk<'_, A>, name: OsStr<'_, E>) -> Result<bool, AllocError>
         requires { files_of_walk walk.old ≡ files_of self.now.ignore.now }
@@ -108,67 +122,15 @@ fn is_chosen<E: Platform, A: Allocator>(globs: Option<&GlobSet<E, A>>, name: OsS
     }
 }
 
-/// Each name that is picked is written, and nothing for the others.
-#[derive(Clone, Copy)]
-pub struct Matching<'g, E: Platform, A: Allocator = Global> {
-    alloc: A,
-    picker: Picker<'g, E, A>,
-    form: Form,
-    list: ListOptions,
-}
-
-impl<'g, E: Platform, A: Allocator> Matching<'g, E, A> {
-    /// The names that are picked, in this form, of a list that is written so. The memory for the
-    /// directories above a name is of this allocator.
-    ///
-    /// ```
-    /// use glob_patterns::{GlobOptions, GlobSet, GlobSetError, Separators};
-    /// use names_commands::matching::{Form, Matching, Picker};
-    /// use os_ignore::Ignore;
-    /// use os_str_bytes::{OsStr, Unix};
-    /// use program_frame::lists::options::ListOptions;
-    /// use program_frame::lists::task::ListTask;
-    ///
-    /// let patterns = [OsStr::<Unix>::new("*.c"), OsStr::new("*.h")];
-    /// let globs = GlobSet::new(alloc, GlobOptions::new(Separators::Slash), &patterns)?;
-    /// let ignore = Ignore::new(alloc, b"b.*\n")?;
-    /// let picker = Picker { globs: Some(&globs), ignore: &ignore, inverted: false };
-    /// let names = Matching::new(alloc, picker, Form::Line, ListOptions::new(255));
-    /// let (mut memory, mut output) = (names.memory(), Vec::new(alloc));
-    /// for name in ["a.c", "a.o", "a.h", "b.h"] {
-    ///     let answer = names.write_item(alloc, &mut memory, name.as_bytes(), &mut output);
-    ///     assert!(rt; answer.is_ok());
-    /// }
-    /// assert_eq!(rt; output.as_slice(), b"a.c\na.h\n".as_slice());
-    /// ```
-    pub fn new(
-        alloc: A,
-        picker: Picker<'g, E, A>,
-        form: Form,
-        list: ListOptions,
-    ) -> Matching<'g, E, A>
-        ensures picker { result.picker ≡ picker.entry }
-        ensures form { result.form ≡ form }
-        ensures list { result.list ≡ list }
-    {
-        Matching {
-            alloc,
-            picker,
-            form,
-            list,
-        }
-    }
-}
-
 impl<'g, E: Platform, B: Allocator + Copy> ListTask for Matching<'g, E, B> {
     type Refusal = Refusal;
 
     type Memory = Walk<'g, B>;
 
-    ghost rules = { λ m. matching ⟦<E as Platform>⟧ m.form m.list m.picker.inverted
-        m.picker.globs (files_of m.picker.ignore.now) };
+    ghost rules = { λ m. matching ⟦<E as Platform>⟧ m.form m.list m.inverted m.globs
+        (files_of m.ignore.now) };
 
-    ghost remembers = { λ m walk. files_of_walk walk ≡ files_of m.picker.ignore.now };
+    ghost remembers = { λ m walk. files_of_walk walk ≡ files_of m.ignore.now };
 
     fn end(&self) -> ItemEnd {
         self.list.end
@@ -187,7 +149,7 @@ impl<'g, E: Platform, B: Allocator + Copy> ListTask for Matching<'g, E, B> {
     }
 
     fn memory(&self) -> Walk<'g, B> {
-        Walk::new(self.alloc, self.picker.ignore)
+        Walk::new(self.alloc, self.ignore)
     }
 
     fn write_item<A: Allocator + Copy>(
@@ -197,46 +159,36 @@ impl<'g, E: Platform, B: Allocator + Copy> ListTask for Matching<'g, E, B> {
         item: &[u8],
         output: &mut Vec<u8, A>,
     ) -> Result<(), ItemFault<Refusal>> {
-        write_matching::<E, A, B>(
-            alloc,
-            &self.picker,
-            memory,
-            self.form,
-            self.list.end,
-            item,
-            output,
-        )
+        write_matching::<E, A, B>(alloc, self, memory, item, output)
     }
 }
 
 /// Appends what is written for a name, where some are picked.
 fn write_matching<E: Platform, A: Allocator, B: Allocator + Copy>(
     alloc: A,
-    picker: &Picker<'_, E, B>,
+    names: &Matching<'_, E, B>,
     walk: &mut Walk<'_, B>,
-    form: Form,
-    end: ItemEnd,
     item: &[u8],
     output: &mut Vec<u8, A>,
 ) -> Result<(), ItemFault<Refusal>>
-    requires { files_of_walk walk.old ≡ files_of picker.now.ignore.now }
+    requires { files_of_walk walk.old ≡ files_of names.now.ignore.now }
     ensures ok { OnOk result ((text : List ℕ)
-        × (IsTextOfMatched ⟦<E as Platform>⟧ form end picker.now.inverted picker.now.globs
-        (files_of picker.now.ignore.now)
+        × (IsTextOfMatched ⟦<E as Platform>⟧ names.now.form names.now.list.end names.now.inverted
+        names.now.globs (files_of names.now.ignore.now)
         item.now text × (output.new.items ≡ output.old.items ++ text))) }
     ensures fault { IfErr result (λ fault. IsNoName ⟦<E as Platform>⟧ item.now fault) }
     ensures unchanged { OnErr result (output.new.items ≡ output.old.items) }
     ensures files { files_of_walk walk.new ≡ files_of_walk walk.old }
 {
     match named::<E>(item) {
-        Ok(name) => match picker.picks(walk, name) {
+        Ok(name) => match names.picks(walk, name) {
             Ok(picks) => {
                 if !picks {
                     return Ok(());
                 }
-                match form {
+                match names.form {
                     Form::Line => write_line::<E, A>(alloc, name, output),
-                    Form::Name => push_name(item, end, output),
+                    Form::Name => push_name(item, names.list.end, output),
                     Form::Word(form) => write_word(alloc, form, item, output),
                 }
             }

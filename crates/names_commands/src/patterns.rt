@@ -5,23 +5,19 @@ ghost use Rattle.program_frame.specs.ProgramFault.{BlamesEnds};
 ghost use Rattle.program_frame.specs.declared.fault.Failure.TheVariants.{Memory};
 ghost use Rattle.program_frame.specs.declared.lists.fault.ListFault.TheVariants.{Run};
 ghost use Rattle.program_frame.specs.declared.lists.program_fault.Fault.TheVariants.{List as OfList};
-ghost use Rattle.names_commands.specs.Command.{options_of};
-ghost use Rattle.names_commands.specs.Ignoring.{text_of};
+ghost use Rattle.names_commands.specs.Command.{asked_of, options_of};
 ghost use Rattle.names_commands.specs.Matching.{IsSetOf};
-ghost use Rattle.names_commands.specs.Program.{Did, IsOfPattern, IsOfPatterns, RunsPatterns, RunsPick, UnlessOutOfMemory};
+ghost use Rattle.names_commands.specs.Program.{Did, IsOfPattern, IsOfPatterns, RunsPicked, UnlessOutOfMemory};
 
 use crate::caret::pointed;
-use crate::command::Line;
+use crate::command::Request;
 use crate::fault::{CommandFault, Fault};
 use crate::given::options_of;
 use crate::ignoring::read_ignore;
-use crate::matching::{Matching, Picker};
-use crate::option::NamesOption;
-use crate::pick::{Patterns, added_before, strings_of, typed, typed_fault};
-use crate::plan::Plan;
+use crate::matching::{Form, Matching};
+use crate::pick::{added_before, strings_of, typed, typed_fault};
 use glob_patterns::{GlobSet, GlobSetError, PatternFault};
 use os_str_bytes::Platform;
-use program_frame::arguments::values;
 use program_frame::fault::Failure;
 use program_frame::files::Files;
 use program_frame::lists::answers::run_list;
@@ -31,67 +27,41 @@ use program_frame::os::Os;
 use std::alloc::Allocator;
 use std::io::{Read, Write};
 
-/// Returns the result for names of a platform that are picked.
-pub(crate) fn run_picked<'a, E: Platform + 'a, F: Files, A: Allocator + Copy, R: Read, W: Write>(
+/// Returns the result for names of a platform that are picked. The patterns are compiled once, and the
+/// ignore files are read once.
+pub(crate) fn run_picked<E: Platform, F: Files, A: Allocator + Copy, R: Read, W: Write>(
     alloc: A,
     files: &F,
-    given: Line<'_, 'a>,
-    plan: Plan<'a>,
-    reader: &mut Marked<R>,
-    writer: &mut Marked<W>,
-) -> Result<(), Fault>
-    requires reader_unmarked { has_failed reader.old ≡ false }
-    requires writer_unmarked { has_failed writer.old ≡ false }
-    ensures run { Did R.remaining W.contents
-        (RunsPick (F.known files.now) A given.now ⟦<E as Platform>⟧ plan.entry)
-        reader.old reader.new writer.old writer.new result }
-    ensures ends { BlamesEnds result (has_failed reader.new) (has_failed writer.new) }
-{
-    let Ok(patterns) = plan.pick.patterns(alloc, given) else {
-        return Err(Fault::List(ListFault::Run(Failure::Memory)));
-    };
-    match values(alloc, given, NamesOption::Ignore) {
-        Ok(names) => {
-            run_patterns::<E, F, A, R, W>(alloc, files, plan, &patterns, &names, reader, writer)
-        }
-        Err(_) => Err(Fault::List(ListFault::Run(Failure::Memory))),
-    }
-}
-
-/// Returns the result for patterns, which are compiled once, and for the names of ignore files,
-/// which are read once.
-fn run_patterns<E: Platform, F: Files, A: Allocator + Copy, R: Read, W: Write>(
-    alloc: A,
-    files: &F,
-    plan: Plan<'_>,
-    patterns: &Patterns<A>,
-    names: &[&str],
+    os: Os,
+    form: Form,
+    request: &Request<'_, A>,
     reader: &mut Marked<R>,
     writer: &mut Marked<W>,
 ) -> Result<(), Fault>
     requires reader_unmarked { has_failed reader.old ≡ false }
     requires writer_unmarked { has_failed writer.old ≡ false }
     ensures run { Did R.remaining W.contents (UnlessOutOfMemory
-        (RunsPatterns (F.known files.now) A ⟦<E as Platform>⟧ plan.entry patterns.now.plain
-        (map string_bytes patterns.now.texts.items) (map text_of names.now)))
+        (RunsPicked (F.known files.now) A ⟦<E as Platform>⟧ (asked_of request.now) os form))
         reader.old reader.new writer.old writer.new result }
     ensures ends { BlamesEnds result (has_failed reader.new) (has_failed writer.new) }
 {
-    let set = match compiled::<E, A>(alloc, plan.os, patterns) {
+    let patterns = request.patterns.as_slice();
+    let set = match compiled::<E, A>(alloc, os, patterns, request.plain) {
         Ok(set) => set,
         Err(fault) => return Err(fault),
     };
-    let ignore = match read_ignore(alloc, files, names) {
+    let ignore = match read_ignore(alloc, files, request.files.as_slice()) {
         Ok(ignore) => ignore,
         Err(fault) => return Err(fault),
     };
-    let globs = set_of(&patterns.texts, &set);
-    let picker = Picker {
-        globs,
+    let matching = Matching {
+        alloc,
+        globs: set_of(patterns, &set),
         ignore: &ignore,
-        inverted: plan.pick.inverted,
+        inverted: request.inverted,
+        form,
+        list: request.list,
     };
-    let matching = Matching::new(alloc, picker, plan.form, plan.list);
     run_list(alloc, &matching, reader, writer)
 }
 
@@ -99,16 +69,16 @@ fn run_patterns<E: Platform, F: Files, A: Allocator + Copy, R: Read, W: Write>(
 fn compiled<E: Platform, A: Allocator + Copy>(
     alloc: A,
     os: Os,
-    patterns: &Patterns<A>,
+    patterns: &[String<A>],
+    plain: usize,
 ) -> Result<GlobSet<E, A>, Fault>
     ensures { MatchResult result
-        (λ set. IsSetOf ⟦<E as Platform>⟧ A (options_of os)
-        (map string_bytes patterns.now.texts.items) set)
+        (λ set. IsSetOf ⟦<E as Platform>⟧ A (options_of os) (map string_bytes patterns.now) set)
         (λ fault. (fault ≡ OfList (Run Memory))
-        ⊎ IsOfPatterns ⟦<E as Platform>⟧ (options_of os) patterns.now.plain
-        (map string_bytes patterns.now.texts.items) fault) }
+        ⊎ IsOfPatterns ⟦<E as Platform>⟧ (options_of os) plain (map string_bytes patterns.now)
+        fault) }
 {
-    let Ok(strings) = strings_of::<E, A>(alloc, &patterns.texts) else {
+    let Ok(strings) = strings_of::<E, A>(alloc, patterns) else {
         return Err(Fault::List(ListFault::Run(Failure::Memory)));
     };
     let globs = strings.as_slice();
@@ -116,7 +86,7 @@ fn compiled<E: Platform, A: Allocator + Copy>(
         Ok(set) => Ok(set),
         Err(GlobSetError::Pattern(index, fault)) => {
             let pattern = globs[index].as_encoded_bytes();
-            let added = added_before(patterns.plain, index);
+            let added = added_before(plain, index);
             Err(rejection(alloc, added, index + 1, pattern, fault))
         }
         Err(GlobSetError::Memory) => Err(Fault::List(ListFault::Run(Failure::Memory))),

@@ -1,56 +1,44 @@
-//! What picks names: patterns and ignore files.
+//! The patterns that pick names.
 ghost use Rattle.std.specs.Prelude.{◌≡◌, ◌++◌, ◌∷◌, [], map, length, drop, string_bytes, IfOk, OnOk};
 ghost use Rattle.os_str_bytes.specs.Strings.{bytes};
-ghost use Rattle.program_frame.specs.Arguments.{text_of};
-ghost use Rattle.names_commands.specs.Pick.{ArePatterns, added_before, in_any_folder, typed_fault};
+ghost use Rattle.program_frame.specs.Arguments.{operands_of, text_of};
+ghost use Rattle.names_commands.specs.Pick.{ArePatterns, added_before, glob_operand, glob_words, in_any_folder, typed_fault};
 
+use crate::command::Line;
 use crate::option::NamesOption;
 use glob_patterns::PatternFault;
 use os_str_bytes::{OsStr, Platform};
-use program_frame::arguments::{Given, values};
-use std::alloc::{AllocError, Allocator, Global};
+use program_frame::arguments::{next_operand, values};
+use std::alloc::{AllocError, Allocator};
 
-/// What picks names, beside options: each `--glob` and `--name` has a pattern, and each `--ignore`
-/// the name of an ignore file. A name matches where one of the patterns matches it, or there are
-/// none, and no line of the ignore files ignores it.
-#[derive(Clone, Copy, PartialEq, Eq)]
-pub struct Pick<'a> {
-    /// A pattern that is an operand.
-    pub glob: Option<&'a str>,
-    /// Whether the names are picked that don't match.
-    pub inverted: bool,
-}
-
-/// The texts of patterns.
-#[derive(Drop)]
-pub(crate) struct Patterns<A: Allocator = Global> {
-    /// The texts, those of `--name` last, and with `**/` before each of these.
-    pub(crate) texts: Vec<String<A>, A>,
-    /// How many come before those of `--name`.
-    pub(crate) plain: usize,
-}
-
-impl<'a> Pick<'a> {
-    /// The patterns: the operand, then those of `--glob` and then those of `--name`, each in order.
-    pub(crate) fn patterns<A: Allocator + Copy>(
-        self,
-        alloc: A,
-        given: &[Given<'a, NamesOption>],
-    ) -> Result<Patterns<A>, AllocError>
-        ensures { IfOk result (λ patterns. ArePatterns given.now self.entry patterns.plain
-            (map string_bytes patterns.texts.items)) }
-    {
-        let of_globs = values(alloc, given, NamesOption::Glob)?;
-        let of_names = values(alloc, given, NamesOption::Name)?;
-        let mut texts = Vec::new(alloc);
-        if let Some(glob) = self.glob {
-            push_pattern(alloc, "", glob, &mut texts)?;
-        }
-        push_globs(alloc, &of_globs, &mut texts)?;
-        let plain = count_of(&texts);
-        push_names(alloc, &of_names, &mut texts)?;
-        Ok(Patterns { texts, plain })
+/// The patterns that pick names, and how many come before those of `--name`.
+pub(crate) fn patterns_of<A: Allocator + Copy>(
+    alloc: A,
+    given: Line<'_, '_>,
+) -> Result<(Vec<String<A>, A>, usize), AllocError>
+    ensures { IfOk result (λ patterns. ArePatterns given.now patterns.1
+        (map string_bytes patterns.0.items)) }
+{
+    let of_globs = values(alloc, given, NamesOption::Glob)?;
+    let of_names = values(alloc, given, NamesOption::Name)?;
+    let mut texts = Vec::new(alloc);
+    if let Some(glob) = glob_operand(given) {
+        push_pattern(alloc, "", glob, &mut texts)?;
     }
+    push_globs(alloc, &of_globs, &mut texts)?;
+    let plain = count_of(&texts);
+    push_names(alloc, &of_names, &mut texts)?;
+    Ok((texts, plain))
+}
+
+/// The operand after the command and the platform, which is a pattern.
+fn glob_operand<'a>(given: Line<'_, 'a>) -> Option<&'a str>
+    ensures { glob_words result ≡ glob_operand (operands_of given.entry.now) }
+{
+    let (_, after) = next_operand(given)?;
+    let (_, more) = next_operand(after)?;
+    let (glob, _) = next_operand(more)?;
+    Some(glob)
 }
 
 /// How many patterns there are.

@@ -2,14 +2,14 @@
 ghost use Rattle.std.specs.Prelude.{◌≡◌, false};
 ghost use Rattle.program_frame.specs.Marked.{has_failed};
 ghost use Rattle.program_frame.specs.ProgramFault.{BlamesEnds};
-ghost use Rattle.names_commands.specs.Program.{Did, Does, RunsLine, RunsWork};
+ghost use Rattle.names_commands.specs.Command.{asked_of};
+ghost use Rattle.names_commands.specs.Program.{Did, Does, DoesWork, RunsLine, UnlessOutOfMemory};
 
-use crate::command::{Command, Line, Request};
+use crate::command::{Command, Line, Request, RequestError, Work};
 use crate::fault::{CommandFault, Fault, Refusal};
 use crate::help::{HELP, VERSION};
 use crate::option::NamesOption;
 use crate::patterns::run_picked;
-use crate::plan::{Plan, Work};
 use crate::reasons::run_why;
 use crate::task::{OnPlatform, Settings};
 use os_str_bytes::{Platform, Unix, Wasm, Windows};
@@ -18,7 +18,6 @@ use program_frame::fault::Failure;
 use program_frame::files::Files;
 use program_frame::lists::answers::{run_list, write_help};
 use program_frame::lists::fault::ListFault;
-use program_frame::lists::options::ListOptions;
 use program_frame::lists::program::ListProgram;
 use program_frame::marked::Marked;
 use program_frame::misuse::Misuse;
@@ -100,96 +99,71 @@ fn run_line<F: Files, A: Allocator + Copy, R: Read, W: Write>(
 ) -> Result<(), Fault>
     requires reader_unmarked { has_failed reader.old ≡ false }
     requires writer_unmarked { has_failed writer.old ≡ false }
-    ensures run { Did R.remaining W.contents (RunsLine (F.known files.now) A given.now)
+    ensures run { Did R.remaining W.contents
+        (UnlessOutOfMemory (RunsLine (F.known files.now) A given.now))
         reader.old reader.new writer.old writer.new result }
     ensures ends { BlamesEnds result (has_failed reader.new) (has_failed writer.new) }
 {
-    match Request::parse(given) {
-        Ok(request) => {
-            run_command(
-                alloc,
-                files,
-                given,
-                request.command,
-                request.list,
-                reader,
-                writer,
-            )
-        }
-        Err(misuse) => Err(Fault::Words(CommandFault::of(misuse))),
+    match Request::parse(alloc, given) {
+        Ok(request) => run_request(alloc, files, &request, reader, writer),
+        Err(RequestError::Misuse(misuse)) => Err(Fault::Words(CommandFault::of(misuse))),
+        Err(RequestError::Memory) => Err(Fault::List(ListFault::Run(Failure::Memory))),
     }
 }
 
-/// Returns the result of the run of a command.
-fn run_command<'a, F: Files, A: Allocator + Copy, R: Read, W: Write>(
+/// Returns the result of a request.
+fn run_request<F: Files, A: Allocator + Copy, R: Read, W: Write>(
     alloc: A,
     files: &F,
-    given: Line<'_, 'a>,
-    command: Command<'a>,
-    list: ListOptions,
+    request: &Request<'_, A>,
     reader: &mut Marked<R>,
     writer: &mut Marked<W>,
 ) -> Result<(), Fault>
     requires reader_unmarked { has_failed reader.old ≡ false }
     requires writer_unmarked { has_failed writer.old ≡ false }
-    ensures run { Did R.remaining W.contents
-        (Does (F.known files.now) A given.now command.entry list)
+    ensures run { Did R.remaining W.contents (Does (F.known files.now) A (asked_of request.now))
         reader.old reader.new writer.old writer.new result }
     ensures ends { BlamesEnds result (has_failed reader.new) (has_failed writer.new) }
 {
-    match Work::of(command) {
-        None => {
-            let text = match command {
-                Command::Help => HELP,
-                _ => VERSION,
-            };
-            write_help(text, writer)
-        }
-        Some((os, work)) => match os {
-            Os::Unix => {
-                run_work::<Unix, F, A, R, W>(alloc, files, given, work, list, reader, writer)
-            }
+    match request.command {
+        Command::Help => write_help(HELP, writer),
+        Command::Version => write_help(VERSION, writer),
+        Command::On(os, work) => match os {
+            Os::Unix => run_on::<Unix, F, A, R, W>(alloc, files, os, work, request, reader, writer),
             Os::Windows => {
-                run_work::<Windows, F, A, R, W>(alloc, files, given, work, list, reader, writer)
+                run_on::<Windows, F, A, R, W>(alloc, files, os, work, request, reader, writer)
             }
-            Os::Wasm => {
-                run_work::<Wasm, F, A, R, W>(alloc, files, given, work, list, reader, writer)
-            }
+            Os::Wasm => run_on::<Wasm, F, A, R, W>(alloc, files, os, work, request, reader, writer),
         },
     }
 }
 
 /// Returns the result of what is done with a list of names of a platform.
-fn run_work<'a, E: Platform + 'a, F: Files, A: Allocator + Copy, R: Read, W: Write>(
+fn run_on<E: Platform, F: Files, A: Allocator + Copy, R: Read, W: Write>(
     alloc: A,
     files: &F,
-    given: Line<'_, 'a>,
-    work: Work<'a>,
-    list: ListOptions,
+    os: Os,
+    work: Work,
+    request: &Request<'_, A>,
     reader: &mut Marked<R>,
     writer: &mut Marked<W>,
 ) -> Result<(), Fault>
     requires reader_unmarked { has_failed reader.old ≡ false }
     requires writer_unmarked { has_failed writer.old ≡ false }
     ensures run { Did R.remaining W.contents
-        (RunsWork (F.known files.now) A given.now ⟦<E as Platform>⟧ list work.entry)
+        (DoesWork (F.known files.now) A ⟦<E as Platform>⟧ (asked_of request.now) os work)
         reader.old reader.new writer.old writer.new result }
     ensures ends { BlamesEnds result (has_failed reader.new) (has_failed writer.new) }
 {
     match work {
         Work::Each(task) => {
+            let list = request.list;
             let each = OnPlatform::<E>::new(Settings { task, list });
             run_list(alloc, &each, reader, writer)
         }
-        Work::Picked(os, form, pick) => {
-            let plan = Plan {
-                os,
-                form,
-                pick,
-                list,
-            };
-            run_picked::<E, F, A, R, W>(alloc, files, given, plan, reader, writer)
+        Work::Picked(form) => {
+            run_picked::<E, F, A, R, W>(alloc, files, os, form, request, reader, writer)
         }
-        Work::Why => run_why::<E, F, A, R, W>(alloc, files, given, list, reader, writer),
+        Work::Why => run_why::<E, F, A, R, W>(alloc, files, request, reader, writer),
     }
 }

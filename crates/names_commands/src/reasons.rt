@@ -2,20 +2,16 @@
 ghost use Rattle.std.specs.Prelude.{◌≡◌, false};
 ghost use Rattle.program_frame.specs.Marked.{has_failed};
 ghost use Rattle.program_frame.specs.ProgramFault.{BlamesEnds};
-ghost use Rattle.names_commands.specs.Program.{Did, RunsWhyOn, UnlessOutOfMemory};
+ghost use Rattle.names_commands.specs.Command.{asked_of};
+ghost use Rattle.names_commands.specs.Program.{Did, RunsReasons, UnlessOutOfMemory};
 
-use crate::command::Line;
+use crate::command::Request;
 use crate::fault::Fault;
 use crate::ignoring::read_ignore;
-use crate::option::NamesOption;
 use crate::why::Reasons;
 use os_str_bytes::Platform;
-use program_frame::arguments::values;
-use program_frame::fault::Failure;
 use program_frame::files::Files;
 use program_frame::lists::answers::run_list;
-use program_frame::lists::fault::ListFault;
-use program_frame::lists::options::ListOptions;
 use program_frame::marked::Marked;
 use std::alloc::Allocator;
 use std::io::{Read, Write};
@@ -25,28 +21,24 @@ use std::marker::PhantomData;
 pub(crate) fn run_why<E: Platform, F: Files, A: Allocator + Copy, R: Read, W: Write>(
     alloc: A,
     files: &F,
-    given: Line<'_, '_>,
-    list: ListOptions,
+    request: &Request<'_, A>,
     reader: &mut Marked<R>,
     writer: &mut Marked<W>,
 ) -> Result<(), Fault>
     requires reader_unmarked { has_failed reader.old ≡ false }
     requires writer_unmarked { has_failed writer.old ≡ false }
     ensures run { Did R.remaining W.contents (UnlessOutOfMemory
-        (RunsWhyOn (F.known files.now) A given.now ⟦<E as Platform>⟧ list))
+        (RunsReasons (F.known files.now) A ⟦<E as Platform>⟧ (asked_of request.now)))
         reader.old reader.new writer.old writer.new result }
     ensures ends { BlamesEnds result (has_failed reader.new) (has_failed writer.new) }
 {
-    let Ok(stated) = values(alloc, given, NamesOption::Ignore) else {
-        return Err(Fault::List(ListFault::Run(Failure::Memory)));
-    };
-    let values = stated.as_slice();
+    let values = request.files.as_slice();
     match read_ignore(alloc, files, values) {
         Ok(ignore) => {
             let reasons = Reasons {
                 values,
                 ignore: &ignore,
-                list,
+                list: request.list,
                 platform: PhantomData::<E>,
             };
             run_list(alloc, &reasons, reader, writer)

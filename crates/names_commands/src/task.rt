@@ -32,7 +32,7 @@ pub enum WordForm {
 }
 
 /// What is done with each item of the input.
-#[derive(Clone, Copy)]
+#[derive(Clone, Copy, PartialEq, Eq)]
 pub enum Task {
     /// Each name is written as its escape on a line.
     ListAll,

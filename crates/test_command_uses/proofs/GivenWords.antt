@@ -1,5 +1,5 @@
 -- How the arguments that state a command for names of Unix and one ignore file are read, and that they are read in no other way.
-use Rattle.std.proofs.Common.{◌≡◌, ◌≢◌, ◌⊎◌, inl, inr, ℕ, ◌+◌, ◌<◌, Bool, true, false, List, [], ◌∷◌, ◌++◌, length, get_or, refl, sym, ap, ◌∙◌, subst, arith, Option, Some, None, Result, Ok, Err}
+use Rattle.std.proofs.Common.{◌≡◌, ◌≢◌, inl, inr, ℕ, ◌+◌, ◌<◌, true, false, List, [], ◌∷◌, ◌++◌, length, get_or, refl, sym, ap, ◌∙◌, subst, arith, Option, Some, None, Result, Ok, Err}
 use Rattle.std.specs.Prelude.{codes}
 use Rattle.std.specs.Str.{IsUtf8}
 use Rattle.std.specs.List.{AllByRecursion}
@@ -7,10 +7,10 @@ use Rattle.std.proofs.lemmas.List.Elements.{All-from_recursion}
 use Rattle.std.proofs.lemmas.Str.{IsUtf8-from_ascii}
 use Rattle.std.proofs.lemmas.Str.Ascii.{IsAscii-from_all}
 use denote.Ref.{Bor}
-use Rattle.wtf8_core.specs.Occurrence.{IsPrefix, OccursAt, OccursNowhere}
-use Rattle.os_args.specs.Word.{Kind, Long, LongBytes, Short, ShortBytes, Value, dash, dashes, equals}
-use Rattle.os_args.specs.Reading.{Fault, Reading, StartsWithDashes, TakesNone, TakesWord, TakesValue, words_left}
-use Rattle.program_frame.specs.Arguments.{AreGiven, FailsAt, HasFault, IsOption, IsUnknown, LacksItsValue, Takes, TakesAll}
+use Rattle.wtf8_core.specs.Occurrence.{IsPrefix, OccursNowhere}
+use Rattle.os_args.specs.Word.{Kind, Long, Value, dash, dashes, equals}
+use Rattle.os_args.specs.Reading.{Fault, Reading, StartsWithDashes, TakesWord, TakesValue, words_left}
+use Rattle.program_frame.specs.Arguments.{AreGiven, FailsAt, HasFault, IsOption, Takes, TakesAll}
 use Rattle.program_frame.specs.declared.arguments.Given.{Given}
 use Rattle.program_frame.specs.declared.arguments.Given.TheVariants.{Operand, Flag, Valued}
 use Rattle.names_commands.specs.Command.{Line, name_word}

@@ -4,13 +4,12 @@ use Rattle.std.specs.Prelude.{codes, IsOk, IsTrue, OnOk, ⊤}
 use Rattle.std.specs.List.{AllByRecursion}
 use Rattle.std.specs.Io.KnownBytes.{Appends}
 use denote.Ref.{Bor}
-use Rattle.os_ignore.specs.Directories.{IsPlace}
 use Rattle.os_ignore.specs.Ignores.{IsAdded, IsFileAt, IsOnly}
 use Rattle.os_ignore.specs.declared.file.File.{File}
 use Rattle.program_frame.specs.Ended.{status_after}
 use Rattle.program_frame.specs.Files.{KnownFiles}
 use Rattle.program_frame.proofs.lemmas.lists.Items.{has_end}
-use Rattle.program_frame.specs.Items.{IsCutAt, Lacks}
+use Rattle.program_frame.specs.Items.{Lacks}
 use Rattle.program_frame.specs.Os.{os_word}
 use Rattle.program_frame.specs.ListRun.{IsRun, answer_of}
 use Rattle.program_frame.specs.ProgramFault.{status_of}
@@ -22,24 +21,25 @@ use Rattle.program_frame.specs.declared.lists.program_fault.Fault.TheVariants.{L
 use Rattle.program_frame.specs.declared.lists.options.ListOptions.{ListOptions}
 use Rattle.program_frame.specs.declared.os.Os.{Os}
 use Rattle.program_frame.specs.declared.os.Os.TheVariants.{Unix, Windows, Wasm}
-use Rattle.names_commands.specs.Command.{AsksFor, HasOperands, IsListed, IsMax, IsPick, Line, MakesUp, name_word, options_of}
+use Rattle.names_commands.specs.Command.{Asked, AsksFor, HasOperands, IsListed, IsMax, Line, MakesUp, MakesUpWork, StatesPicks, name_word, options_of}
 use Rattle.names_commands.specs.Fault.{words_status}
-use Rattle.names_commands.specs.Ignoring.{AreAdded, AreRead, FileRead, IsDirectory, IsFileIn, IsFirstUnread, IsIgnored, WasRead, value_of}
-use Rattle.names_commands.specs.Matching.{IsChosen, IsPicked, picking}
+use Rattle.names_commands.specs.Ignoring.{AreAdded, AreRead, FileRead, IsFileIn, IsFirstUnread, IsIgnored, WasRead, value_of}
+use Rattle.names_commands.specs.Matching.{AreWrittenOut, IsChosen, IsPicked, picking}
 use Rattle.names_commands.specs.Options.{has_value, spelled}
-use Rattle.names_commands.specs.Pick.{glob_words, in_any_folder}
-use Rattle.names_commands.specs.Program.{Does, EndsAtOnce, Fault, IsFileFault, RejectsLine, RunsBut, RunsLine, RunsPatterns, RunsPlan, RunsTo, UnlessOutOfMemory}
+use Rattle.names_commands.specs.Pick.{in_any_folder}
+use Rattle.names_commands.specs.Program.{Does, DoesCommand, DoesWork, EndsAtOnce, Fault, IsFileFault, RejectsLine, RunsBut, RunsLine, RunsPicked, RunsTo, UnlessOutOfMemory}
 use Rattle.names_commands.specs.declared.command.Command.{Command}
-use Rattle.names_commands.specs.declared.command.Command.TheVariants.{ListNames, ListWords, Filter, Why, Join, JoinWords, Check, Help, Version}
+use Rattle.names_commands.specs.declared.command.Command.TheVariants.{Help, Version, On}
 use Rattle.names_commands.specs.declared.command.Name.{Name as DeclaredName}
 use Rattle.names_commands.specs.declared.command.Name.TheVariants as name
-use Rattle.names_commands.specs.declared.command.Request.{Request}
+use Rattle.names_commands.specs.declared.command.Work.{Work}
+use Rattle.names_commands.specs.declared.command.Work.TheVariants.{Each, Picked, Why}
 use Rattle.names_commands.specs.declared.fault.CommandFault.{CommandFault}
 use Rattle.names_commands.specs.declared.fault.CommandFault.TheVariants.{Unreadable, Misuse, Pattern, NoFile, Unread}
 use Rattle.names_commands.specs.declared.fault.Refusal.{Refusal}
+use Rattle.names_commands.specs.declared.matching.Form.TheVariants as form
 use Rattle.names_commands.specs.declared.matching.Form.TheVariants.{Name}
-use Rattle.names_commands.specs.declared.pick.Pick.{Pick}
-use Rattle.names_commands.specs.declared.plan.Plan.{Plan}
+use Rattle.names_commands.specs.declared.task.Task.TheVariants.{ListAll, ListWords, Check, Join, JoinWords}
 use Rattle.names_commands.specs.declared.option.NamesOption.{NamesOption}
 use Rattle.names_commands.specs.declared.option.NamesOption.TheVariants as option
 use Rattle.os_args.specs.Views.{fault_of}
@@ -191,6 +191,16 @@ module _ (command platform value : Bor (List ℕ)) where
   not_inverted true is = absurd (no_invert (is.0 refl))
   not_inverted false is = refl
 
+  none_stated : (it : NamesOption) → (option.Ignore ≡ it → ⊥) → AreValues it given_of []
+  none_stated it other = inr (λ v h. h, inr (λ v h. h, inr (λ v h. other h.0, refl)))
+
+  -- no pattern is stated, and this ignore file
+  pub states_one : (asked : Command) (list : ListOptions) → StatesPicks given_of (record { command = asked; list = list; plain = 0; globs = []; files = value.now ∷ []; inverted = false })
+  states_one asked list = (
+    ([], [], (none_stated option.Glob (λ e. cc), (none_stated option.Name (λ e. cc), (refl, refl)))),
+    (inr (λ v h. h, inr (λ v h. h, inl (value.now, [], ((refl, refl), (refl, refl))))), (λ e. let never : false ≡ true = e in absurd (cc), λ h. absurd (no_invert h))),
+  )
+
 module _ (known : KnownFiles) (A : Type 0) (file : List ℕ) (input left old new : Option (List ℕ)) (answer : Result ⊤ Fault) where
   -- all names are written, but for those that the file ignores
   abbrev pub Filters : Type 0
@@ -201,34 +211,28 @@ module _ (known : KnownFiles) (A : Type 0) (file : List ℕ) (input left old new
   no_fault (x ∷ before) after text e = let never : [] ≡ x ∷ (before ++ text ∷ after) = e in cc
 
   -- no pattern has a fault where there is none
-  ran : (plan : Plan) (plain : ℕ) → plan.os ≡ Unix → plan.form ≡ Name → plan.list ≡ usual → plan.pick.inverted ≡ false → RunsPatterns known A (strings Unix) plan plain [] (file ∷ []) input left old new answer → Filters
-  ran plan plain os form max kept (inl fault) = absurd (no_fault fault.2.before fault.2.after fault.2.text fault.2.joined)
-  ran plan plain os form max kept (inr compiled) =
-      let runs = subst (λ w. RunsBut known A (strings Unix) plan.form plan.list plan.pick.inverted (IsChosen (strings Unix) (options_of plan.os) w) (file ∷ []) input left old new answer) compiled.1 compiled.2 in
-      inr (subst (λ o. RunsBut known A (strings Unix) Name usual false (IsChosen (strings Unix) (options_of o) []) (file ∷ []) input left old new answer) os
-      (subst (λ f. RunsBut known A (strings Unix) f usual false (IsChosen (strings Unix) (options_of plan.os) []) (file ∷ []) input left old new answer) form
-      (subst (λ m. RunsBut known A (strings Unix) plan.form m false (IsChosen (strings Unix) (options_of plan.os) []) (file ∷ []) input left old new answer) max
-      (subst (λ v. RunsBut known A (strings Unix) plan.form plan.list v (IsChosen (strings Unix) (options_of plan.os) []) (file ∷ []) input left old new answer) kept runs))))
+  ran : (asked : Asked) → asked.globs ≡ [] → asked.list ≡ usual → asked.inverted ≡ false → asked.files ≡ file ∷ [] → RunsPicked known A (strings Unix) asked Unix Name input left old new answer → Filters
+  ran asked globs list kept files (inl fault) = absurd (no_fault fault.2.before fault.2.after fault.2.text (sym globs ∙ fault.2.joined))
+  ran asked globs list kept files (inr compiled) =
+      let none : compiled.0 ≡ [] = subst (λ texts. AreWrittenOut (strings Unix) (options_of Unix) texts compiled.0) globs compiled.1 in
+      inr (subst (λ f. RunsBut known A (strings Unix) Name usual false (IsChosen (strings Unix) (options_of Unix) []) f input left old new answer) files
+      (subst (λ v. RunsBut known A (strings Unix) Name usual v (IsChosen (strings Unix) (options_of Unix) []) asked.files input left old new answer) kept
+      (subst (λ m. RunsBut known A (strings Unix) Name m asked.inverted (IsChosen (strings Unix) (options_of Unix) []) asked.files input left old new answer) list
+      (subst (λ w. RunsBut known A (strings Unix) Name asked.list asked.inverted (IsChosen (strings Unix) (options_of Unix) w) asked.files input left old new answer) none compiled.2))))
 
   module _ (command platform value : Bor (List ℕ)) (is_command : command.now ≡ codes "filter") (is_platform : platform.now ≡ codes "unix") (is_file : value.now ≡ file) where
     abbrev given : Line
     given = given_of command platform value
 
-    picked : (pick : Pick) (list : ListOptions) → list ≡ usual → glob_words pick.glob ≡ [] → pick.inverted ≡ false → RunsPlan known A given (record { os = Unix; form = Name; pick = pick; list = list }) input left old new answer → Filters
-    picked pick list is_usual none kept (inl memory) = inl memory
-    picked pick list is_usual none kept (inr chose) =
-        let plain = chose.0 in
-        let globs = chose.1 in
-        let names = chose.2 in
-        let patterns = chose.3.0 in
+    picked : (asked : Asked) → asked.list ≡ usual → StatesPicks given asked → UnlessOutOfMemory (RunsPicked known A (strings Unix) asked Unix Name) input left old new answer → Filters
+    picked asked is_usual states (inl memory) = inl memory
+    picked asked is_usual states (inr runs) =
+        let patterns = states.0 in
         let more : patterns.0 ≡ [] = no_values command platform value option.Glob (λ e. cc) patterns.0 patterns.2.0 in
         let of_names : patterns.1 ≡ [] = no_values command platform value option.Name (λ e. cc) patterns.1 patterns.2.1.0 in
-        let globs_are : globs ≡ [] = patterns.2.1.1.0 ∙ ap (λ x. (x ++ patterns.0) ++ map in_any_folder patterns.1) none ∙ ap (λ x. x ++ map in_any_folder patterns.1) more ∙ ap (map in_any_folder) of_names in
-        let names_are : names ≡ file ∷ [] = one_file command platform value names chose.3.1 ∙ ap (λ x. x ∷ []) is_file in
-        let plan : Plan = record { os = Unix; form = Name; pick = pick; list = list } in
-        ran plan plain refl refl is_usual kept
-        (subst (λ x. RunsPatterns known A (strings Unix) plan plain [] x input left old new answer) names_are
-        (subst (λ x. RunsPatterns known A (strings Unix) plan plain x names input left old new answer) globs_are chose.4))
+        let globs_are : asked.globs ≡ [] = patterns.2.1.1.0 ∙ ap (λ x. x ++ map in_any_folder patterns.1) more ∙ ap (map in_any_folder) of_names in
+        let files_are : asked.files ≡ file ∷ [] = one_file command platform value asked.files states.1.0 ∙ ap (λ x. x ∷ []) is_file in
+        ran asked globs_are is_usual (not_inverted command platform value asked.inverted states.1.1) files_are runs
 
     -- the operands are those of one command
     operands : HasOperands given name.Filter Unix []
@@ -237,36 +241,44 @@ module _ (known : KnownFiles) (A : Type 0) (file : List ℕ) (input left old new
     is_word : (c : DeclaredName) (os : Os) (more : List (List ℕ)) → HasOperands given c os more → codes "filter" ≡ name_word c
     is_word c os more has = sym is_command ∙ first has
 
-    by_platform : (os : Os) (more : List (List ℕ)) (pick : Pick) (list : ListOptions) → codes "unix" ≡ os_word os → [] ≡ more → list ≡ usual → IsPick given os more pick → RunsPlan known A given (record { os = os; form = Name; pick = pick; list = list }) input left old new answer → Filters
-    by_platform Unix more pick list e none is_usual is runs = picked pick list is_usual (sym is.glob ∙ sym none) (not_inverted command platform value pick.inverted is.inverted) runs
-    by_platform Windows more pick list e none is_usual is runs = absurd (not_windows e)
-    by_platform Wasm more pick list e none is_usual is runs = absurd (not_wasm e)
+    by_platform : (os : Os) (asked : Asked) → codes "unix" ≡ os_word os → asked.list ≡ usual → StatesPicks given asked → DoesWork known A (strings os) asked os (Picked Name) input left old new answer → Filters
+    by_platform Unix asked e listed states runs = picked asked listed states runs
+    by_platform Windows asked e listed states runs = absurd (not_windows e)
+    by_platform Wasm asked e listed states runs = absurd (not_wasm e)
 
-    by_command : (command : Command) (list : ListOptions) → list ≡ usual → MakesUp given command → Does known A given command list input left old new answer → Filters
-    by_command (ListNames os pick) list is_usual m does = absurd (not_list (is_word name.List os m.0 m.1.0))
-    by_command (ListWords form pick) list is_usual m does = absurd (not_list (is_word name.List Unix m.0 m.1.0))
-    by_command (Filter os pick) list is_usual m does = by_platform os m.0 pick list (sym is_platform ∙ first (later m.1.0)) (later (later m.1.0)) is_usual m.1.1.1 does
-    by_command (Why os) list is_usual m does = absurd (not_why (is_word name.Why os [] m.0))
-    by_command (Join os empty) list is_usual m does = absurd (not_join (is_word name.Join os [] m.0))
-    by_command JoinWords list is_usual m does = absurd (not_join (is_word name.Join Unix [] m.0))
-    by_command (Check os) list is_usual m does = absurd (not_check (is_word name.Check os [] m.0))
-    by_command Help list is_usual m does = absurd m
-    by_command Version list is_usual m does = absurd m
+    by_work : (os : Os) (work : Work) (asked : Asked) → asked.list ≡ usual → StatesPicks given asked → MakesUpWork given os work → DoesWork known A (strings os) asked os work input left old new answer → Filters
+    by_work os (Each ListAll) asked listed states m does = absurd (not_list (is_word name.List os m.0.0 m.0.1.0))
+    by_work os (Each (ListWords words)) asked listed states m does = absurd (not_list (is_word name.List os m.0.0 m.0.1.0))
+    by_work os (Each Check) asked listed states m does = absurd (not_check (is_word name.Check os [] m.0))
+    by_work os (Each (Join empty)) asked listed states m does = absurd (not_join (is_word name.Join os [] m.0))
+    by_work os (Each JoinWords) asked listed states m does = absurd (not_join (is_word name.Join os [] m.0))
+    by_work os (Picked form.Line) asked listed states m does = absurd (not_list (is_word name.List os m.0.0 m.0.1.0))
+    by_work os (Picked (form.Word words)) asked listed states m does = absurd (not_list (is_word name.List os m.0.0 m.0.1.0))
+    by_work os (Picked form.Name) asked listed states m does = by_platform os asked (sym is_platform ∙ first (later m.1.0)) listed states does
+    by_work os Why asked listed states m does = absurd (not_why (is_word name.Why os [] m.0))
 
-    by_request : (request : Request) → AsksFor given request → Does known A given request.command request.list input left old new answer → Filters
-    by_request request (inl asks) does = absurd (no_help command platform value asks.0)
-    by_request request (inr asks) does = by asks.1
+    by_command : (command : Command) (asked : Asked) → asked.list ≡ usual → StatesPicks given asked → MakesUp given command → DoesCommand known A asked command input left old new answer → Filters
+    by_command (On os work) asked listed states m does = by_work os work asked listed states m does
+    by_command Help asked listed states m does = absurd m
+    by_command Version asked listed states m does = absurd m
+
+    by_request : (asked : Asked) → AsksFor given asked → Does known A asked input left old new answer → Filters
+    by_request asked (inl asks) does = absurd (no_help command platform value asks.0)
+    by_request asked (inr asks) does = by asks.1
       where
-        by : ((HasOption option.Version given × (request.command ≡ Version)) ⊎ ((¬ (HasOption option.Version given)) × (IsListed given request.list × MakesUp given request.command))) → Filters
+        by : ((HasOption option.Version given × (asked.command ≡ Version)) ⊎ ((¬ (HasOption option.Version given)) × (IsListed given asked.list × (MakesUp given asked.command × StatesPicks given asked)))) → Filters
         by (inl v) = absurd (no_version command platform value v.0)
-        by (inr c) = by_command request.command request.list (usual_list command platform value request.list c.1.0) c.1.1 does
+        by (inr c) = by_command asked.command asked (usual_list command platform value asked.list c.1.0) c.1.1.1 c.1.1.0 does
 
     -- some command has them
-    asked : (request : Request) × AsksFor given request
-    asked = (record { command = Filter Unix (record { glob = None; inverted = false }); list = usual }, inr (no_help command platform value, inr (no_version command platform value, (is_usual command platform value, ([], (operands, ((tt, (tt, (tt, tt))), record { glob = refl; some = inr (inr (inl (inr (inr (inl refl))))); ignores = λ h. tt; inverted = (λ e. let never : false ≡ true = e in absurd (cc), λ h. absurd (no_invert command platform value h)) })))))))
+    makes_up : MakesUp given (On Unix (Picked Name))
+    makes_up = ([], (operands, ((tt, (tt, (tt, tt))), (tt, (inr (inr (inl (inr (inr (inl refl))))), λ h. tt)))))
+
+    some : (asked : Asked) × AsksFor given asked
+    some = (record { command = On Unix (Picked Name); list = usual; plain = 0; globs = []; files = value.now ∷ []; inverted = false }, inr (no_help command platform value, inr (no_version command platform value, (is_usual command platform value, (makes_up, states_one command platform value (On Unix (Picked Name)) usual)))))
 
     not_rejected : RejectsLine known A given input left old new answer → ⊥
-    not_rejected r = r.2.0.0.no_request asked.0 asked.1
+    not_rejected r = r.2.0.0.no_request some.0 some.1
 
     of_line : RunsLine known A given input left old new answer → Filters
     of_line (inl r) = absurd (not_rejected r)

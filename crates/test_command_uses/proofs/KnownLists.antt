@@ -1,5 +1,5 @@
 -- Lists where no option states how they are written.
-use Rattle.std.proofs.Common.{◌≡◌, ◌⊎◌, ℕ, List, [], ◌∷◌, inl, inr, ap, ◌∙◌, Option, Some, None}
+use Rattle.std.proofs.Common.{◌≡◌, ◌⊎◌, ℕ, List, [], ◌∷◌, inl, inr, ap, ◌∙◌, Some, None}
 use denote.Ref.{Bor}
 use Rattle.program_frame.specs.Arguments.{HasOption, LastValue}
 use Rattle.program_frame.specs.ListOptions.{IsEnd, IsLast}
@@ -9,9 +9,8 @@ use Rattle.program_frame.specs.declared.lists.options.ItemEnd.TheVariants.{Nul, 
 use Rattle.program_frame.specs.declared.lists.options.LastItem.{LastItem}
 use Rattle.program_frame.specs.declared.lists.options.LastItem.TheVariants.{MustEnd, MayLackEnd}
 use Rattle.program_frame.specs.declared.lists.options.ListOptions.{ListOptions}
-use Rattle.names_commands.specs.Command.{AsksFor, IsListed, IsMax, Line, MakesUp}
+use Rattle.names_commands.specs.Command.{Asked, AsksFor, IsListed, IsMax, Line, MakesUp, StatesPicks}
 use Rattle.names_commands.specs.declared.command.Command.TheVariants.{Version}
-use Rattle.names_commands.specs.declared.command.Request.{Request}
 use Rattle.names_commands.specs.declared.option.NamesOption.{NamesOption}
 use Rattle.names_commands.specs.declared.option.NamesOption.TheVariants as option
 use Rattle.test_command_uses.specs.OneFile.{usual}
@@ -48,10 +47,10 @@ module _ (command platform : Bor (List ℕ)) where
   usual_max max (inl m) = m.1
   usual_max max (inr m) = absurd (no_value m.0 m.1.0)
 
-  pub usual_of_two : (request : Request) → AsksFor two request → request.list ≡ usual
-  usual_of_two request (inl asks) = absurd (none option.Help asks.0)
-  usual_of_two request (inr asks) = by asks.1
+  pub usual_of_two : (asked : Asked) → AsksFor two asked → asked.list ≡ usual
+  usual_of_two asked (inl asks) = absurd (none option.Help asks.0)
+  usual_of_two asked (inr asks) = by asks.1
     where
-      by : ((HasOption option.Version two × (request.command ≡ Version)) ⊎ ((¬ (HasOption option.Version two)) × (IsListed two request.list × MakesUp two request.command))) → request.list ≡ usual
+      by : ((HasOption option.Version two × (asked.command ≡ Version)) ⊎ ((¬ (HasOption option.Version two)) × (IsListed two asked.list × (MakesUp two asked.command × StatesPicks two asked)))) → asked.list ≡ usual
       by (inl v) = absurd (none option.Version v.0)
-      by (inr c) = is_usual_list two (none option.Lines) (none option.Unterminated) usual_max request.list c.1.0
+      by (inr c) = is_usual_list two (none option.Lines) (none option.Unterminated) usual_max asked.list c.1.0

@@ -17,7 +17,7 @@ use Rattle.names_commands.specs.declared.matching.Form.TheVariants.{Name}
 use Rattle.names_commands.specs.Matching.{picking}
 use Rattle.names_commands.specs.declared.task.Settings.{Settings}
 use Rattle.names_commands.specs.Back.{listing}
-use Rattle.program_frame.specs.Items.{Entry, Lacks, IsLastUnended, items_of, texts_of}
+use Rattle.program_frame.specs.Items.{Entry, Lacks, items_of, texts_of}
 use Rattle.program_frame.specs.ListOptions.{byte_of}
 use Rattle.program_frame.specs.declared.lists.options.ItemEnd.{ItemEnd}
 use Rattle.test_command_uses.specs.OneFile.{unended, usual}

@@ -1,5 +1,5 @@
 -- What the program does for the words that ask which lines of one ignore file decide names.
-use Rattle.std.proofs.Common.{◌≡◌, ◌≢◌, ◌⊎◌, inl, inr, ℕ, zero, suc, List, [], ◌∷◌, ◌++◌, drop, get_or, refl, sym, ap, ◌∙◌, subst, append-nil, arith, Option, Some, None, Result, Ok, Err}
+use Rattle.std.proofs.Common.{◌≡◌, ◌≢◌, ◌⊎◌, inl, inr, ℕ, zero, suc, false, List, [], ◌∷◌, ◌++◌, drop, get_or, refl, sym, ap, ◌∙◌, subst, append-nil, arith, Option, Some, None, Result, Ok, Err}
 use Rattle.std.specs.Prelude.{codes, OnOk, ⊤}
 use Rattle.std.specs.List.{AllByRecursion}
 use Rattle.std.specs.Io.KnownBytes.{Appends}
@@ -21,23 +21,26 @@ use Rattle.os_str_bytes.specs.UnixPlatform.TheImpl as unix
 use Rattle.program_frame.specs.declared.lists.options.ListOptions.{ListOptions}
 use Rattle.program_frame.specs.declared.os.Os.{Os}
 use Rattle.program_frame.specs.declared.os.Os.TheVariants.{Unix, Windows, Wasm}
-use Rattle.names_commands.specs.Command.{AsksFor, HasOperands, IsListed, Line, MakesUp, name_word}
+use Rattle.names_commands.specs.Command.{Asked, AsksFor, HasOperands, IsListed, Line, MakesUp, MakesUpWork, StatesPicks, name_word}
 use Rattle.names_commands.specs.Ignoring.{AreRead}
 use Rattle.names_commands.specs.Options.{has_value, spelled}
-use Rattle.names_commands.specs.Program.{Does, Fault, RejectsLine, RunsLine, RunsReasons, RunsTo, RunsWhy, UnlessOutOfMemory}
-use Rattle.names_commands.specs.Why.{IsDecidedText, IsNameAt, IsTextOfNumbers, deciding, place_text}
+use Rattle.names_commands.specs.Program.{Does, DoesCommand, DoesWork, Fault, RejectsLine, RunsLine, RunsReasons, RunsTo, UnlessOutOfMemory}
+use Rattle.names_commands.specs.Why.{IsDecidedText, IsNameAt, IsTextOfNumbers, deciding}
 use Rattle.names_commands.specs.declared.command.Command.{Command}
-use Rattle.names_commands.specs.declared.command.Command.TheVariants.{ListNames, ListWords, Filter, Why, Join, JoinWords, Check, Help, Version}
+use Rattle.names_commands.specs.declared.command.Command.TheVariants.{Help, Version, On}
 use Rattle.names_commands.specs.declared.command.Name.{Name as DeclaredName}
 use Rattle.names_commands.specs.declared.command.Name.TheVariants as name
-use Rattle.names_commands.specs.declared.command.Request.{Request}
+use Rattle.names_commands.specs.declared.command.Work.{Work}
+use Rattle.names_commands.specs.declared.command.Work.TheVariants.{Each, Picked, Why}
+use Rattle.names_commands.specs.declared.matching.Form.TheVariants as form
+use Rattle.names_commands.specs.declared.task.Task.TheVariants.{ListAll, ListWords, Check, Join, JoinWords}
 use Rattle.names_commands.specs.declared.fault.Refusal.{Refusal}
 use Rattle.names_commands.specs.declared.option.NamesOption.TheVariants as option
 use Rattle.os_args.specs.Views.{fault_of}
 use Rattle.program_frame.specs.Arguments.{AreGiven, HasOption}
 use Rattle.test_command_uses.specs.OneFile.{IsExplainedBy, IsReasonOf, explaining, only, usual}
 use Rattle.test_command_uses.proofs.GivenWords.{OneValue, OneWord, are_asking, no_fault_of}
-use Rattle.test_command_uses.proofs.KnownIgnore.{at_top, first, given_of, is_usual, later, no_help, no_version, not_wasm, not_windows, one_file, only_read, usual_list}
+use Rattle.test_command_uses.proofs.KnownIgnore.{at_top, first, given_of, is_usual, later, no_help, no_version, not_wasm, not_windows, one_file, only_read, states_one, usual_list}
 use Rattle.test_command_uses.proofs.KnownNames.{all_whole, one_ended}
 
 not_list : codes "why" ≡ codes "list" → ⊥
@@ -65,20 +68,22 @@ not_check e =
     no n
 
 module _ (known : KnownFiles) (A : Type 0) (file : List ℕ) (input left old new : Option (List ℕ)) (answer : Result ⊤ Fault) where
+  -- the lines of these files that decide names are written
+  abbrev Reasons : ListOptions → List (List ℕ) → Type 0
+  Reasons list files = UnlessOutOfMemory (RunsReasons known A (strings Unix) (record { command = On Unix Why; list = list; plain = 0; globs = []; files = files; inverted = false })) input left old new answer
+
   -- the line of the file that decides each name is written
   abbrev pub Explains : Type 0
-  Explains = UnlessOutOfMemory (RunsReasons known A (strings Unix) usual (file ∷ [])) input left old new answer
+  Explains = Reasons usual (file ∷ [])
 
   module _ (command platform value : Bor (List ℕ)) (is_command : command.now ≡ codes "why") (is_platform : platform.now ≡ codes "unix") (is_file : value.now ≡ file) where
     abbrev given : Line
     given = given_of command platform value
 
-    decided : (list : ListOptions) → list ≡ usual → RunsWhy known A given Unix list input left old new answer → Explains
-    decided list is_usual (inl memory) = inl memory
-    decided list is_usual (inr ran) =
-        let values_are : ran.0 ≡ file ∷ [] = one_file command platform value ran.0 ran.1 ∙ ap (λ x. x ∷ []) is_file in
-        inr (subst (λ m. RunsReasons known A (strings Unix) m (file ∷ []) input left old new answer) is_usual
-        (subst (λ values. RunsReasons known A (strings Unix) list values input left old new answer) values_are ran.2))
+    decided : (asked : Asked) → asked.list ≡ usual → StatesPicks given asked → DoesWork known A (strings Unix) asked Unix Why input left old new answer → Explains
+    decided asked is_usual states runs =
+        let files_are : asked.files ≡ file ∷ [] = one_file command platform value asked.files states.1.0 ∙ ap (λ x. x ∷ []) is_file in
+        subst (λ m. Reasons m (file ∷ [])) is_usual (subst (λ files. Reasons asked.list files) files_are runs)
 
     -- the operands are those of one command
     operands : HasOperands given name.Why Unix []
@@ -87,36 +92,44 @@ module _ (known : KnownFiles) (A : Type 0) (file : List ℕ) (input left old new
     is_word : (c : DeclaredName) (os : Os) (more : List (List ℕ)) → HasOperands given c os more → codes "why" ≡ name_word c
     is_word c os more has = sym is_command ∙ first has
 
-    by_platform : (os : Os) (list : ListOptions) → codes "unix" ≡ os_word os → list ≡ usual → RunsWhy known A given os list input left old new answer → Explains
-    by_platform Unix list e is_usual runs = decided list is_usual runs
-    by_platform Windows list e is_usual runs = absurd (not_windows e)
-    by_platform Wasm list e is_usual runs = absurd (not_wasm e)
+    by_platform : (os : Os) (asked : Asked) → codes "unix" ≡ os_word os → asked.list ≡ usual → StatesPicks given asked → DoesWork known A (strings os) asked os Why input left old new answer → Explains
+    by_platform Unix asked e listed states runs = decided asked listed states runs
+    by_platform Windows asked e listed states runs = absurd (not_windows e)
+    by_platform Wasm asked e listed states runs = absurd (not_wasm e)
 
-    by_command : (command : Command) (list : ListOptions) → list ≡ usual → MakesUp given command → Does known A given command list input left old new answer → Explains
-    by_command (ListNames os pick) list is_usual m does = absurd (not_list (is_word name.List os m.0 m.1.0))
-    by_command (ListWords form pick) list is_usual m does = absurd (not_list (is_word name.List Unix m.0 m.1.0))
-    by_command (Filter os pick) list is_usual m does = absurd (not_filter (is_word name.Filter os m.0 m.1.0))
-    by_command (Why os) list is_usual m does = by_platform os list (sym is_platform ∙ first (later m.0)) is_usual does
-    by_command (Join os empty) list is_usual m does = absurd (not_join (is_word name.Join os [] m.0))
-    by_command JoinWords list is_usual m does = absurd (not_join (is_word name.Join Unix [] m.0))
-    by_command (Check os) list is_usual m does = absurd (not_check (is_word name.Check os [] m.0))
-    by_command Help list is_usual m does = absurd m
-    by_command Version list is_usual m does = absurd m
+    by_work : (os : Os) (work : Work) (asked : Asked) → asked.list ≡ usual → StatesPicks given asked → MakesUpWork given os work → DoesWork known A (strings os) asked os work input left old new answer → Explains
+    by_work os (Each ListAll) asked listed states m does = absurd (not_list (is_word name.List os m.0.0 m.0.1.0))
+    by_work os (Each (ListWords words)) asked listed states m does = absurd (not_list (is_word name.List os m.0.0 m.0.1.0))
+    by_work os (Each Check) asked listed states m does = absurd (not_check (is_word name.Check os [] m.0))
+    by_work os (Each (Join empty)) asked listed states m does = absurd (not_join (is_word name.Join os [] m.0))
+    by_work os (Each JoinWords) asked listed states m does = absurd (not_join (is_word name.Join os [] m.0))
+    by_work os (Picked form.Line) asked listed states m does = absurd (not_list (is_word name.List os m.0.0 m.0.1.0))
+    by_work os (Picked (form.Word words)) asked listed states m does = absurd (not_list (is_word name.List os m.0.0 m.0.1.0))
+    by_work os (Picked form.Name) asked listed states m does = absurd (not_filter (is_word name.Filter os m.0 m.1.0))
+    by_work os Why asked listed states m does = by_platform os asked (sym is_platform ∙ first (later m.0)) listed states does
 
-    by_request : (request : Request) → AsksFor given request → Does known A given request.command request.list input left old new answer → Explains
-    by_request request (inl asks) does = absurd (no_help command platform value asks.0)
-    by_request request (inr asks) does = by asks.1
+    by_command : (command : Command) (asked : Asked) → asked.list ≡ usual → StatesPicks given asked → MakesUp given command → DoesCommand known A asked command input left old new answer → Explains
+    by_command (On os work) asked listed states m does = by_work os work asked listed states m does
+    by_command Help asked listed states m does = absurd m
+    by_command Version asked listed states m does = absurd m
+
+    by_request : (asked : Asked) → AsksFor given asked → Does known A asked input left old new answer → Explains
+    by_request asked (inl asks) does = absurd (no_help command platform value asks.0)
+    by_request asked (inr asks) does = by asks.1
       where
-        by : ((HasOption option.Version given × (request.command ≡ Version)) ⊎ ((¬ (HasOption option.Version given)) × (IsListed given request.list × MakesUp given request.command))) → Explains
+        by : ((HasOption option.Version given × (asked.command ≡ Version)) ⊎ ((¬ (HasOption option.Version given)) × (IsListed given asked.list × (MakesUp given asked.command × StatesPicks given asked)))) → Explains
         by (inl v) = absurd (no_version command platform value v.0)
-        by (inr c) = by_command request.command request.list (usual_list command platform value request.list c.1.0) c.1.1 does
+        by (inr c) = by_command asked.command asked (usual_list command platform value asked.list c.1.0) c.1.1.1 c.1.1.0 does
 
     -- some command has them
-    asked : (request : Request) × AsksFor given request
-    asked = (record { command = Why Unix; list = usual }, inr (no_help command platform value, inr (no_version command platform value, (is_usual command platform value, (operands, ((tt, (tt, (tt, tt))), (inr (inr (inl refl)), tt)))))))
+    makes_up : MakesUp given (On Unix Why)
+    makes_up = (operands, ((tt, (tt, (tt, tt))), (inr (inr (inl refl)), tt)))
+
+    some : (asked : Asked) × AsksFor given asked
+    some = (record { command = On Unix Why; list = usual; plain = 0; globs = []; files = value.now ∷ []; inverted = false }, inr (no_help command platform value, inr (no_version command platform value, (is_usual command platform value, (makes_up, states_one command platform value (On Unix Why) usual)))))
 
     not_rejected : RejectsLine known A given input left old new answer → ⊥
-    not_rejected r = r.2.0.0.no_request asked.0 asked.1
+    not_rejected r = r.2.0.0.no_request some.0 some.1
 
     of_line : RunsLine known A given input left old new answer → Explains
     of_line (inl r) = absurd (not_rejected r)

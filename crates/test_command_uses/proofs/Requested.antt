@@ -1,13 +1,12 @@
 -- Arguments that request something, for the programs `names` and `paths`.
-use Rattle.std.proofs.Common.{◌≡◌, ◌⊎◌, inl, inr, ℕ, List, Option, Result, Ok, Err, refl, sym, ◌∙◌, subst}
+use Rattle.std.proofs.Common.{◌≡◌, ◌⊎◌, inl, inr, ℕ, List, Option, Result, Ok, Err, refl, ◌∙◌, subst, sym}
 use Rattle.std.specs.Prelude.{⊤, IfErr}
-use Rattle.std.specs.Result.{IsOk}
-use Rattle.names_commands.specs.Command.{AsksFor, IsRejected, Line}
-use Rattle.names_commands.specs.declared.command.Request.{Request}
+use Rattle.names_commands.specs.Command.{Asked, AsksFor, IsRequestError, Line}
+use Rattle.names_commands.specs.declared.command.RequestError.{RequestError}
+use Rattle.names_commands.specs.declared.command.RequestError.TheVariants.{Misuse, Memory as NoMemory}
 use Rattle.program_frame.specs.declared.fault.Failure.TheVariants.{Memory}
 use Rattle.program_frame.specs.declared.lists.fault.ListFault.TheVariants.{Run}
 use Rattle.program_frame.specs.declared.lists.program_fault.Fault.TheVariants.{List as OfList}
-use Rattle.program_frame.specs.declared.misuse.Misuse.{Misuse}
 use Rattle.paths_commands.specs.Program.{Fault, RunsTo}
 use Rattle.test_command_uses.specs.Requests.{RequestsSome, RunsSome}
 
@@ -23,6 +22,7 @@ requested_end X words input left old new outcome answer is some (inl memory) = i
 requested_end X words input left old new outcome answer is some (inr runs) = subst (RunsSome words input left old new) (sym is) (requested words input left old new outcome some runs)
 
 -- neither are those that make up a request of `names`
-pub never_rejected : (given : Line) (answer : Result Request Misuse) → IfErr answer (IsRejected given) → (request : Request) → AsksFor given request → IsOk answer
-never_rejected given (Ok found) misuse request asks = refl
-never_rejected given (Err fault) misuse request asks = absurd (misuse.no_request request asks)
+pub never_rejected : {X : Type 0} (given : Line) (answer : Result X RequestError) → IfErr answer (IsRequestError given) → (asked : Asked) → AsksFor given asked → IfErr answer (λ error. error ≡ NoMemory)
+never_rejected given (Ok found) error asked asks = tt
+never_rejected given (Err (Misuse misuse)) error asked asks = absurd (error.no_request asked asks)
+never_rejected given (Err NoMemory) error asked asks = refl

@@ -14,19 +14,19 @@ ghost use Rattle.program_frame.specs.declared.fault.Failure.TheVariants.{Write a
 ghost use Rattle.program_frame.specs.declared.lists.fault.ListFault.TheVariants.{Refused, Run, Unended};
 ghost use Rattle.program_frame.specs.declared.lists.options.ItemEnd.{ItemEnd as ItemEndOf};
 ghost use Rattle.names_commands.specs.Back.{listing, listing_words, AreFirst, IsCompleted};
-ghost use Rattle.names_commands.specs.Command.{AsksFor};
+ghost use Rattle.names_commands.specs.Command.{Asked, AsksFor};
 ghost use Rattle.names_commands.specs.Matching.{IsPickedBy};
 ghost use Rattle.names_commands.specs.Task.{rules_of};
 ghost use Rattle.names_commands.specs.Words.{AreNamesOf};
 ghost use Rattle.test_command_uses.specs.OneFile.{unended, usual};
-ghost use Rattle.names_commands.specs.declared.command.Request.{Request as RequestOf};
+ghost use Rattle.names_commands.specs.declared.command.RequestError.TheVariants.{Memory as NoMemory};
 ghost use Rattle.names_commands.specs.declared.fault.Refusal.{Refusal};
 ghost use Rattle.names_commands.specs.declared.fault.Refusal.TheVariants.{NoString};
 
-use names_commands::command::{Line, Request};
+use names_commands::command::{Line, Request, RequestError};
 use names_commands::fault::Refusal;
 use names_commands::laws::{names_come_back, names_come_back_from_words};
-use names_commands::matching::{Form, Matching, Picker};
+use names_commands::matching::{Form, Matching};
 use names_commands::task::{EmptyLine, OnPlatform, Settings, Task, WordForm};
 use os_str_bytes::{OsStr, Platform, Unix};
 use program_frame::arguments::Given;
@@ -35,16 +35,19 @@ use program_frame::lists::lines::push_escape;
 use program_frame::lists::options::{ItemEnd, LastItem, ListOptions};
 use program_frame::lists::run::run;
 use program_frame::marked::Marked;
-use program_frame::misuse::Misuse;
 use std::alloc::{AllocError, Allocator};
 use std::io::Write;
 
 /// How the list of a request of two words is written, which no option states.
-pub fn list_of_two(command: &str, platform: &str) -> Option<ListOptions>
+pub fn list_of_two<A: Allocator + Copy>(
+    alloc: A,
+    command: &str,
+    platform: &str,
+) -> Option<ListOptions>
     ensures { IfSome result (λ list. list ≡ usual) }
 {
     let given = [Given::Operand(command), Given::Operand(platform)];
-    match Request::parse(&given) {
+    match Request::parse(alloc, &given) {
         Ok(request) => Some(request.list),
         Err(_) => None,
     }
@@ -65,11 +68,15 @@ pub fn ends() -> (u8, u8, bool, bool)
     )
 }
 
-/// The request that options and operands make up.
-pub fn known_request<'a>(given: Line<'_, 'a>) -> Result<Request<'a>, Misuse<'a>>
-    ensures { (request : RequestOf) → AsksFor given.entry.now request → IsOk result }
+/// The request that options and operands make up: they are never rejected, unless an allocation fails.
+pub fn known_request<'a, A: Allocator + Copy>(
+    alloc: A,
+    given: Line<'_, 'a>,
+) -> Result<Request<'a, A>, RequestError<'a>>
+    ensures { (asked : Asked) → AsksFor given.entry.now asked
+        → IfErr result (λ error. error ≡ NoMemory) }
 {
-    Request::parse(given)
+    Request::parse(alloc, given)
 }
 
 /// A run over bytes.
@@ -278,12 +285,12 @@ pub fn returned_line<A: Allocator, W: Write>(
     run_over::<Unix, A, W>(alloc, Settings::new(Task::JoinWords, max), line, writer)
 }
 
-/// Filters one name, which is written with NUL, or not at all.
+/// Filters one name, which is written with NUL, or not at all, whatever the form and the list that
+/// `picks` has.
 pub fn filtered<E: Platform, A: Allocator, B: Allocator + Copy, W: Write>(
     alloc: A,
-    of_walk: B,
     max: usize,
-    picker: Picker<'_, E, B>,
+    picks: Matching<'_, E, B>,
     name: &[u8],
     writer: &mut Marked<W>,
 ) -> Result<(), ListFault<Refusal>>
@@ -291,11 +298,11 @@ pub fn filtered<E: Platform, A: Allocator, B: Allocator + Copy, W: Write>(
     requires some { name.now ≢ [] }
     requires unmarked { has_failed writer.old ≡ false }
     ensures { OnOk result ((text : List ℕ)
-        × (((IsPickedBy ⟦<E as Platform>⟧ picker.entry.inverted picker.entry.globs
-        (files_of picker.entry.ignore.now) name.now
+        × (((IsPickedBy ⟦<E as Platform>⟧ picks.entry.inverted picks.entry.globs
+        (files_of picks.entry.ignore.now) name.now
         × (text ≡ name.now ++ 0 ∷ []))
-        ⊎ ((¬ (IsPickedBy ⟦<E as Platform>⟧ picker.entry.inverted picker.entry.globs
-        (files_of picker.entry.ignore.now)
+        ⊎ ((¬ (IsPickedBy ⟦<E as Platform>⟧ picks.entry.inverted picks.entry.globs
+        (files_of picks.entry.ignore.now)
         name.now)) × (text ≡ [])))
         × Appends (W.contents (marked_inner writer.old)) (W.contents (marked_inner writer.new))
         text)) }
@@ -306,12 +313,15 @@ pub fn filtered<E: Platform, A: Allocator, B: Allocator + Copy, W: Write>(
         last: LastItem::MayLackEnd,
         max,
     };
-    run(
-        alloc,
-        &Matching::new(of_walk, picker, Form::Name, list),
-        &mut reader,
-        writer,
-    )
+    let matching = Matching {
+        alloc: picks.alloc,
+        globs: picks.globs,
+        ignore: picks.ignore,
+        inverted: picks.inverted,
+        form: Form::Name,
+        list,
+    };
+    run(alloc, &matching, &mut reader, writer)
 }
 
 /// Lists one name, which is written as its escape on a line, and not past the limit.

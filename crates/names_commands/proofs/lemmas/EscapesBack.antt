@@ -3,7 +3,7 @@ use Rattle.std.proofs.Common.{◌≡◌, ◌≢◌, ⊎_elim, inl, ℕ, ◌*◌,
 use Rattle.std.specs.List.{AllByRecursion}
 use Rattle.os_str_bytes.specs.Platform.{Ghosts}
 use Rattle.os_quote.specs.Escape.{IsLineEscape}
-use Rattle.program_frame.specs.Items.{Entry, Lacks}
+use Rattle.program_frame.specs.Items.{Entry}
 use Rattle.program_frame.specs.ListOptions.{MayLack, byte_of}
 use Rattle.program_frame.specs.ListRun.{IsOutput}
 use Rattle.program_frame.specs.Rules.{IsEntry}

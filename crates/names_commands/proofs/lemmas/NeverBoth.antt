@@ -1,6 +1,5 @@
 -- Options and operands that make up a command have nothing wrong with them.
-use Rattle.std.proofs.Common.{◌≡◌, ◌⊎◌, ℕ, List, [], ◌∷◌, get_or, Option, Some, None, inl, inr, refl, sym, ap, ◌∙◌, subst, arith}
-use denote.Ref.{Bor}
+use Rattle.std.proofs.Common.{◌≡◌, ◌⊎◌, ℕ, nat_eq, cond, List, [], ◌∷◌, get_or, Bool, true, false, Option, Some, None, inl, inr, refl, sym, ap, ◌∙◌, subst}
 use Rattle.program_frame.specs.Arguments.{HasOption, HasValue, IsOf, LastValue}
 use Rattle.program_frame.specs.Os.{os_word}
 use Rattle.program_frame.specs.declared.arguments.Given.{Given}
@@ -9,16 +8,18 @@ use Rattle.program_frame.specs.declared.misuse.Misuse as misuse
 use Rattle.program_frame.specs.declared.misuse.Misuse.TheVariants.{Argument, Missing, Invalid, Misplaced}
 use Rattle.program_frame.specs.declared.os.Os.{Os}
 use Rattle.program_frame.specs.declared.os.Os.TheVariants.{Unix, Windows, Wasm}
-use Rattle.names_commands.specs.Command.{AsksFor, Fits, FitsOne, HasOperands, IsForPlatform, IsInvalid, IsLimit, IsListed, IsMax, IsMaybePick, IsMisplaced, IsMissing, IsMisuse, IsTooMany, Line, MakesUp, NeedsPick, NoWords, SomePicked, TakesOption, name_word}
-use Rattle.names_commands.specs.Pick.{TakesIgnore, glob_words}
+use Rattle.names_commands.specs.Command.{Asked, AsksFor, AtMostOne, Fits, FitsOne, HasOperands, IsForPlatform, IsInvalid, IsLimit, IsListed, IsMax, IsMisplaced, IsMissing, IsMisuse, IsTooMany, Line, Lists, MakesUp, MakesUpWork, NeedsPick, NoWords, Picks, SomePicked, StatesPicks, TakesOption, name_word}
+use Rattle.names_commands.specs.Pick.{TakesIgnore}
 use Rattle.names_commands.specs.declared.command.Command.{Command}
-use Rattle.names_commands.specs.declared.command.Command.TheVariants.{ListNames, ListWords, Filter, Why, Join, JoinWords, Check, Help, Version}
+use Rattle.names_commands.specs.declared.command.Command.TheVariants.{Help, Version, On}
 use Rattle.names_commands.specs.declared.command.Name.{Name}
 use Rattle.names_commands.specs.declared.command.Name.TheVariants as name
-use Rattle.names_commands.specs.declared.command.Request.{Request}
+use Rattle.names_commands.specs.declared.command.Work.{Work}
+use Rattle.names_commands.specs.declared.command.Work.TheVariants.{Each, Picked, Why}
+use Rattle.names_commands.specs.declared.matching.Form.TheVariants as form
 use Rattle.names_commands.specs.declared.option.NamesOption.{NamesOption}
 use Rattle.names_commands.specs.declared.option.NamesOption.TheVariants as option
-use Rattle.names_commands.specs.declared.pick.Pick.{Pick}
+use Rattle.names_commands.specs.declared.task.Task.TheVariants.{ListAll, ListWords, Check, Join, JoinWords}
 use Rattle.names_commands.proofs.lemmas.Commands.{none_picked}
 
 head_is : {X : Type 0} {x y : X} {xs ys : List X} → x ∷ xs ≡ y ∷ ys → x ≡ y
@@ -30,74 +31,30 @@ tail_is e = cc
 not_nil : {X : Type 0} {x : X} {xs : List X} → [] ≡ x ∷ xs → ⊥
 not_nil e = cc
 
--- the first letter of a command's word, and the second of a platform's
-abbrev letter : Name → ℕ
-letter name.List = 108
-letter name.Filter = 102
-letter name.Why = 119
-letter name.Join = 106
-letter name.Check = 99
+-- a command is that of its word's first letter, and a platform that of the second
+abbrev name_at : ℕ → Name
+name_at letter = cond (nat_eq letter 108) name.List (cond (nat_eq letter 102) name.Filter (cond (nat_eq letter 119) name.Why (cond (nat_eq letter 106) name.Join name.Check)))
 
-letter_is : (c : Name) → letter c ≡ get_or (name_word c) 0 0
-letter_is name.List = refl
-letter_is name.Filter = refl
-letter_is name.Why = refl
-letter_is name.Join = refl
-letter_is name.Check = refl
-
-one_letter : (c d : Name) → letter c ≡ letter d → c ≡ d
-one_letter name.List name.List e = refl
-one_letter name.List name.Filter e = absurd (omega (arith, e))
-one_letter name.List name.Why e = absurd (omega (arith, e))
-one_letter name.List name.Join e = absurd (omega (arith, e))
-one_letter name.List name.Check e = absurd (omega (arith, e))
-one_letter name.Filter name.List e = absurd (omega (arith, e))
-one_letter name.Filter name.Filter e = refl
-one_letter name.Filter name.Why e = absurd (omega (arith, e))
-one_letter name.Filter name.Join e = absurd (omega (arith, e))
-one_letter name.Filter name.Check e = absurd (omega (arith, e))
-one_letter name.Why name.List e = absurd (omega (arith, e))
-one_letter name.Why name.Filter e = absurd (omega (arith, e))
-one_letter name.Why name.Why e = refl
-one_letter name.Why name.Join e = absurd (omega (arith, e))
-one_letter name.Why name.Check e = absurd (omega (arith, e))
-one_letter name.Join name.List e = absurd (omega (arith, e))
-one_letter name.Join name.Filter e = absurd (omega (arith, e))
-one_letter name.Join name.Why e = absurd (omega (arith, e))
-one_letter name.Join name.Join e = refl
-one_letter name.Join name.Check e = absurd (omega (arith, e))
-one_letter name.Check name.List e = absurd (omega (arith, e))
-one_letter name.Check name.Filter e = absurd (omega (arith, e))
-one_letter name.Check name.Why e = absurd (omega (arith, e))
-one_letter name.Check name.Join e = absurd (omega (arith, e))
-one_letter name.Check name.Check e = refl
+name_back : (c : Name) → name_at (get_or (name_word c) 0 0) ≡ c
+name_back name.List = refl
+name_back name.Filter = refl
+name_back name.Why = refl
+name_back name.Join = refl
+name_back name.Check = refl
 
 pub one_name : (c d : Name) → name_word c ≡ name_word d → c ≡ d
-one_name c d e = one_letter c d (letter_is c ∙ ap (λ word. get_or word 0 0) e ∙ sym (letter_is d))
+one_name c d e = sym (name_back c) ∙ ap (λ word. name_at (get_or word 0 0)) e ∙ name_back d
 
-abbrev second : Os → ℕ
-second Unix = 110
-second Windows = 105
-second Wasm = 97
+abbrev os_at : ℕ → Os
+os_at letter = cond (nat_eq letter 110) Unix (cond (nat_eq letter 105) Windows Wasm)
 
-second_is : (a : Os) → second a ≡ get_or (os_word a) 1 0
-second_is Unix = refl
-second_is Windows = refl
-second_is Wasm = refl
-
-one_second : (a b : Os) → second a ≡ second b → a ≡ b
-one_second Unix Unix e = refl
-one_second Unix Windows e = absurd (omega (arith, e))
-one_second Unix Wasm e = absurd (omega (arith, e))
-one_second Windows Unix e = absurd (omega (arith, e))
-one_second Windows Windows e = refl
-one_second Windows Wasm e = absurd (omega (arith, e))
-one_second Wasm Unix e = absurd (omega (arith, e))
-one_second Wasm Windows e = absurd (omega (arith, e))
-one_second Wasm Wasm e = refl
+os_back : (a : Os) → os_at (get_or (os_word a) 1 0) ≡ a
+os_back Unix = refl
+os_back Windows = refl
+os_back Wasm = refl
 
 pub one_os : (a b : Os) → os_word a ≡ os_word b → a ≡ b
-one_os a b e = one_second a b (second_is a ∙ ap (λ word. get_or word 1 0) e ∙ sym (second_is b))
+one_os a b e = sym (os_back a) ∙ ap (λ word. os_at (get_or word 1 0)) e ∙ os_back b
 
 -- operands are those of one command on one platform
 pub one_command : (given : Line) (c d : Name) (os other : Os) (more rest : List (List ℕ)) → HasOperands given c os more → HasOperands given d other rest → (c ≡ d) × ((os ≡ other) × (more ≡ rest))
@@ -130,11 +87,6 @@ all_fit command [] f it h = absurd h
 all_fit command (one ∷ given) f it (inl is) = one_fits command one f.0 it is
 all_fit command (one ∷ given) f it (inr h) = all_fit command given f.1 it h
 
-abbrev AtMostOne : List (List ℕ) → Type 0
-AtMostOne [] = Unit {0}
-AtMostOne (x ∷ []) = Unit {0}
-AtMostOne (x ∷ y ∷ more) = ⊥
-
 -- what is so where options and operands make up a command
 record IsMade (given : Line) : Type 0 where
   pub command : Name
@@ -147,22 +99,18 @@ record IsMade (given : Line) : Type 0 where
   pub states : command ≡ name.Why → HasOption option.Ignore given
   pub for_platform : (it : NamesOption) → HasOption it given → IsForPlatform os it
 
-few_words : (glob : Option (Bor (List ℕ))) → AtMostOne (glob_words glob)
-few_words None = tt
-few_words (Some glob) = tt
+few_picked : (given : Line) (os : Os) (more : List (List ℕ)) (picks : Bool) → Picks given os more picks → AtMostOne more
+few_picked given os more false n = subst AtMostOne (sym (none_picked given more n.0)) tt
+few_picked given os more true p = p.0
 
-few_picked : (given : Line) (os : Os) (more : List (List ℕ)) (pick : Option Pick) → IsMaybePick given os more pick → AtMostOne more
-few_picked given os more None n = subst AtMostOne (sym (none_picked given more n.0)) tt
-few_picked given os more (Some pick) p = subst AtMostOne (sym p.glob) (few_words pick.glob)
+ignores_of : (given : Line) (os : Os) (more : List (List ℕ)) (picks : Bool) → Picks given os more picks → HasOption option.Ignore given → TakesIgnore os
+ignores_of given os more false n h = absurd (n.0 (inr (inr (inl h))))
+ignores_of given os more true p h = p.1.1 h
 
-ignores_of : (given : Line) (os : Os) (more : List (List ℕ)) (pick : Option Pick) → IsMaybePick given os more pick → HasOption option.Ignore given → TakesIgnore os
-ignores_of given os more None n h = absurd (n.0 (inr (inr (inl h))))
-ignores_of given os more (Some pick) p h = p.ignores h
-
-needs_of : (given : Line) (os : Os) (more : List (List ℕ)) (pick : Option Pick) → IsMaybePick given os more pick → NeedsPick given name.List → SomePicked given more
-needs_of given os more None n (inl e) = cc
-needs_of given os more None n (inr h) = absurd (n.1 h)
-needs_of given os more (Some pick) p k = p.some
+needs_of : (given : Line) (os : Os) (more : List (List ℕ)) (picks : Bool) → Picks given os more picks → NeedsPick given name.List → SomePicked given more
+needs_of given os more false n (inl e) = cc
+needs_of given os more false n (inr h) = absurd (n.1 h)
+needs_of given os more true p k = p.1.0
 
 not_needed : (command : Name) (given : Line) → Fits command given → (command ≡ name.Filter → ⊥) → (TakesOption command option.Invert → ⊥) → NeedsPick given command → SomePicked given []
 not_needed command given f a b (inl e) = absurd (a e)
@@ -199,84 +147,64 @@ on_unix option.Name = tt
 on_unix option.Ignore = tt
 on_unix option.Invert = tt
 
+for_words : (os : Os) (given : Line) → os ≡ Unix → (it : NamesOption) → HasOption it given → IsForPlatform os it
+for_words os given unix it h = subst (λ o. IsForPlatform o it) (sym unix) (on_unix it)
+
+module _ (given : Line) (os : Os) where
+  -- `list`, whatever its form
+  lists : (picks : Bool) → Lists given os picks → ((it : NamesOption) → HasOption it given → IsForPlatform os it) → IsMade given
+  lists picks l fit = record {
+    command = name.List;
+    os = os;
+    more = l.0;
+    operands = l.1.0;
+    fits = l.1.1.0;
+    few = inl (tt, few_picked given os l.0 picks l.1.1.1);
+    needs = needs_of given os l.0 picks l.1.1.1;
+    states = λ e. cc;
+    for_platform = fit;
+  }
+
+  lists_plain : (picks : Bool) → Lists given os picks → NoWords given → IsMade given
+  lists_plain picks l none = lists picks l (plain os given none (ignores_of given os l.0 picks l.1.1.1))
+
+  -- a command that takes no pattern
+  bare : (command : Name) → HasOperands given command os [] → Fits command given → ¬ (TakesOption command option.Glob) → (command ≡ name.Filter → ⊥) → (TakesOption command option.Invert → ⊥) → (command ≡ name.Why → HasOption option.Ignore given) → ((it : NamesOption) → HasOption it given → IsForPlatform os it) → IsMade given
+  bare command operands fits no_glob no_filter no_invert states fit = record {
+    command = command;
+    os = os;
+    more = [];
+    operands = operands;
+    fits = fits;
+    few = inr (no_glob, refl);
+    needs = not_needed command given fits no_filter no_invert;
+    states = states;
+    for_platform = fit;
+  }
+
+  made_work : (work : Work) → MakesUpWork given os work → IsMade given
+  made_work (Each ListAll) m = lists_plain false m.0 m.1
+  made_work (Each (ListWords words)) m = lists false m.0 (for_words os given m.1.0)
+  made_work (Each Check) m = bare name.Check m.0 m.1 (λ t. t) (λ e. cc) (λ t. t) (λ e. cc) (plain os given (no_words name.Check given m.1 (λ t. t) (λ t. t)) (λ h. absurd (all_fit name.Check given m.1 option.Ignore h)))
+  made_work (Each (Join empty)) m = bare name.Join m.0 m.1.0 (λ t. t) (λ e. cc) (λ t. t) (λ e. cc) (plain os given m.1.1.0 (λ h. absurd (all_fit name.Join given m.1.0 option.Ignore h)))
+  made_work (Each JoinWords) m = bare name.Join m.0 m.1.0 (λ t. t) (λ e. cc) (λ t. t) (λ e. cc) (for_words os given m.1.1.0)
+  made_work (Picked form.Line) m = lists_plain true m.0 m.1
+  made_work (Picked (form.Word words)) m = lists true m.0 (for_words os given m.1.0)
+  made_work (Picked form.Name) m = record {
+    command = name.Filter;
+    os = os;
+    more = m.0;
+    operands = m.1.0;
+    fits = m.1.1.0;
+    few = inl (tt, m.1.1.1.0);
+    needs = λ k. m.1.1.1.1.0;
+    states = λ e. cc;
+    for_platform = plain os given (no_words name.Filter given m.1.1.0 (λ t. t) (λ t. t)) m.1.1.1.1.1;
+  }
+  made_work Why m = bare name.Why m.0 m.1.0 (λ t. t) (λ e. cc) (λ t. t) (λ e. m.1.1.0) (plain os given (no_words name.Why given m.1.0 (λ t. t) (λ t. t)) (λ h. m.1.1.1))
+
 made : (given : Line) (command : Command) → MakesUp given command → IsMade given
-made given (ListNames os pick) m = record {
-  command = name.List;
-  os = os;
-  more = m.0;
-  operands = m.1.0;
-  fits = m.1.1.0;
-  few = inl (tt, few_picked given os m.0 pick m.1.1.1.1);
-  needs = needs_of given os m.0 pick m.1.1.1.1;
-  states = λ e. cc;
-  for_platform = plain os given m.1.1.1.0 (ignores_of given os m.0 pick m.1.1.1.1);
-}
-made given (ListWords form pick) m = record {
-  command = name.List;
-  os = Unix;
-  more = m.0;
-  operands = m.1.0;
-  fits = m.1.1.0;
-  few = inl (tt, few_picked given Unix m.0 pick m.1.1.1.1);
-  needs = needs_of given Unix m.0 pick m.1.1.1.1;
-  states = λ e. cc;
-  for_platform = λ it h. on_unix it;
-}
-made given (Filter os pick) m = record {
-  command = name.Filter;
-  os = os;
-  more = m.0;
-  operands = m.1.0;
-  fits = m.1.1.0;
-  few = inl (tt, few_picked given os m.0 (Some pick) m.1.1.1);
-  needs = λ k. m.1.1.1.some;
-  states = λ e. cc;
-  for_platform = plain os given (no_words name.Filter given m.1.1.0 (λ t. t) (λ t. t)) m.1.1.1.ignores;
-}
-made given (Why os) m = record {
-  command = name.Why;
-  os = os;
-  more = [];
-  operands = m.0;
-  fits = m.1.0;
-  few = inr (λ t. t, refl);
-  needs = not_needed name.Why given m.1.0 (λ e. cc) (λ t. t);
-  states = λ e. m.1.1.0;
-  for_platform = plain os given (no_words name.Why given m.1.0 (λ t. t) (λ t. t)) (λ h. m.1.1.1);
-}
-made given (Join os empty) m = record {
-  command = name.Join;
-  os = os;
-  more = [];
-  operands = m.0;
-  fits = m.1.0;
-  few = inr (λ t. t, refl);
-  needs = not_needed name.Join given m.1.0 (λ e. cc) (λ t. t);
-  states = λ e. cc;
-  for_platform = plain os given m.1.1.0 (λ h. absurd (all_fit name.Join given m.1.0 option.Ignore h));
-}
-made given JoinWords m = record {
-  command = name.Join;
-  os = Unix;
-  more = [];
-  operands = m.0;
-  fits = m.1.0;
-  few = inr (λ t. t, refl);
-  needs = not_needed name.Join given m.1.0 (λ e. cc) (λ t. t);
-  states = λ e. cc;
-  for_platform = λ it h. on_unix it;
-}
-made given (Check os) m = record {
-  command = name.Check;
-  os = os;
-  more = [];
-  operands = m.0;
-  fits = m.1;
-  few = inr (λ t. t, refl);
-  needs = not_needed name.Check given m.1 (λ e. cc) (λ t. t);
-  states = λ e. cc;
-  for_platform = plain os given (no_words name.Check given m.1 (λ t. t) (λ t. t)) (λ h. absurd (all_fit name.Check given m.1 option.Ignore h));
-}
+made given (On os work) m = made_work given os work m
 made given Help m = absurd m
 made given Version m = absurd m
 
@@ -329,10 +257,10 @@ module _ (given : Line) (m : IsMade given) where
   not_wrong max limit (Misplaced word where_to) k = not_misplaced word.now where_to.now k
 
 -- what is wrong makes up no request, where no help and no version is requested
-pub no_request : (given : Line) → ¬ (HasOption option.Help given) → ¬ (HasOption option.Version given) → (wrong : misuse.Misuse) → IsMisuse given wrong → (request : Request) → ¬ (AsksFor given request)
-no_request given help version wrong k request (inl h) = help h.0
-no_request given help version wrong k request (inr h) = by h.1
+pub no_request : (given : Line) → ¬ (HasOption option.Help given) → ¬ (HasOption option.Version given) → (wrong : misuse.Misuse) → IsMisuse given wrong → (asked : Asked) → ¬ (AsksFor given asked)
+no_request given help version wrong k asked (inl h) = help h.0
+no_request given help version wrong k asked (inr h) = by h.1
   where
-    by : ((HasOption option.Version given × (request.command ≡ Version)) ⊎ ((¬ (HasOption option.Version given)) × (IsListed given request.list × MakesUp given request.command))) → ⊥
+    by : ((HasOption option.Version given × (asked.command ≡ Version)) ⊎ ((¬ (HasOption option.Version given)) × (IsListed given asked.list × (MakesUp given asked.command × StatesPicks given asked)))) → ⊥
     by (inl v) = version v.0
-    by (inr c) = not_wrong given (made given request.command c.1.1) c.1.0.0 c.1.0.1.0 wrong k
+    by (inr c) = not_wrong given (made given asked.command c.1.1.0) c.1.0.0 c.1.0.1.0 wrong k

@@ -31,7 +31,7 @@ use Rattle.program_frame.specs.declared.lists.program_fault.Fault.TheVariants.{L
 use Rattle.os_ignore.specs.declared.file.File.{File}
 use Rattle.program_frame.specs.Files.{KnownFiles}
 use Rattle.names_commands.specs.Ignoring.{IsIgnored}
-use Rattle.names_commands.specs.Matching.{picking, matching, AreWrittenOut, IsChosen, IsChosenBy, IsFirstFault, IsMatched, IsMatchedBy, IsPattern, IsPicked, IsTextOfPicked}
+use Rattle.names_commands.specs.Matching.{picking, AreWrittenOut, IsChosen, IsChosenBy, IsFirstFault, IsMatched, IsMatchedBy, IsPattern, IsPicked, IsTextOfPicked}
 use Rattle.names_commands.specs.Program.{Fault, RunsBut}
 
 module _ {E : Type 0} (p : Ghosts E) (form : Form) (list : ListOptions) (Picked Other : List ℕ → Type 0) (same : (name : List ℕ) → Picked name ↔ Other name) where
@@ -105,17 +105,6 @@ pub same_but : {E : Type 0} (known : KnownFiles) (A : Type 0) (p : Ghosts E) (fo
     → (names : List (List ℕ)) (input left old new : Option (List ℕ)) (answer : Result ⊤ Fault) → RunsBut known A p form list inverted Chosen names input left old new answer → RunsBut known A p form list inverted Other names input left old new answer
 same_but known A p form list inverted Chosen Other same names input left old new answer (inl fault) = inl fault
 same_but known A p form list inverted Chosen Other same names input left old new answer (inr k) = inr (k.0, k.1, same_runs p form list (IsPicked inverted Chosen k.0) (IsPicked inverted Other k.0) (picked_alike inverted Chosen Other k.0 same) OfList input left old new answer k.2)
-
--- a run is over the names that are picked by what is equal
-pub matching_runs : {E A : Type 0} (p : Ghosts E) (form its_form : Form) (list its_list : ListOptions) (inverted its_inverted : Bool) (globs its_globs : Option (Bor (GlobSet E A))) (files its_files : List (File A)) (input left old new : Option (List ℕ)) (answer : Result ⊤ Fault)
-    → its_form ≡ form → its_list ≡ list → its_inverted ≡ inverted → its_globs ≡ globs → its_files ≡ files
-    → Runs (matching p its_form its_list its_inverted its_globs its_files) OfList input left old new answer → Runs (matching p form list inverted globs files) OfList input left old new answer
-matching_runs p form its_form list its_list inverted its_inverted globs its_globs files its_files input left old new answer f n v g i run =
-    subst (λ z. Runs (matching p z list inverted globs files) OfList input left old new answer) f
-    (subst (λ z. Runs (matching p its_form z inverted globs files) OfList input left old new answer) n
-    (subst (λ z. Runs (matching p its_form its_list z globs files) OfList input left old new answer) v
-    (subst (λ z. Runs (matching p its_form its_list its_inverted z files) OfList input left old new answer) g
-    (subst (λ z. Runs (matching p its_form its_list its_inverted its_globs z) OfList input left old new answer) i run))))
 
 -- a name that is chosen is picked where the files don't ignore its text
 pub picked_shown : {A : Type 0} (Chosen : List ℕ → Type 0) (files its_files : List (File A)) (name text : List ℕ) (shown : Bool) → its_files ≡ files → text ≡ name → Chosen name

@@ -1,4 +1,4 @@
-use Rattle.std.proofs.Common.{◌+◌, ⊎_elim, inl, inr, map, string_bytes, ap, subst, ◌∙◌, arith}
+use Rattle.std.proofs.Common.{◌+◌, ⊎_elim, inl, inr, map, ap, subst, ◌∙◌, arith}
 use Rattle.os_str_bytes.specs.Strings.{bytes}
 use Rattle.glob_patterns.specs.GlobSets.{IsSetError}
 use Rattle.glob_patterns.specs.Letters.{letters_of}
@@ -12,7 +12,7 @@ use Rattle.names_commands.proofs.patterns.compiled.Goals as goal
 
 pub returns-in-Ok-new : goal.returns-in-Ok-new
 returns-in-Ok-new g c =
-    let texts = ap (map bytes) c.as_slice-globs.ensures.value ∙ c.in-Ok.ensures ∙ ap (map string_bytes) c.deref.ensures.value in
+    let texts = ap (map bytes) c.as_slice-globs.ensures.value ∙ c.in-Ok.ensures in
     let made = subst (λ o. IsSetOf g.E.Platform g.row.A.Denot o (map bytes c.as_slice-globs.result.now) c.in-Ok-new.set) c.options_of.ensures c.in-Ok-new.ensures in
     subst (λ texts. IsSetOf g.E.Platform g.row.A.Denot (options_of c.args.os) texts c.in-Ok-new.set) texts made
 
@@ -33,12 +33,21 @@ overflow_add-index g c =
     let within = is_within bytes globs error.before error.text error.after c.in-Err-Pattern.index error.joined error.index_is in
     omega (arith, within, c.as_slice-globs.ensures.len, c.in-Ok.strings.ok.1, c.in-Ok.strings.small)
 
+pub offset_bounds-globs-index : goal.offset_bounds-globs-index
+offset_bounds-globs-index g c =
+    let P = g.E.Platform in
+    let globs = c.as_slice-globs.result.now in
+    let made = subst (λ o. IsSetError P.well_formed (letters_of P.units) (glob.syntax_of o) g.row.A.Denot (map bytes globs) c.in-Err-Pattern.field-0) c.options_of.ensures c.in-Err-Pattern.ensures in
+    let error = subst (IsSetError P.well_formed (letters_of P.units) (glob.syntax_of (options_of c.args.os)) g.row.A.Denot (map bytes globs)) c.in-Err-Pattern.field-0-is made in
+    let within = is_within bytes globs error.before error.text error.after c.in-Err-Pattern.index error.joined error.index_is in
+    omega (arith, within, c.as_slice-globs.ensures.len, c.in-Ok.strings.ok.1, c.in-Ok.strings.small)
+
 pub returns-in-Err-Pattern : goal.returns-in-Err-Pattern
 returns-in-Err-Pattern g c =
     let P = g.E.Platform in
     let o = options_of c.args.os in
     let globs = c.as_slice-globs.result.now in
-    let texts = ap (map bytes) c.as_slice-globs.ensures.value ∙ c.in-Ok.ensures ∙ ap (map string_bytes) c.deref.ensures.value in
+    let texts = ap (map bytes) c.as_slice-globs.ensures.value ∙ c.in-Ok.ensures in
     let index = c.in-Err-Pattern.index in
     let fault = c.in-Err-Pattern.fault in
     let made = subst (λ o. IsSetError P.well_formed (letters_of P.units) (glob.syntax_of o) g.row.A.Denot (map bytes globs) c.in-Err-Pattern.field-0) c.options_of.ensures c.in-Err-Pattern.ensures in
@@ -50,5 +59,5 @@ returns-in-Err-Pattern g c =
     (λ of.
     let typed = subst (λ pattern. IsOfPattern c.added_before-added.result (index + 1) pattern fault why) text of in
     let shown = subst (λ added. IsOfPattern added (index + 1) first.text fault why) c.added_before-added.ensures typed in
-    inr (subst (λ texts. IsOfPatterns P o c.args.patterns.now.plain texts why) texts (index, fault, first, shown)))
+    inr (subst (λ texts. IsOfPatterns P o c.args.plain texts why) texts (index, fault, first, shown)))
     c.rejection.ensures

@@ -1,6 +1,4 @@
-use Rattle.std.proofs.Common.{◌≡◌, ◌⊎◌, Some, subst}
 use Rattle.program_frame.specs.Ended.{outcome_of}
-use Rattle.program_frame.specs.Marked.{marked_inner}
 use Rattle.test_command_uses.proofs.KnownIgnore.{program_written}
 use Rattle.test_command_uses.proofs.ignoring.left_out.Goals as goal
 

@@ -1,7 +1,6 @@
-use Rattle.std.proofs.Common.{⊎_elim, inr, ap}
 use Rattle.program_frame.specs.Ended.{outcome_of}
 use Rattle.program_frame.specs.Marked.{marked_inner}
-use Rattle.test_command_uses.proofs.KnownIgnore.{EndsUnread, end_of, status_unread}
+use Rattle.test_command_uses.proofs.KnownIgnore.{end_of, status_unread}
 use Rattle.test_command_uses.proofs.ignoring.unread.Goals as goal
 
 pub returns-clause-fault : goal.returns-clause-fault

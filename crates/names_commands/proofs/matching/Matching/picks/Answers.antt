@@ -2,7 +2,7 @@ use Rattle.os_ignore.specs.Ignores.{files_of}
 use Rattle.os_str_bytes.specs.Strings.{bytes}
 use Rattle.names_commands.specs.Matching.{IsChosenBy}
 use Rattle.names_commands.proofs.lemmas.Picked.{picked_turned}
-use Rattle.names_commands.proofs.matching.Picker.picks.Goals as goal
+use Rattle.names_commands.proofs.matching.Matching.picks.Goals as goal
 
 pub returns-in-Ok-clause-picks : goal.returns-in-Ok-clause-picks
 returns-in-Ok-clause-picks g c =

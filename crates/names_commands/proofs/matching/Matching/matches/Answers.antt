@@ -4,7 +4,7 @@ use Rattle.os_ignore.specs.Walks.{files_of_walk}
 use Rattle.os_str_bytes.specs.Strings.{bytes}
 use Rattle.names_commands.specs.Matching.{IsChosenBy}
 use Rattle.names_commands.proofs.lemmas.Picked.{picked_shown}
-use Rattle.names_commands.proofs.matching.Picker.matches.Goals as goal
+use Rattle.names_commands.proofs.matching.Matching.matches.Goals as goal
 
 pub returns-then-is_chosen-clause-matches : goal.returns-then-is_chosen-clause-matches
 returns-then-is_chosen-clause-matches g c =
