@@ -32,6 +32,9 @@ which is empty where the path has no such part. PLATFORM and TO are unix, window
 anywhere; -- ends them.
 
   --checked        join: for names from outside, as in an archive or a request
+  --lines          a newline ends each path that is read and each result, and not NUL; a path with a NUL, or a
+                   result with a newline, is rejected
+  --unterminated   the last path may lack its end
   --keep-going     pass over rejected paths: a line for each on standard error, and their number at the
                    end; the status is 1 then
   -h, --help       this text
