@@ -108,7 +108,12 @@ component_text style (Normal s) = s
 abbrev pub IsJoinedBelow : Base → List ℕ → List ℕ → Type 0
 IsJoinedBelow base path joined = IsCheckedJoin (base_style base) (base_path base) path joined × IsBelowBase (base_style base) (base_path base) joined
 
--- the result of the task: the requested part, and nothing where the path has none. Or a form of the path, the path after a base or as it is reached from one, or a path of another platform with its components
+-- how a path is reached, as it is written: `.` from itself
+abbrev pub way_text : List ℕ → List ℕ
+way_text [] = codes "."
+way_text (b ∷ way) = b ∷ way
+
+-- the result of the task: the requested part, and nothing where the path has none. Or a form of the path, the path after a base or how it is reached from one, or a path of another platform with its components
 abbrev pub IsAnswer : Style → Task → List ℕ → List ℕ → Type 0
 IsAnswer style Components path answer = ⊥
 IsAnswer style Parent path answer = IsParent style path answer ⊎ (HasNoParent style path × (answer ≡ []))
@@ -119,7 +124,7 @@ IsAnswer style Normalize path answer = IsNormalized style path answer
 IsAnswer style Clean path answer = IsCleaned style path answer
 IsAnswer style (Join base) path answer = IsJoin style base.now path answer
 IsAnswer style (JoinChecked base) path answer = IsJoinedBelow base path answer
-IsAnswer style (Relative base) path answer = IsRelativeFrom style path base.now (Some answer)
+IsAnswer style (Relative base) path answer = (way : List ℕ) × (IsRelativeFrom style path base.now (Some way) × (answer ≡ way_text way))
 IsAnswer style (Convert to) path answer = (strings to).well_formed answer × IsRestyled style (style_of to) path answer
 
 -- the index of the component that the error is about, if it is about one: a prefix or a root is the first

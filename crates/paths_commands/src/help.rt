@@ -22,8 +22,8 @@ paths clean      PLATFORM          as normalize, but such a .. stays, or goes at
 paths join       PLATFORM BASE     writes the path after BASE; one with a root or a prefix replaces BASE, and ..
                                    may leave it
 paths join --checked PLATFORM BASE writes the path below BASE, and rejects one that could leave it
-paths relative   PLATFORM BASE     writes the path as it is reached from BASE, and rejects one that no path
-                                   leads to
+paths relative   PLATFORM BASE     writes the path as it is reached from BASE, which is . for BASE itself, and
+                                   rejects one that no path leads to
 paths convert    PLATFORM TO       writes the path of the platform TO with the same components, and rejects one
                                    with a component that TO can't have
 

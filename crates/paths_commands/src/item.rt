@@ -15,7 +15,7 @@ ghost use Rattle.program_frame.specs.ListOptions.{byte_of};
 ghost use Rattle.program_frame.specs.Rules.{IsItemFault};
 ghost use Rattle.program_frame.specs.Strings.{strings};
 ghost use Rattle.paths_commands.specs.Styles.{style_of};
-ghost use Rattle.paths_commands.specs.Task.{component_of, rules_of, IsText, IsPathText, IsComponentsText, IsJoinedBelow, IsMade, IsReasonOf, IsRefusal, IsUnanswered, IsUnconverted, IsUnjoined};
+ghost use Rattle.paths_commands.specs.Task.{component_of, rules_of, IsText, IsPathText, IsComponentsText, IsJoinedBelow, IsMade, IsReasonOf, IsRefusal, IsUnanswered, IsUnconverted, IsUnjoined, way_text};
 ghost use Rattle.platform_str.specs.Strings.{path_bytes};
 
 use crate::answers::{parent, part};
@@ -275,7 +275,7 @@ fn component_of(error: NameError) -> Option<usize>
     }
 }
 
-/// Appends a path as it is reached from a base.
+/// Appends a path as it is reached from a base, and `.` for the base itself.
 fn write_relative<E: PathStyle, A: Allocator + Copy>(
     alloc: A,
     base: &str,
@@ -284,15 +284,25 @@ fn write_relative<E: PathStyle, A: Allocator + Copy>(
 ) -> Result<(), ItemFault<Refusal>>
     ensures ok { OnOk result ((way : List ℕ)
         × (IsRelativeFrom E.follows (path_bytes path.entry) base.now (Some way)
-        × (output.new.items ≡ output.old.items ++ way))) }
+        × (output.new.items ≡ output.old.items ++ way_text way))) }
     ensures fault { IfErr result (λ fault. (fault ≡ Memory) ⊎ ((fault ≡ Refused NoRelativePath)
         × IsRelativeFrom E.follows (path_bytes path.entry) base.now None)) }
     ensures unchanged { OnErr result (output.new.items ≡ output.old.items) }
 {
     match path.relative_from(alloc, Path::new(OsStr::new(base))) {
-        Ok(Some(way)) => write_answer(way.as_os_str().as_encoded_bytes(), output),
+        Ok(Some(way)) => write_answer(way_text(way.as_os_str().as_encoded_bytes()), output),
         Ok(None) => Err(ItemFault::Refused(Refusal::NoRelativePath)),
         Err(_) => Err(ItemFault::Memory),
+    }
+}
+
+/// How a path is reached, as it is written: `.` from itself.
+fn way_text<'a>(way: &'a [u8]) -> &'a [u8]
+    ensures { result.now ≡ way_text way.now }
+{
+    match way {
+        [] => b".",
+        _ => way,
     }
 }
 

@@ -36,8 +36,8 @@ pub enum Task<'a> {
     /// The path below this base, as typed-path's `join_checked`. One that could leave the base is
     /// rejected.
     JoinChecked(Base<'a>),
-    /// The path as it is reached from this base, as the crate pathdiff's `diff_paths`. One that no
-    /// path leads to is rejected.
+    /// The path as it is reached from this base, as the crate pathdiff's `diff_paths`, and `.` for the
+    /// base itself. One that no path leads to is rejected.
     Relative(&'a str),
     /// The path of this platform with the same components. One with a component that the platform's
     /// paths can't have is rejected.

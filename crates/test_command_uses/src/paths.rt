@@ -22,7 +22,7 @@ ghost use Rattle.program_frame.specs.declared.misuse.Misuse.{Misuse as DeclaredM
 ghost use Rattle.program_frame.specs.declared.lists.fault.ListFault.TheVariants.{Refused, Run};
 ghost use Rattle.paths_commands.specs.Command.{AsksFor, IsMisuse, RequestsNothing, longest_path};
 ghost use Rattle.paths_commands.specs.Styles.{style_of};
-ghost use Rattle.paths_commands.specs.Task.{component_of, rules_of, IsAnswer, IsComponentsText, IsShownOf};
+ghost use Rattle.paths_commands.specs.Task.{component_of, rules_of, IsAnswer, IsComponentsText, IsShownOf, way_text};
 ghost use Rattle.paths_commands.specs.declared.command.Command.{Command as DeclaredCommand};
 ghost use Rattle.paths_commands.specs.declared.fault.Refusal.TheVariants.{NoJoin, NoJoinAt, NoString};
 ghost use Rattle.paths_commands.specs.declared.option.PathsOption.TheVariants.{Lines, Unterminated};
@@ -247,9 +247,9 @@ pub fn from_base<E: PathStyle, A: Allocator, W: Write>(
     requires some { path.now ≢ [] }
     requires unmarked { has_failed writer.old ≡ false }
     ensures { OnOk result ((way : List ℕ) × (IsRelativeFrom E.follows path.now base.now (Some way)
-        × (Lacks 0 way
+        × (Lacks 0 (way_text way)
         × Appends (W.contents (marked_inner writer.old)) (W.contents (marked_inner writer.new))
-        (way ++ 0 ∷ [])))) }
+        (way_text way ++ 0 ∷ [])))) }
 {
     answered::<E, A, W>(alloc, ItemEnd::Nul, Task::Relative(base), path, writer)
 }

@@ -5,7 +5,7 @@ use Rattle.path_rules.specs.Parent.{HasFileName, HasNoFileName}
 use Rattle.path_rules.specs.declared.rules.Style.{Style}
 use Rattle.os_path.specs.Names.{HasFileStem, HasExtension, LacksExtension}
 use Rattle.platform_str.specs.Strings.{bytes, path_bytes}
-use Rattle.paths_commands.specs.Task.{IsAnswer, IsMade}
+use Rattle.paths_commands.specs.Task.{IsAnswer, IsMade, way_text}
 use Rattle.paths_commands.specs.declared.fault.Refusal.TheVariants.{NoNormalForm, NoRelativePath}
 use Rattle.paths_commands.specs.declared.task.Task.{Task}
 use Rattle.paths_commands.proofs.lemmas.Answers.{part_or_nothing}
@@ -140,7 +140,8 @@ returns-in-Relative g c =
     let path = path_bytes c.args.path in
     let S = g.E.PathStyle.follows in
     let call = c.write_relative in record {
-      ok = made g.E.Platform S c.args.task _ path c.in-Relative.is call.result _ _ call.ensures.ok;
+      ok = made g.E.Platform S c.args.task _ path c.in-Relative.is call.result _ _
+          (on_ok_weaker call.result (λ way. (way_text way.0, ((way.0, (way.1.0, refl)), way.1.1))) call.ensures.ok);
       fault = IfErr-weaker call.result _ _
           (λ fault. ⊎_elim (λ memory. inl memory)
           (λ none. inr (NoRelativePath, (none.0, (_, (c.in-Relative.is, none.1))))))
