@@ -1,5 +1,6 @@
 pub mod After
 pub mod Answers
+pub mod Ended
 pub mod Lines
 pub mod NeverBoth
 pub mod Platforms

@@ -4,6 +4,7 @@ use Rattle.os_args.specs.Reading.{UnexpectedArgument}
 use Rattle.os_args.specs.Views.{fault_of}
 use Rattle.os_args.specs.Word.{Value}
 use Rattle.program_frame.specs.Arguments.{AreGiven, HasOption, operands_of}
+use Rattle.program_frame.specs.ListOptions.{AreStated}
 use Rattle.program_frame.specs.Os.{os_word}
 use Rattle.program_frame.specs.declared.arguments.Given.{Given}
 use Rattle.program_frame.specs.declared.misuse.Misuse.{Misuse}
@@ -123,14 +124,19 @@ IsMisuse given (Missing what) = IsMissing given what.now
 IsMisuse given (Invalid what word) = IsInvalid given what.now word.now
 IsMisuse given (Misplaced word where_to) = IsMisplaced given word.now where_to.now
 
--- these request the command: help, at any position; the version; or a task. The operands are then the task's name, a platform and what the task needs
+-- how many bytes a path may have
+abbrev pub longest_path : ℕ
+longest_path = 1048576
+
+-- these request the command: help, at any position; the version; or a task. The operands are then the task's name, a platform and what the task needs, and options state how the list of paths is written
 abbrev pub AsksFor : Line → Command → Type 0
-AsksFor given (Ask task os keeps_going) =
+AsksFor given (Ask task os list keeps_going) =
     IsOfPaths given
     × (HasOperands given (name_of task) os (operands_of_task task)
     × ((IsChecked task ↔ HasOption option.Checked given)
     × (HasStyle (style_of os) task
-    × ((keeps_going ≡ true) ↔ HasOption option.KeepGoing given))))
+    × (((keeps_going ≡ true) ↔ HasOption option.KeepGoing given)
+    × AreStated option.Lines option.Unterminated longest_path given list))))
 AsksFor given Help = HasOption option.Help given
 AsksFor given Version = (¬ (HasOption option.Help given)) × HasOption option.Version given
 
@@ -141,7 +147,3 @@ RequestsNothing given = (command : Command) → ¬ (AsksFor given command)
 -- the arguments are no options and operands that request a command
 abbrev pub RequestNothing : List (List ℕ) → Type 0
 RequestNothing words = (given : Line) → AreGiven spelled has_value words given → RequestsNothing given
-
--- how many bytes a path may have
-abbrev pub longest_path : ℕ
-longest_path = 1048576

@@ -7,10 +7,12 @@ use Rattle.path_building.specs.ErrorText.{name_error_text}
 use Rattle.path_building.specs.declared.walk.NameError.{NameError}
 use Rattle.path_building.specs.declared.walk.NameError.TheVariants as name
 use Rattle.paths_commands.specs.declared.fault.Refusal.{Refusal}
-use Rattle.paths_commands.specs.declared.fault.Refusal.TheVariants.{NoString, NoNormalForm, NoRelativePath, NoJoin, NoJoinAt, NoComponent, NoStringThere}
+use Rattle.paths_commands.specs.declared.fault.Refusal.TheVariants.{NoString, NoNormalForm, NoRelativePath, NoJoin, NoJoinAt, NoComponent, NoStringThere, HasNul, ResultHas}
 use Rattle.paths_commands.specs.declared.fault.CommandFault.{CommandFault}
 use Rattle.paths_commands.specs.declared.fault.CommandFault.TheVariants.{Unreadable, Misuse, PassedOver}
 use Rattle.program_frame.specs.Misuse.{misuse_text}
+use Rattle.program_frame.specs.declared.lists.options.ItemEnd.{ItemEnd}
+use Rattle.program_frame.specs.declared.lists.options.ItemEnd.TheVariants.{Nul, Newline}
 use Rattle.program_frame.specs.declared.misuse.Misuse as misuse
 
 -- a comma and a text between quotes
@@ -43,6 +45,11 @@ from_one name.Memory = name.Memory
 abbrev pub at_fault_text : NameError → List ℕ → List ℕ
 at_fault_text error text = name_error_text (from_one error) ++ quoted text
 
+-- of a result with this byte, which would end it
+abbrev pub result_text : ItemEnd → List ℕ
+result_text Nul = codes "the result has a NUL"
+result_text Newline = codes "the result has a newline"
+
 -- what the program prints of the reason why a path is rejected
 abbrev pub refusal_text : Refusal → List ℕ
 refusal_text (NoString error) = fault_text error
@@ -52,6 +59,8 @@ refusal_text (NoJoin error) = name_error_text error
 refusal_text (NoJoinAt error text) = at_fault_text error (inline_text text)
 refusal_text (NoComponent index text) = unlike_text index (inline_text text)
 refusal_text (NoStringThere error) = codes "no path there: " ++ fault_text error
+refusal_text HasNul = codes "the path has a NUL"
+refusal_text (ResultHas end) = result_text end
 
 -- what the program prints of why it ends, beside faults of lists
 abbrev pub words_text : CommandFault → List ℕ

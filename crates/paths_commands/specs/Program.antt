@@ -13,12 +13,13 @@ use Rattle.program_frame.specs.Strings.{strings}
 use Rattle.program_frame.specs.Written.{WritesText}
 use Rattle.program_frame.specs.declared.fault.Failure.TheVariants.{Memory, Write}
 use Rattle.program_frame.specs.declared.lists.fault.ListFault.TheVariants.{Run}
+use Rattle.program_frame.specs.declared.lists.options.ListOptions.{ListOptions}
 use Rattle.program_frame.specs.declared.lists.program_fault.Fault as program_fault
 use Rattle.program_frame.specs.declared.lists.program_fault.Fault.TheVariants.{List as OfList, Words}
 use Rattle.program_frame.specs.declared.misuse.Misuse as misuse
 use Rattle.program_frame.specs.declared.misuse.Misuse.TheVariants.{Argument}
 use Rattle.program_frame.specs.declared.os.Os.{Os}
-use Rattle.paths_commands.specs.Command.{AsksFor, IsMisuse, Line, RequestNothing, RequestsNothing, longest_path}
+use Rattle.paths_commands.specs.Command.{AsksFor, IsMisuse, Line, RequestNothing, RequestsNothing}
 use Rattle.paths_commands.specs.Fault.{IsOfMisuse}
 use Rattle.paths_commands.specs.Options.{has_value, spelled}
 use Rattle.paths_commands.specs.Styles.{style_of}
@@ -42,9 +43,9 @@ Doing = Option (List ℕ) → Option (List ℕ) → Option (List ℕ) → Option
 abbrev pub EndsAtOnce : Fault → Doing
 EndsAtOnce fault input left old new answer = (answer ≡ Err fault) × ((left ≡ input) × (new ≡ old))
 
--- what is done with each path of the platform
-abbrev pub rules_on : Os → Task → ListRules Refusal
-rules_on os task = rules_of (strings os) (style_of os) task longest_path
+-- what is done with each path of the platform, in a list that is written so
+abbrev pub rules_on : Os → Task → ListOptions → ListRules Refusal
+rules_on os task list = rules_of (strings os) (style_of os) task list
 
 -- the result of a run that passed over this number of paths: if it passed over some, that is its fault
 abbrev pub IsAfter : ℕ → Result ⊤ Fault → Result ⊤ Fault → Type 0
@@ -63,14 +64,14 @@ pub record RunsPast (list : ListRules Refusal) (input left old new : Option (Lis
 abbrev pub WritesSomeText : Doing
 WritesSomeText input left old new answer = (left ≡ input) × ((text : List ℕ) × WritesText text (OfList (Run Write)) old new answer)
 
--- the task's result for a list of paths of the platform, where those that are rejected may be passed over
-abbrev pub RunsTask : Bool → Os → Task → Doing
-RunsTask false os task input left old new answer = Runs (rules_on os task) OfList input left old new answer
-RunsTask true os task input left old new answer = RunsPast (rules_on os task) input left old new answer
+-- the task's result for a list of paths of the platform that is written so, where those that are rejected may be passed over
+abbrev pub RunsTask : Bool → Os → Task → ListOptions → Doing
+RunsTask false os task list input left old new answer = Runs (rules_on os task list) OfList input left old new answer
+RunsTask true os task list input left old new answer = RunsPast (rules_on os task list) input left old new answer
 
 -- what the command does
 abbrev pub Does : Command → Doing
-Does (Ask task os keeps_going) input left old new answer = RunsTask keeps_going os task input left old new answer
+Does (Ask task os list keeps_going) input left old new answer = RunsTask keeps_going os task list input left old new answer
 Does Help input left old new answer = WritesSomeText input left old new answer
 Does Version input left old new answer = WritesSomeText input left old new answer
 

@@ -1,4 +1,4 @@
--- What each task requests of a path, and with which faults a path is rejected.
+-- What each task requests of a path, and with which faults a path is rejected. No file's path has a NUL (POSIX, "Definitions", Pathname).
 use Rattle.std.specs.Prelude.{◌≡◌, ◌≢◌, ◌⊎◌, ℕ, ◌≤◌, List, [], ◌∷◌, ◌++◌, codes, length, Option, Some, None}
 use Rattle.std.specs.Fmt.Cut.{IsTextOrCut}
 use Rattle.std.specs.Fmt.InlineText.{inline_text}
@@ -25,8 +25,12 @@ use Rattle.path_rules.specs.StyleRules.{main_separator}
 use Rattle.os_path.specs.Names.{HasFileStem, HasExtension, LacksExtension}
 use Rattle.os_path.specs.Converted.{IsConvertFault}
 use Rattle.os_path.specs.declared.styles.ConvertError.TheVariants as convert
+use Rattle.program_frame.specs.Items.{Lacks}
+use Rattle.program_frame.specs.ListOptions.{MayLack, byte_of}
 use Rattle.program_frame.specs.Os.{os_word}
 use Rattle.program_frame.specs.Strings.{strings}
+use Rattle.program_frame.specs.declared.lists.options.ItemEnd.{ItemEnd}
+use Rattle.program_frame.specs.declared.lists.options.ListOptions.{ListOptions}
 use Rattle.program_frame.specs.declared.os.Os.{Os}
 use Rattle.program_frame.specs.Rules.{ListRules}
 use Rattle.paths_commands.specs.Styles.{style_of}
@@ -104,7 +108,12 @@ component_text style (Normal s) = s
 abbrev pub IsJoinedBelow : Base → List ℕ → List ℕ → Type 0
 IsJoinedBelow base path joined = IsCheckedJoin (base_style base) (base_path base) path joined × IsBelowBase (base_style base) (base_path base) joined
 
--- the result of the task: the requested part, and nothing where the path has none. Or a form of the path, the path after a base or as it is reached from one, or a path of another platform with its components
+-- how a path is reached, as it is written: `.` from itself
+abbrev pub way_text : List ℕ → List ℕ
+way_text [] = codes "."
+way_text (b ∷ way) = b ∷ way
+
+-- the result of the task: the requested part, and nothing where the path has none. Or a form of the path, the path after a base or how it is reached from one, or a path of another platform with its components
 abbrev pub IsAnswer : Style → Task → List ℕ → List ℕ → Type 0
 IsAnswer style Components path answer = ⊥
 IsAnswer style Parent path answer = IsParent style path answer ⊎ (HasNoParent style path × (answer ≡ []))
@@ -115,7 +124,7 @@ IsAnswer style Normalize path answer = IsNormalized style path answer
 IsAnswer style Clean path answer = IsCleaned style path answer
 IsAnswer style (Join base) path answer = IsJoin style base.now path answer
 IsAnswer style (JoinChecked base) path answer = IsJoinedBelow base path answer
-IsAnswer style (Relative base) path answer = IsRelativeFrom style path base.now (Some answer)
+IsAnswer style (Relative base) path answer = (way : List ℕ) × (IsRelativeFrom style path base.now (Some way) × (answer ≡ way_text way))
 IsAnswer style (Convert to) path answer = (strings to).well_formed answer × IsRestyled style (style_of to) path answer
 
 -- the index of the component that the error is about, if it is about one: a prefix or a root is the first
@@ -147,17 +156,21 @@ module _ {E : Type 0} (p : Ghosts E) (style : Style) where
     pub each : AreLines items lines
     pub text_is : text ≡ lines ++ 0x0A ∷ []
 
-  -- a result with NUL
-  abbrev pub IsAnswered : Task → List ℕ → List ℕ → Type 0
-  IsAnswered task path text = (answer : List ℕ) × (IsAnswer style task path answer × (text ≡ answer ++ 0 ∷ []))
+  -- what is made of a path: its components on lines, or the result
+  abbrev pub IsMade : Task → List ℕ → List ℕ → Type 0
+  IsMade task path made = ((task ≡ Components) × IsComponentsText path made) ⊎ IsAnswer style task path made
 
-  -- what is written for a path: its components on lines, or a result with NUL
-  abbrev pub IsPathText : Task → List ℕ → List ℕ → Type 0
-  IsPathText task path text = ((task ≡ Components) × IsComponentsText path text) ⊎ IsAnswered task path text
+  -- a result without the byte that ends it, and that byte
+  abbrev pub IsAnswered : ItemEnd → Task → List ℕ → List ℕ → Type 0
+  IsAnswered end task path text = (answer : List ℕ) × (IsAnswer style task path answer × (Lacks (byte_of end) answer × (text ≡ answer ++ byte_of end ∷ [])))
 
-  -- the same, of a path that is a string of the platform
-  abbrev pub IsText : Task → List ℕ → List ℕ → Type 0
-  IsText task path text = p.well_formed path × IsPathText task path text
+  -- what is written for a path: its components on lines, or a result with its end
+  abbrev pub IsPathText : ItemEnd → Task → List ℕ → List ℕ → Type 0
+  IsPathText end task path text = ((task ≡ Components) × IsComponentsText path text) ⊎ IsAnswered end task path text
+
+  -- the same, of a path that is a string of the platform without a NUL
+  abbrev pub IsText : ItemEnd → Task → List ℕ → List ℕ → Type 0
+  IsText end task path text = p.well_formed path × (Lacks 0 path × IsPathText end task path text)
 
   -- what is shown of the component at this index: its escape, which is cut if it is longer than 200 bytes
   abbrev pub IsShown : List Item → ℕ → List ℕ → Type 0
@@ -178,6 +191,8 @@ module _ {E : Type 0} (p : Ghosts E) (style : Style) where
   IsReasonOf path error (refusal.NoJoinAt other text) = (other ≡ error) × ((index : ℕ) × ((component_of error ≡ Some index) × IsShownOf path index (inline_text text)))
   IsReasonOf path error (refusal.NoComponent index text) = ⊥
   IsReasonOf path error (refusal.NoStringThere other) = ⊥
+  IsReasonOf path error refusal.HasNul = ⊥
+  IsReasonOf path error (refusal.ResultHas end) = ⊥
 
   -- why a path isn't joined to the base, other than that an allocation failed
   abbrev pub IsUnjoined : Base → List ℕ → Refusal → Type 0
@@ -192,6 +207,8 @@ module _ {E : Type 0} (p : Ghosts E) (style : Style) where
   IsUnconverted to is_fault path (refusal.NoJoinAt error text) = ⊥
   IsUnconverted to is_fault path (refusal.NoComponent index text) = IsConvertFault style to is_fault path (convert.Component index) × IsShownOf path index (inline_text text)
   IsUnconverted to is_fault path (refusal.NoStringThere error) = IsConvertFault style to is_fault path (convert.Encoding error)
+  IsUnconverted to is_fault path refusal.HasNul = ⊥
+  IsUnconverted to is_fault path (refusal.ResultHas end) = ⊥
 
   -- why there is no result for a string of the platform
   abbrev pub IsUnanswered : Task → List ℕ → Refusal → Type 0
@@ -202,25 +219,33 @@ module _ {E : Type 0} (p : Ghosts E) (style : Style) where
   IsUnanswered task path (refusal.NoJoinAt error text) = (base : Base) × ((task ≡ JoinChecked base) × IsUnjoined base path (refusal.NoJoinAt error text))
   IsUnanswered task path (refusal.NoComponent index text) = (to : Os) × ((task ≡ Convert to) × IsUnconverted (style_of to) (strings to).first_fault path (refusal.NoComponent index text))
   IsUnanswered task path (refusal.NoStringThere error) = (to : Os) × ((task ≡ Convert to) × IsUnconverted (style_of to) (strings to).first_fault path (refusal.NoStringThere error))
+  IsUnanswered task path refusal.HasNul = ⊥
+  IsUnanswered task path (refusal.ResultHas end) = ⊥
 
-  -- why a path is rejected: the first fault of bytes that aren't a string, or why there is no result
-  abbrev pub IsRefusal : Task → List ℕ → Refusal → Type 0
-  IsRefusal task path (refusal.NoString error) = p.first_fault path error
-  IsRefusal task path refusal.NoNormalForm = IsUnanswered task path refusal.NoNormalForm
-  IsRefusal task path refusal.NoRelativePath = IsUnanswered task path refusal.NoRelativePath
-  IsRefusal task path (refusal.NoJoin error) = IsUnanswered task path (refusal.NoJoin error)
-  IsRefusal task path (refusal.NoJoinAt error text) = IsUnanswered task path (refusal.NoJoinAt error text)
-  IsRefusal task path (refusal.NoComponent index text) = IsUnanswered task path (refusal.NoComponent index text)
-  IsRefusal task path (refusal.NoStringThere error) = IsUnanswered task path (refusal.NoStringThere error)
+  -- the path has a result with the byte that would end it
+  abbrev pub IsCutShort : ItemEnd → Task → List ℕ → Type 0
+  IsCutShort end task path = (answer : List ℕ) × (IsAnswer style task path answer × (¬ (Lacks (byte_of end) answer)))
 
-  -- what is done with each path of at most `max` bytes. A NUL ends each path, the last one too
-  abbrev pub rules_of : Task → ℕ → ListRules Refusal
-  rules_of task max = record {
-    end = 0;
-    takes_unended = ⊥;
-    max = max;
-    longest = max;
-    is_text = IsText task;
-    refuses = IsRefusal task;
+  -- why a path is rejected: the first fault of bytes that aren't a string, a NUL, why there is no result, or that the result has its end
+  abbrev pub IsRefusal : ItemEnd → Task → List ℕ → Refusal → Type 0
+  IsRefusal end task path (refusal.NoString error) = p.first_fault path error
+  IsRefusal end task path refusal.NoNormalForm = IsUnanswered task path refusal.NoNormalForm
+  IsRefusal end task path refusal.NoRelativePath = IsUnanswered task path refusal.NoRelativePath
+  IsRefusal end task path (refusal.NoJoin error) = IsUnanswered task path (refusal.NoJoin error)
+  IsRefusal end task path (refusal.NoJoinAt error text) = IsUnanswered task path (refusal.NoJoinAt error text)
+  IsRefusal end task path (refusal.NoComponent index text) = IsUnanswered task path (refusal.NoComponent index text)
+  IsRefusal end task path (refusal.NoStringThere error) = IsUnanswered task path (refusal.NoStringThere error)
+  IsRefusal end task path refusal.HasNul = ¬ (Lacks 0 path)
+  IsRefusal end task path (refusal.ResultHas byte) = (byte ≡ end) × IsCutShort end task path
+
+  -- what is done with each path of a list that is written so
+  abbrev pub rules_of : Task → ListOptions → ListRules Refusal
+  rules_of task list = record {
+    end = byte_of list.end;
+    takes_unended = MayLack list.last;
+    max = list.max;
+    longest = list.max;
+    is_text = IsText list.end task;
+    refuses = IsRefusal list.end task;
     is_of_long = λ path. ⊥;
   }

@@ -1,12 +1,13 @@
 //! Commands, and the options and operands that make them up.
 ghost use Rattle.std.specs.Prelude.{◌≡◌, ◌≢◌, ◌↔◌, ◌∷◌, [], true, false, IfErr, IfOk, MatchOption, OnErr};
 ghost use Rattle.program_frame.specs.Arguments.{HasOption, operands_of};
-ghost use Rattle.paths_commands.specs.Command.{AsksFor, HasOperands, HasStyle, base_word, IsMisuse, IsOfPaths, IsSurplus, IsTaskOf, RequestsNothing};
+ghost use Rattle.program_frame.specs.ListOptions.{AreStated};
+ghost use Rattle.paths_commands.specs.Command.{AsksFor, HasOperands, HasStyle, base_word, IsMisuse, IsOfPaths, IsSurplus, IsTaskOf, RequestsNothing, longest_path};
 ghost use Rattle.paths_commands.specs.Styles.{style_of};
 ghost use Rattle.paths_commands.specs.Task.{IsChecked, name_of, name_word, operands_of_task};
 ghost use Rattle.paths_commands.specs.declared.command.Name.{Name as DeclaredName};
 ghost use Rattle.paths_commands.specs.declared.command.Name.TheVariants.{Join as JoinName};
-ghost use Rattle.paths_commands.specs.declared.option.PathsOption.TheVariants.{Checked};
+ghost use Rattle.paths_commands.specs.declared.option.PathsOption.TheVariants.{Checked, Lines, Unterminated};
 
 use crate::option::PathsOption;
 use crate::task::Task;
@@ -15,8 +16,12 @@ use os_path::Style;
 use os_str_bytes::OsStr;
 use path_building::{Base, BaseError};
 use program_frame::arguments::{Given, has, next_operand};
+use program_frame::lists::options::ListOptions;
 use program_frame::misuse::Misuse;
 use program_frame::os::Os;
+
+/// How many bytes a path may have.
+const LONGEST_PATH: usize = 0x10_0000;
 
 /// Options and operands, as they were given.
 pub type Line<'s, 'a> = &'s [Given<'a, PathsOption>];
@@ -24,9 +29,9 @@ pub type Line<'s, 'a> = &'s [Given<'a, PathsOption>];
 /// What the program does.
 #[derive(Clone, Copy)]
 pub enum Command<'a> {
-    /// Reads paths of the platform, each ended by NUL, and writes the result for each. The last
-    /// field is whether rejected paths are passed over.
-    Ask(Task<'a>, Os, bool),
+    /// Reads paths of the platform, from a list that is written so, and writes the result for each.
+    /// The last field is whether rejected paths are passed over.
+    Ask(Task<'a>, Os, ListOptions, bool),
     /// `--help`: writes what the commands are.
     Help,
     /// `--version`: writes the version.
@@ -38,7 +43,8 @@ impl<'a> Command<'a> {
     ///
     /// `--help` and `--version` are commands wherever they stand. Otherwise the operands are a
     /// command, a platform and, for `join`, `relative` and `convert`, one more. Options stand
-    /// anywhere: `--keep-going`, and `--checked` for `join`.
+    /// anywhere: `--keep-going`, `--lines`, `--unterminated`, and `--checked` for `join`. Without
+    /// `--lines` a NUL ends each path, and without `--unterminated` the last path has its end, too.
     ///
     /// # Errors
     ///
@@ -51,12 +57,15 @@ impl<'a> Command<'a> {
     /// use paths_commands::option::PathsOption;
     /// use paths_commands::task::Task;
     /// use program_frame::arguments::Given;
+    /// use program_frame::lists::options::ListOptions;
     /// use program_frame::os::Os;
     ///
     /// let going = Given::Flag(PathsOption::KeepGoing);
     /// let given = [Given::Operand("parent"), going, Given::Operand("unix")];
     /// let Ok(command) = Command::parse(&given) else { return Ok(()) };
-    /// assert!(rt; matches!(command, Command::Ask(Task::Parent, Os::Unix, true)));
+    /// let Command::Ask(task, os, list, true) = command else { return Ok(()) };
+    /// assert!(rt; matches!(task, Task::Parent) && os == Os::Unix);
+    /// assert!(rt; list == ListOptions::new(1_048_576));
     /// let Err(error) = Command::parse(&given[..1]) else { return Ok(()) };
     /// let text = "missing platform (unix, windows or wasm)";
     /// assert_eq!(rt; format!(in alloc; "{error}")?.as_str(), text);
@@ -100,9 +109,20 @@ fn question<'a>(given: Line<'_, 'a>) -> Result<Command<'a>, Misuse<'a>>
         return Err(Misuse::Invalid("platform", platform));
     };
     match task_of(given, name, os, more) {
-        Ok(task) => Ok(Command::Ask(task, os, has(given, PathsOption::KeepGoing))),
+        Ok(task) => {
+            let keeps_going = has(given, PathsOption::KeepGoing);
+            Ok(Command::Ask(task, os, listed(given), keeps_going))
+        }
         Err(misuse) => Err(misuse),
     }
+}
+
+/// How the list of paths is written.
+fn listed(given: Line<'_, '_>) -> ListOptions
+    ensures { AreStated Lines Unterminated longest_path given.entry.now result }
+{
+    let (lines, unterminated) = (PathsOption::Lines, PathsOption::Unterminated);
+    ListOptions::stated(given, lines, unterminated, LONGEST_PATH)
 }
 
 /// The name of a task.

@@ -2,11 +2,12 @@
 ghost use Rattle.std.specs.Prelude.{◌≡◌};
 ghost use Rattle.std.specs.Fmt.{WritesStyledOnOk};
 ghost use Rattle.std.specs.Fmt.InlineText.{inline_text};
-ghost use Rattle.paths_commands.specs.Fault.{IsOfMisuse, at_fault_text, from_one, numbered, quoted, unlike_text};
+ghost use Rattle.paths_commands.specs.Fault.{IsOfMisuse, at_fault_text, from_one, numbered, quoted, result_text, unlike_text};
 
 use os_path::NameError;
 use os_str_bytes::{EncodingError, write_number};
 use program_frame::lists::fault::ItemRefusal;
+use program_frame::lists::options::ItemEnd;
 use program_frame::lists::program_fault;
 use program_frame::lists::program_fault::WordsRefusal;
 use program_frame::misuse::Misuse;
@@ -35,6 +36,10 @@ pub enum Refusal {
     NoComponent(usize, InlineText<SHOWN>),
     /// The bytes with its components aren't a string of the other platform: their first fault.
     NoStringThere(EncodingError),
+    /// It has a NUL, which no file's path has.
+    HasNul,
+    /// Its result has this byte, which would end it.
+    ResultHas(ItemEnd),
 }
 
 /// How many bytes the text of a misuse may have; a longer one is cut, and ends in three dots.
@@ -96,7 +101,19 @@ impl ItemRefusal for Refusal {
                 f.write_str("no path there: ")?;
                 error.fmt(f)
             }
+            Refusal::HasNul => f.write_str("the path has a NUL"),
+            Refusal::ResultHas(end) => f.write_str(result_text(end)),
         }
+    }
+}
+
+/// What is written of a result with this byte, which would end it.
+fn result_text(end: ItemEnd) -> &'static str
+    ensures { result.now ≡ result_text end }
+{
+    match end {
+        ItemEnd::Nul => "the result has a NUL",
+        ItemEnd::Newline => "the result has a newline",
     }
 }
 

@@ -22,8 +22,8 @@ paths clean      PLATFORM          as normalize, but such a .. stays, or goes at
 paths join       PLATFORM BASE     writes the path after BASE; one with a root or a prefix replaces BASE, and ..
                                    may leave it
 paths join --checked PLATFORM BASE writes the path below BASE, and rejects one that could leave it
-paths relative   PLATFORM BASE     writes the path as it is reached from BASE, and rejects one that no path
-                                   leads to
+paths relative   PLATFORM BASE     writes the path as it is reached from BASE, which is . for BASE itself, and
+                                   rejects one that no path leads to
 paths convert    PLATFORM TO       writes the path of the platform TO with the same components, and rejects one
                                    with a component that TO can't have
 
@@ -32,6 +32,9 @@ which is empty where the path has no such part. PLATFORM and TO are unix, window
 anywhere; -- ends them.
 
   --checked        join: for names from outside, as in an archive or a request
+  --lines          a newline ends each path that is read and each result, and not NUL; a path with a NUL, or a
+                   result with a newline, is rejected
+  --unterminated   the last path may lack its end
   --keep-going     pass over rejected paths: a line for each on standard error, and their number at the
                    end; the status is 1 then
   -h, --help       this text

@@ -1,5 +1,5 @@
 //! What is written for one path.
-ghost use Rattle.std.specs.Prelude.{◌≡◌, ◌≢◌, ◌⊎◌, ◌∷◌, ◌++◌, [], ℕ, List, Some, None, OnOk, OnErr, IfErr};
+ghost use Rattle.std.specs.Prelude.{◌≡◌, ◌≢◌, ◌⊎◌, ◌∷◌, ◌++◌, ◌≤◌, [], ℕ, List, Some, None, OnOk, OnErr, IfErr, drop, length, take};
 ghost use Rattle.program_frame.specs.declared.lists.fault.ItemFault.TheVariants.{Refused, Memory};
 ghost use Rattle.path_building.specs.Cleaned.{IsCleaned};
 ghost use Rattle.path_building.specs.Join.{IsJoin};
@@ -9,11 +9,13 @@ ghost use Rattle.path_building.specs.Restyled.{IsRestyled};
 ghost use Rattle.path_building.specs.declared.walk.NameError.TheVariants as name_error;
 ghost use Rattle.path_building.specs.BaseViews.{base_path, base_style};
 ghost use Rattle.paths_commands.specs.declared.fault.Refusal as why;
-ghost use Rattle.paths_commands.specs.declared.fault.Refusal.TheVariants.{NoNormalForm, NoRelativePath};
+ghost use Rattle.paths_commands.specs.declared.fault.Refusal.TheVariants.{NoNormalForm, NoRelativePath, ResultHas};
+ghost use Rattle.program_frame.specs.Items.{Lacks};
+ghost use Rattle.program_frame.specs.ListOptions.{byte_of};
 ghost use Rattle.program_frame.specs.Rules.{IsItemFault};
 ghost use Rattle.program_frame.specs.Strings.{strings};
 ghost use Rattle.paths_commands.specs.Styles.{style_of};
-ghost use Rattle.paths_commands.specs.Task.{component_of, rules_of, IsText, IsPathText, IsComponentsText, IsJoinedBelow, IsReasonOf, IsUnanswered, IsUnconverted, IsUnjoined};
+ghost use Rattle.paths_commands.specs.Task.{component_of, rules_of, IsText, IsPathText, IsComponentsText, IsJoinedBelow, IsMade, IsReasonOf, IsRefusal, IsUnanswered, IsUnconverted, IsUnjoined, way_text};
 ghost use Rattle.platform_str.specs.Strings.{path_bytes};
 
 use crate::answers::{parent, part};
@@ -24,40 +26,102 @@ use os_path::{ConvertError, NameError, NormalizeError, PathExt, PathStyle};
 use os_str_bytes::{OsStr, Path, Platform, Unix, Wasm, Windows};
 use path_building::Base;
 use program_frame::lists::fault::ItemFault;
-use program_frame::lists::items::push_ended;
+use program_frame::lists::items::split_at_end;
+use program_frame::lists::options::{ItemEnd, ListOptions};
 use program_frame::os::Os;
 use std::alloc::Allocator;
 
 /// Appends what is written for a path.
+#[tactic(auto, using(program_frame::proofs::lemmas::lists::Items::has_end))]
 pub fn write_item<E: PathStyle, A: Allocator + Copy>(
     alloc: A,
     task: Task<'_>,
+    list: ListOptions,
     item: &[u8],
     output: &mut Vec<u8, A>,
 ) -> Result<(), ItemFault<Refusal>>
     ensures ok { OnOk result ((text : List ℕ)
-        × (IsText ⟦<E as Platform>⟧ E.follows task.entry item.now text
+        × (IsText ⟦<E as Platform>⟧ E.follows list.end task.entry item.now text
         × (output.new.items ≡ output.old.items ++ text))) }
-    ensures fault { IfErr result (λ fault. (max : ℕ)
-        → IsItemFault (rules_of ⟦<E as Platform>⟧ E.follows task.entry max) item.now fault) }
+    ensures fault { IfErr result (λ fault.
+        IsItemFault (rules_of ⟦<E as Platform>⟧ E.follows task.entry list) item.now fault) }
     ensures unchanged { OnErr result (output.new.items ≡ output.old.items) }
 {
     match OsStr::<E>::checked(item) {
-        Ok(string) => write_path::<E, A>(alloc, task, Path::new(string), output),
+        Ok(string) => match split_at_end(0, item) {
+            Some(_) => Err(ItemFault::Refused(Refusal::HasNul)),
+            None => write_path::<E, A>(alloc, task, list.end, Path::new(string), output),
+        },
         Err(error) => Err(ItemFault::Refused(Refusal::NoString(error))),
     }
 }
 
-/// Appends the result for a string of the platform.
+/// Appends what is written for a string of the platform.
+#[tactic(auto, using(crate::proofs::lemmas::Ended::components_written, crate::proofs::lemmas::Ended::without_result))]
 fn write_path<E: PathStyle, A: Allocator + Copy>(
+    alloc: A,
+    task: Task<'_>,
+    end: ItemEnd,
+    path: Path<'_, E>,
+    output: &mut Vec<u8, A>,
+) -> Result<(), ItemFault<Refusal>>
+    ensures ok { OnOk result ((text : List ℕ)
+        × (IsPathText ⟦<E as Platform>⟧ E.follows end task.entry (path_bytes path.entry) text
+        × (output.new.items ≡ output.old.items ++ text))) }
+    ensures fault { IfErr result (λ fault. (fault ≡ Memory) ⊎ ((why : why.Refusal)
+        × ((fault ≡ Refused why) × IsRefusal ⟦<E as Platform>⟧ E.follows end task.entry
+        (path_bytes path.entry) why))) }
+    ensures unchanged { OnErr result (output.new.items ≡ output.old.items) }
+{
+    let start = output.len();
+    match write_result::<E, A>(alloc, task, path, output) {
+        Ok(()) => match task {
+            Task::Components => Ok(()),
+            _ => end_result(start, end, output),
+        },
+        Err(fault) => Err(fault),
+    }
+}
+
+/// Ends what is in the output from an index on, where that lacks the byte that ends it. Otherwise
+/// takes it away.
+#[tactic(auto, using(program_frame::proofs::lemmas::lists::Items::has_end))]
+fn end_result<A: Allocator>(
+    start: usize,
+    end: ItemEnd,
+    output: &mut Vec<u8, A>,
+) -> Result<(), ItemFault<Refusal>>
+    requires { start ≤ length output.old.items }
+    ensures lacks { OnOk result (Lacks (byte_of end) (drop start output.old.items)) }
+    ensures ok { OnOk result (output.new.items ≡ output.old.items ++ byte_of end ∷ []) }
+    ensures fault { IfErr result (λ fault. (fault ≡ Memory) ⊎ ((fault ≡ Refused (ResultHas end))
+        × (¬ (Lacks (byte_of end) (drop start output.old.items))))) }
+    ensures taken { OnErr result (output.new.items ≡ take start output.old.items) }
+{
+    let (_, answer) = output.as_slice().split_at(start);
+    if let Some(_) = split_at_end(end.byte(), answer) {
+        output.truncate(start);
+        return Err(ItemFault::Refused(Refusal::ResultHas(end)));
+    }
+    match output.push(end.byte()) {
+        Ok(()) => Ok(()),
+        Err(_) => {
+            output.truncate(start);
+            Err(ItemFault::Memory)
+        }
+    }
+}
+
+/// Appends the result for a string of the platform.
+fn write_result<E: PathStyle, A: Allocator + Copy>(
     alloc: A,
     task: Task<'_>,
     path: Path<'_, E>,
     output: &mut Vec<u8, A>,
 ) -> Result<(), ItemFault<Refusal>>
-    ensures ok { OnOk result ((text : List ℕ)
-        × (IsPathText ⟦<E as Platform>⟧ E.follows task.entry (path_bytes path.entry) text
-        × (output.new.items ≡ output.old.items ++ text))) }
+    ensures ok { OnOk result ((made : List ℕ)
+        × (IsMade ⟦<E as Platform>⟧ E.follows task.entry (path_bytes path.entry) made
+        × (output.new.items ≡ output.old.items ++ made))) }
     ensures fault { IfErr result (λ fault. (fault ≡ Memory) ⊎ ((why : why.Refusal)
         × ((fault ≡ Refused why) × IsUnanswered ⟦<E as Platform>⟧ E.follows task.entry
         (path_bytes path.entry) why))) }
@@ -96,7 +160,7 @@ fn write_components<E: PathStyle, A: Allocator + Copy>(
     }
 }
 
-/// Appends the normal form of a path and NUL.
+/// Appends the normal form of a path.
 fn write_normal<E: PathStyle, A: Allocator + Copy>(
     alloc: A,
     path: Path<'_, E>,
@@ -104,7 +168,7 @@ fn write_normal<E: PathStyle, A: Allocator + Copy>(
 ) -> Result<(), ItemFault<Refusal>>
     ensures ok { OnOk result ((normal : List ℕ)
         × (IsNormalized E.follows (path_bytes path.entry) normal
-        × (output.new.items ≡ output.old.items ++ (normal ++ 0 ∷ [])))) }
+        × (output.new.items ≡ output.old.items ++ normal))) }
     ensures fault { IfErr result (λ fault. (fault ≡ Memory) ⊎ ((fault ≡ Refused NoNormalForm)
         × HasNoNormalForm E.follows (path_bytes path.entry))) }
     ensures unchanged { OnErr result (output.new.items ≡ output.old.items) }
@@ -116,7 +180,7 @@ fn write_normal<E: PathStyle, A: Allocator + Copy>(
     }
 }
 
-/// Appends the clean form of a path and NUL.
+/// Appends the clean form of a path.
 fn write_clean<E: PathStyle, A: Allocator + Copy>(
     alloc: A,
     path: Path<'_, E>,
@@ -124,7 +188,7 @@ fn write_clean<E: PathStyle, A: Allocator + Copy>(
 ) -> Result<(), ItemFault<Refusal>>
     ensures ok { OnOk result ((clean : List ℕ)
         × (IsCleaned E.follows (path_bytes path.entry) clean
-        × (output.new.items ≡ output.old.items ++ (clean ++ 0 ∷ [])))) }
+        × (output.new.items ≡ output.old.items ++ clean))) }
     ensures fault { IfErr result (λ fault. fault ≡ Memory) }
     ensures unchanged { OnErr result (output.new.items ≡ output.old.items) }
 {
@@ -134,7 +198,7 @@ fn write_clean<E: PathStyle, A: Allocator + Copy>(
     }
 }
 
-/// Appends a path after a base, and NUL.
+/// Appends a path after a base.
 fn write_joined<E: PathStyle, A: Allocator + Copy>(
     alloc: A,
     base: &str,
@@ -143,7 +207,7 @@ fn write_joined<E: PathStyle, A: Allocator + Copy>(
 ) -> Result<(), ItemFault<Refusal>>
     ensures ok { OnOk result ((joined : List ℕ)
         × (IsJoin E.follows base.now (path_bytes path.entry) joined
-        × (output.new.items ≡ output.old.items ++ (joined ++ 0 ∷ [])))) }
+        × (output.new.items ≡ output.old.items ++ joined))) }
     ensures fault { IfErr result (λ fault. fault ≡ Memory) }
     ensures unchanged { OnErr result (output.new.items ≡ output.old.items) }
 {
@@ -153,7 +217,7 @@ fn write_joined<E: PathStyle, A: Allocator + Copy>(
     }
 }
 
-/// Appends a path below a base, and NUL.
+/// Appends a path below a base.
 fn write_checked<E: PathStyle, A: Allocator + Copy>(
     alloc: A,
     base: Base<'_>,
@@ -162,7 +226,7 @@ fn write_checked<E: PathStyle, A: Allocator + Copy>(
 ) -> Result<(), ItemFault<Refusal>>
     ensures ok { OnOk result ((joined : List ℕ)
         × (IsJoinedBelow base.entry (path_bytes path.entry) joined
-        × (output.new.items ≡ output.old.items ++ (joined ++ 0 ∷ [])))) }
+        × (output.new.items ≡ output.old.items ++ joined))) }
     ensures fault { IfErr result (λ fault. (fault ≡ Memory) ⊎ ((why : why.Refusal)
         × ((fault ≡ Refused why) × IsUnjoined ⟦<E as Platform>⟧ E.follows base.entry
         (path_bytes path.entry) why))) }
@@ -211,7 +275,7 @@ fn component_of(error: NameError) -> Option<usize>
     }
 }
 
-/// Appends a path as it is reached from a base, and NUL.
+/// Appends a path as it is reached from a base, and `.` for the base itself.
 fn write_relative<E: PathStyle, A: Allocator + Copy>(
     alloc: A,
     base: &str,
@@ -220,19 +284,29 @@ fn write_relative<E: PathStyle, A: Allocator + Copy>(
 ) -> Result<(), ItemFault<Refusal>>
     ensures ok { OnOk result ((way : List ℕ)
         × (IsRelativeFrom E.follows (path_bytes path.entry) base.now (Some way)
-        × (output.new.items ≡ output.old.items ++ (way ++ 0 ∷ [])))) }
+        × (output.new.items ≡ output.old.items ++ way_text way))) }
     ensures fault { IfErr result (λ fault. (fault ≡ Memory) ⊎ ((fault ≡ Refused NoRelativePath)
         × IsRelativeFrom E.follows (path_bytes path.entry) base.now None)) }
     ensures unchanged { OnErr result (output.new.items ≡ output.old.items) }
 {
     match path.relative_from(alloc, Path::new(OsStr::new(base))) {
-        Ok(Some(way)) => write_answer(way.as_os_str().as_encoded_bytes(), output),
+        Ok(Some(way)) => write_answer(way_text(way.as_os_str().as_encoded_bytes()), output),
         Ok(None) => Err(ItemFault::Refused(Refusal::NoRelativePath)),
         Err(_) => Err(ItemFault::Memory),
     }
 }
 
-/// Appends the path of another platform with a path's components, and NUL.
+/// How a path is reached, as it is written: `.` from itself.
+fn way_text<'a>(way: &'a [u8]) -> &'a [u8]
+    ensures { result.now ≡ way_text way.now }
+{
+    match way {
+        [] => b".",
+        _ => way,
+    }
+}
+
+/// Appends the path of another platform with a path's components.
 fn write_on<E: PathStyle, A: Allocator + Copy>(
     alloc: A,
     to: Os,
@@ -241,7 +315,7 @@ fn write_on<E: PathStyle, A: Allocator + Copy>(
 ) -> Result<(), ItemFault<Refusal>>
     ensures ok { OnOk result ((made : List ℕ) × (((strings to).well_formed made
         × IsRestyled E.follows (style_of to) (path_bytes path.entry) made)
-        × (output.new.items ≡ output.old.items ++ (made ++ 0 ∷ [])))) }
+        × (output.new.items ≡ output.old.items ++ made))) }
     ensures fault { IfErr result (λ fault. (fault ≡ Memory) ⊎ ((why : why.Refusal)
         × ((fault ≡ Refused why) × IsUnconverted ⟦<E as Platform>⟧ E.follows (style_of to)
         (strings to).first_fault (path_bytes path.entry) why))) }
@@ -262,7 +336,7 @@ fn write_converted<E: PathStyle, F: PathStyle, A: Allocator + Copy>(
 ) -> Result<(), ItemFault<Refusal>>
     ensures ok { OnOk result ((made : List ℕ) × ((F.well_formed made
         × IsRestyled E.follows F.follows (path_bytes path.entry) made)
-        × (output.new.items ≡ output.old.items ++ (made ++ 0 ∷ [])))) }
+        × (output.new.items ≡ output.old.items ++ made))) }
     ensures fault { IfErr result (λ fault. (fault ≡ Memory) ⊎ ((why : why.Refusal)
         × ((fault ≡ Refused why) × IsUnconverted ⟦<E as Platform>⟧ E.follows F.follows
         F.first_fault (path_bytes path.entry) why))) }
@@ -281,16 +355,16 @@ fn write_converted<E: PathStyle, F: PathStyle, A: Allocator + Copy>(
     }
 }
 
-/// Appends a result and NUL.
+/// Appends a result.
 fn write_answer<A: Allocator>(
     answer: &[u8],
     output: &mut Vec<u8, A>,
 ) -> Result<(), ItemFault<Refusal>>
-    ensures ok { OnOk result (output.new.items ≡ output.old.items ++ (answer.now ++ 0 ∷ [])) }
+    ensures ok { OnOk result (output.new.items ≡ output.old.items ++ answer.now) }
     ensures fault { IfErr result (λ fault. fault ≡ Memory) }
     ensures unchanged { OnErr result (output.new.items ≡ output.old.items) }
 {
-    match push_ended(answer, 0, output) {
+    match output.extend_from_slice(answer) {
         Ok(()) => Ok(()),
         Err(_) => Err(ItemFault::Memory),
     }

@@ -1,7 +1,7 @@
 //! What the program `paths` does, over ends of any kind: lists of paths, taken apart path by path.
 //!
-//! A path is ended by NUL, the last one too. A path may be empty. The arguments make up a
-//! command ([`Command::parse`](command::Command::parse)). A run reads a block at a time, and writes
+//! A path is ended by NUL, the last one too, unless options state otherwise. A path may be empty. The
+//! arguments make up a command ([`Command::parse`](command::Command::parse)). A run reads a block at a time, and writes
 //! the results for the paths that end in it ([`program_frame::lists::run::run_with`]). Where it
 //! ends early, the text of a [`Fault`](fault::Fault) states why, and for which path.
 //! [`program::Paths`] is the program, which [`program_frame::lists::program::execute`] runs.

@@ -19,6 +19,10 @@ pub enum PathsOption {
     Checked,
     /// `--keep-going`: rejected paths are passed over.
     KeepGoing,
+    /// `--lines`: a newline ends each path and each result, and not NUL.
+    Lines,
+    /// `--unterminated`: the last path may lack its end.
+    Unterminated,
 }
 
 impl ProgramOption for PathsOption {
@@ -55,6 +59,8 @@ fn long_option(name: &str) -> Option<PathsOption>
         "version" => Some(PathsOption::Version),
         "checked" => Some(PathsOption::Checked),
         "keep-going" => Some(PathsOption::KeepGoing),
+        "lines" => Some(PathsOption::Lines),
+        "unterminated" => Some(PathsOption::Unterminated),
         _ => None,
     }
 }

@@ -17,6 +17,7 @@ use program_frame::arguments::{Given, ReadFault, read_arguments};
 use program_frame::fault::Failure;
 use program_frame::lists::answers::{run_list_with, write_help};
 use program_frame::lists::fault::ListFault;
+use program_frame::lists::options::ListOptions;
 use program_frame::lists::program::ListProgram;
 use program_frame::lists::refusals::{KeepGoing, Refusals, Stop};
 use program_frame::marked::Marked;
@@ -24,9 +25,6 @@ use program_frame::misuse::Misuse;
 use program_frame::os::Os;
 use std::alloc::Allocator;
 use std::io::{Eprint, Read, Write};
-
-/// How many bytes a path may have.
-const LONGEST_PATH: usize = 0x10_0000;
 
 /// The program `paths`: its arguments are those of a command ([`Command::parse`]).
 /// [`program_frame::lists::program::execute`] runs it.
@@ -124,8 +122,12 @@ fn run_command<P: Eprint, A: Allocator, R: Read, W: Write>(
     ensures ends { BlamesEnds result (has_failed reader.new) (has_failed writer.new) }
 {
     match command {
-        Command::Ask(task, os, true) => run_past(alloc, errors, os, task, reader, writer),
-        Command::Ask(task, os, false) => run_to_refusal(alloc, os, task, reader, writer),
+        Command::Ask(task, os, list, true) => run_past(
+            alloc, errors, os, task, list, reader, writer,
+        ),
+        Command::Ask(task, os, list, false) => run_to_refusal(
+            alloc, os, task, list, reader, writer,
+        ),
         Command::Help => write_help(HELP, writer),
         Command::Version => write_help(VERSION, writer),
     }
@@ -136,17 +138,18 @@ fn run_to_refusal<A: Allocator, R: Read, W: Write>(
     alloc: A,
     os: Os,
     task: Task<'_>,
+    list: ListOptions,
     reader: &mut Marked<R>,
     writer: &mut Marked<W>,
 ) -> Result<(), Fault>
     requires reader_unmarked { has_failed reader.old ≡ false }
     requires writer_unmarked { has_failed writer.old ≡ false }
-    ensures run { Runs (rules_on os task.entry) OfList
+    ensures run { Runs (rules_on os task.entry list) OfList
         (R.remaining (marked_inner reader.old)) (R.remaining (marked_inner reader.new))
         (W.contents (marked_inner writer.old)) (W.contents (marked_inner writer.new)) result }
     ensures ends { BlamesEnds result (has_failed reader.new) (has_failed writer.new) }
 {
-    run_on(alloc, os, task, &mut Stop, reader, writer)
+    run_on(alloc, os, task, list, &mut Stop, reader, writer)
 }
 
 /// Returns the result of the run that passes over the paths that are rejected.
@@ -155,18 +158,19 @@ fn run_past<P: Eprint, A: Allocator, R: Read, W: Write>(
     errors: &P,
     os: Os,
     task: Task<'_>,
+    list: ListOptions,
     reader: &mut Marked<R>,
     writer: &mut Marked<W>,
 ) -> Result<(), Fault>
     requires reader_unmarked { has_failed reader.old ≡ false }
     requires writer_unmarked { has_failed writer.old ≡ false }
-    ensures run { RunsPast (rules_on os task.entry)
+    ensures run { RunsPast (rules_on os task.entry list)
         (R.remaining (marked_inner reader.old)) (R.remaining (marked_inner reader.new))
         (W.contents (marked_inner writer.old)) (W.contents (marked_inner writer.new)) result }
     ensures ends { BlamesEnds result (has_failed reader.new) (has_failed writer.new) }
 {
     let mut refusals = KeepGoing::new("paths", errors);
-    let ran = run_on(alloc, os, task, &mut refusals, reader, writer);
+    let ran = run_on(alloc, os, task, list, &mut refusals, reader, writer);
     after(refusals.count(), ran)
 }
 
@@ -190,13 +194,14 @@ fn run_on<N: Refusals<Refusal>, A: Allocator, R: Read, W: Write>(
     alloc: A,
     os: Os,
     task: Task<'_>,
+    list: ListOptions,
     refusals: &mut N,
     reader: &mut Marked<R>,
     writer: &mut Marked<W>,
 ) -> Result<(), Fault>
     requires reader_unmarked { has_failed reader.old ≡ false }
     requires writer_unmarked { has_failed writer.old ≡ false }
-    ensures run { Runs (passing (N.passed refusals.new) (rules_on os task.entry)) OfList
+    ensures run { Runs (passing (N.passed refusals.new) (rules_on os task.entry list)) OfList
         (R.remaining (marked_inner reader.old)) (R.remaining (marked_inner reader.new))
         (W.contents (marked_inner writer.old)) (W.contents (marked_inner writer.new)) result }
     ensures stops { IfErr result (λ fault. EndsRunOf N.stops fault) }
@@ -205,21 +210,21 @@ fn run_on<N: Refusals<Refusal>, A: Allocator, R: Read, W: Write>(
     match os {
         Os::Unix => run_list_with(
             alloc,
-            &OnPlatform::<Unix>::new(task, LONGEST_PATH),
+            &OnPlatform::<Unix>::new(task, list),
             refusals,
             reader,
             writer,
         ),
         Os::Windows => run_list_with(
             alloc,
-            &OnPlatform::<Windows>::new(task, LONGEST_PATH),
+            &OnPlatform::<Windows>::new(task, list),
             refusals,
             reader,
             writer,
         ),
         Os::Wasm => run_list_with(
             alloc,
-            &OnPlatform::<Wasm>::new(task, LONGEST_PATH),
+            &OnPlatform::<Wasm>::new(task, list),
             refusals,
             reader,
             writer,

@@ -8,7 +8,7 @@ use os_path::PathStyle;
 use os_str_bytes::Platform;
 use path_building::Base;
 use program_frame::lists::fault::ItemFault;
-use program_frame::lists::options::ItemEnd;
+use program_frame::lists::options::{ItemEnd, ListOptions};
 use program_frame::lists::task::ListTask;
 use program_frame::os::Os;
 use std::alloc::Allocator;
@@ -19,7 +19,7 @@ use std::marker::PhantomData;
 pub enum Task<'a> {
     /// Its components: the escape of each on a line, and an empty line after the last.
     Components,
-    /// Its parent, ended by NUL, as all results below: without the last component.
+    /// Its parent, ended as the path is, as all results below: without the last component.
     Parent,
     /// Its last component, where that is a name.
     Name,
@@ -36,40 +36,43 @@ pub enum Task<'a> {
     /// The path below this base, as typed-path's `join_checked`. One that could leave the base is
     /// rejected.
     JoinChecked(Base<'a>),
-    /// The path as it is reached from this base, as the crate pathdiff's `diff_paths`. One that no
-    /// path leads to is rejected.
+    /// The path as it is reached from this base, as the crate pathdiff's `diff_paths`, and `.` for the
+    /// base itself. One that no path leads to is rejected.
     Relative(&'a str),
     /// The path of this platform with the same components. One with a component that the platform's
     /// paths can't have is rejected.
     Convert(Os),
 }
 
-/// What the program writes for each path of a list of a platform, and how long a path may be.
+/// What the program writes for each path of a list of a platform, and how the list is written.
 #[derive(Clone, Copy)]
 pub struct OnPlatform<'a, E> {
     /// What the program writes for each path.
     pub task: Task<'a>,
-    /// How many bytes a path may have.
-    pub max: usize,
+    /// The byte that ends each path and each result, whether the last path may lack it, and how many
+    /// bytes a path may have.
+    pub list: ListOptions,
     platform: PhantomData<E>,
 }
 
 impl<'a, E> OnPlatform<'a, E> {
-    /// The task for paths of the platform of at most this many bytes.
+    /// The task for paths of the platform, in a list that is written so.
     ///
     /// ```
     /// use os_str_bytes::Unix;
     /// use paths_commands::task::{OnPlatform, Task};
+    /// use program_frame::lists::options::ListOptions;
     ///
-    /// assert_eq!(rt; OnPlatform::<Unix>::new(Task::Parent, 255).max, 255);
+    /// let list = ListOptions::new(255);
+    /// assert_eq!(rt; OnPlatform::<Unix>::new(Task::Parent, list).list.max, 255);
     /// ```
-    pub fn new(task: Task<'a>, max: usize) -> OnPlatform<'a, E>
+    pub fn new(task: Task<'a>, list: ListOptions) -> OnPlatform<'a, E>
         ensures task { result.task ≡ task.entry }
-        ensures max { result.max ≡ max }
+        ensures list { result.list ≡ list }
     {
         OnPlatform {
             task,
-            max,
+            list,
             platform: PhantomData,
         }
     }
@@ -80,24 +83,24 @@ impl<'a, E: PathStyle> ListTask for OnPlatform<'a, E> {
 
     type Memory = ();
 
-    ghost rules = { λ on. rules_of ⟦<E as Platform>⟧ E.follows on.task on.max };
+    ghost rules = { λ on. rules_of ⟦<E as Platform>⟧ E.follows on.task on.list };
 
     ghost remembers = { λ _ _. Unit {0} };
 
     fn end(&self) -> ItemEnd {
-        ItemEnd::Nul
+        self.list.end
     }
 
     fn takes_unended(&self) -> bool {
-        false
+        self.list.last.may_lack_end()
     }
 
     fn max(&self) -> usize {
-        self.max
+        self.list.max
     }
 
     fn longest_item(&self) -> usize {
-        self.max
+        self.list.max
     }
 
     fn memory(&self) {}
@@ -109,6 +112,6 @@ impl<'a, E: PathStyle> ListTask for OnPlatform<'a, E> {
         item: &[u8],
         output: &mut Vec<u8, A>,
     ) -> Result<(), ItemFault<Refusal>> {
-        write_item::<E, A>(alloc, self.task, item, output)
+        write_item::<E, A>(alloc, self.task, self.list, item, output)
     }
 }

@@ -5,16 +5,19 @@ use Rattle.path_building.specs.declared.base.Base.{Base}
 use Rattle.os_str_bytes.specs.Platform.{Ghosts}
 use Rattle.path_rules.specs.declared.rules.Style.{Style}
 use Rattle.program_frame.specs.Items.{Entry, Lacks, items_of, texts_of}
+use Rattle.program_frame.specs.ListOptions.{byte_of}
 use Rattle.program_frame.specs.ListRun.{IsOutput, start}
 use Rattle.program_frame.specs.Reading.{Stops}
 use Rattle.program_frame.specs.Rules.{IsEntry}
 use Rattle.program_frame.specs.declared.fault.Failure.TheVariants.{Write}
 use Rattle.program_frame.specs.declared.lists.fault.ListFault.TheVariants.{Refused, Run}
+use Rattle.program_frame.specs.declared.lists.options.ItemEnd.{ItemEnd}
 use Rattle.paths_commands.specs.Task.{rules_of, IsAnswer, IsComponentsText, IsPathText, IsRefusal, IsUnjoined}
 use Rattle.paths_commands.specs.declared.fault.Refusal.{Refusal}
-use Rattle.paths_commands.specs.declared.fault.Refusal.TheVariants.{NoString, NoNormalForm, NoRelativePath, NoJoin, NoJoinAt, NoComponent, NoStringThere}
+use Rattle.paths_commands.specs.declared.fault.Refusal.TheVariants.{NoString, NoNormalForm, NoRelativePath, NoJoin, NoJoinAt, NoComponent, NoStringThere, HasNul, ResultHas}
 use Rattle.paths_commands.specs.declared.task.Task.{Task}
 use Rattle.paths_commands.specs.declared.task.Task.TheVariants.{Components, JoinChecked}
+use Rattle.test_command_uses.specs.OneFile.{lacking}
 use Rattle.test_command_uses.proofs.KnownNames.{one_item, has_end, in_prefix}
 
 -- the reason is why a path isn't joined to a base
@@ -26,41 +29,49 @@ IsOfJoin (NoJoin error) = Unit {0}
 IsOfJoin (NoJoinAt error text) = Unit {0}
 IsOfJoin (NoComponent index text) = ⊥
 IsOfJoin (NoStringThere error) = ⊥
+IsOfJoin HasNul = ⊥
+IsOfJoin (ResultHas end) = ⊥
 
 same_base : {base other : Base} → JoinChecked base ≡ JoinChecked other → base ≡ other
 same_base e = cc
 
-module _ {E : Type 0} (p : Ghosts E) (style : Style) (task : Task) (max : ℕ) where
+module _ {E : Type 0} (p : Ghosts E) (style : Style) (task : Task) (end : ItemEnd) (max : ℕ) where
   -- what is written for one path
-  known_text : (path output : List ℕ) → Lacks 0 path → path ≢ [] → IsOutput (rules_of p style task max) path output → IsPathText p style task path output
+  known_text : (path output : List ℕ) → Lacks (byte_of end) path → path ≢ [] → IsOutput (rules_of p style task (lacking end max)) path output → IsPathText p style end task path output
   known_text path output l some o =
-      let one = one_item (rules_of p style task max) o.entries path l some o.items in
-      let entry = (subst (λ es. AllByRecursion (IsEntry (rules_of p style task max)) es) one.1 o.are).0 in
+      let one = one_item (rules_of p style task (lacking end max)) o.entries path l some o.items in
+      let entry = (subst (λ es. AllByRecursion (IsEntry (rules_of p style task (lacking end max))) es) one.1 o.are).0 in
       let is : output ≡ one.0 = o.written ∙ ap texts_of one.1 ∙ append-nil one.0 in
-      subst (IsPathText p style task path) (sym is) entry.text.1
+      subst (IsPathText p style end task path) (sym is) entry.text.1.1
 
-  pub known_answer : (path output : List ℕ) → task ≢ Components → Lacks 0 path → path ≢ [] → IsOutput (rules_of p style task max) path output → (answer : List ℕ) × (IsAnswer style task path answer × (output ≡ answer ++ 0 ∷ []))
+  -- a path with a NUL isn't read
+  pub known_whole : (path output : List ℕ) → Lacks (byte_of end) path → path ≢ [] → IsOutput (rules_of p style task (lacking end max)) path output → Lacks 0 path
+  known_whole path output l some o =
+      let one = one_item (rules_of p style task (lacking end max)) o.entries path l some o.items in
+      (subst (λ es. AllByRecursion (IsEntry (rules_of p style task (lacking end max))) es) one.1 o.are).0.text.1.0
+
+  pub known_answer : (path output : List ℕ) → task ≢ Components → Lacks (byte_of end) path → path ≢ [] → IsOutput (rules_of p style task (lacking end max)) path output → (answer : List ℕ) × (IsAnswer style task path answer × (Lacks (byte_of end) answer × (output ≡ answer ++ byte_of end ∷ [])))
   known_answer path output other l some o =
       ⊎_elim
       (λ components. absurd (other components.0))
       (λ answer. answer)
       (known_text path output l some o)
 
-  pub known_refusal : (path output : List ℕ) (number : ℕ) (why : Refusal) → Lacks 0 path → Stops (rules_of p style task max) start path output (Refused number why) → (number ≡ 1) × IsRefusal p style task path why
+  pub known_refusal : (path output : List ℕ) (number : ℕ) (why : Refusal) → Lacks (byte_of end) path → Stops (rules_of p style task (lacking end max)) start path output (Refused number why) → (number ≡ 1) × IsRefusal p style end task path why
   known_refusal path output number why l s = by s.entries s.item s.rest s.joined s.ended s.because
     where
-      by : (es : List Entry) (item rest : List ℕ) → path ≡ items_of 0 es ++ (item ++ rest) → ((rest ≡ []) × ⊥) ⊎ ((more : List ℕ) × (rest ≡ 0 ∷ more)) → (number ≡ 0 + length es + 1) × ((length item ≤ max) × IsRefusal p style task item why)
-          → (number ≡ 1) × IsRefusal p style task path why
-      by [] item rest j (inl none) f = absurd none.1
-      by [] item rest j (inr more) f = absurd (has_end 0 item more.0 (subst (Lacks 0) (j ∙ ap (λ x. item ++ x) more.1) l))
-      by (e ∷ es) item rest j ended f = absurd (has_end 0 e.0 (items_of 0 es ++ (item ++ rest)) (subst (Lacks 0) (j ∙ in_prefix 0 e.0 (items_of 0 es) (item ++ rest)) l))
+      by : (es : List Entry) (item rest : List ℕ) → path ≡ items_of (byte_of end) es ++ (item ++ rest) → ((rest ≡ []) × Unit {0}) ⊎ ((more : List ℕ) × (rest ≡ byte_of end ∷ more)) → (number ≡ 0 + length es + 1) × ((length item ≤ max) × IsRefusal p style end task item why)
+          → (number ≡ 1) × IsRefusal p style end task path why
+      by [] item rest j (inl none) f = (f.0, subst (λ x. IsRefusal p style end task x why) (sym (j ∙ ap (λ x. item ++ x) none.0 ∙ append-nil item)) f.1.1)
+      by [] item rest j (inr more) f = absurd (has_end (byte_of end) item more.0 (subst (Lacks (byte_of end)) (j ∙ ap (λ x. item ++ x) more.1) l))
+      by (e ∷ es) item rest j ended f = absurd (has_end (byte_of end) e.0 (items_of (byte_of end) es ++ (item ++ rest)) (subst (Lacks (byte_of end)) (j ∙ in_prefix (byte_of end) e.0 (items_of (byte_of end) es) (item ++ rest)) l))
 
   -- a path that isn't joined to the base
-  pub known_unjoined : (base : Base) (path output : List ℕ) (number : ℕ) (why : Refusal) → task ≡ JoinChecked base → IsOfJoin why → Lacks 0 path → Stops (rules_of p style task max) start path output (Refused number why)
+  pub known_unjoined : (base : Base) (path output : List ℕ) (number : ℕ) (why : Refusal) → task ≡ JoinChecked base → IsOfJoin why → Lacks (byte_of end) path → Stops (rules_of p style task (lacking end max)) start path output (Refused number why)
       → (number ≡ 1) × IsUnjoined p style base path why
   known_unjoined base path output number why is of_join l s = let r = known_refusal path output number why l s in (r.0, by why of_join r.1)
     where
-      by : (given : Refusal) → IsOfJoin given → IsRefusal p style task path given → IsUnjoined p style base path given
+      by : (given : Refusal) → IsOfJoin given → IsRefusal p style end task path given → IsUnjoined p style base path given
       by (NoJoin error) of r = subst (λ b. IsUnjoined p style b path (NoJoin error)) (sym (same_base (sym is ∙ r.1.0))) r.1.1
       by (NoJoinAt error text) of r = subst (λ b. IsUnjoined p style b path (NoJoinAt error text)) (sym (same_base (sym is ∙ r.1.0))) r.1.1
       by (NoString error) of r = absurd of
@@ -68,14 +79,16 @@ module _ {E : Type 0} (p : Ghosts E) (style : Style) (task : Task) (max : ℕ) w
       by NoRelativePath of r = absurd of
       by (NoComponent index text) of r = absurd of
       by (NoStringThere error) of r = absurd of
+      by HasNul of r = absurd of
+      by (ResultHas byte) of r = absurd of
 
-module _ {E : Type 0} (p : Ghosts E) (style : Style) (max : ℕ) where
-  pub known_components : (path output : List ℕ) → Lacks 0 path → path ≢ [] → IsOutput (rules_of p style Components max) path output → IsComponentsText p style path output
+module _ {E : Type 0} (p : Ghosts E) (style : Style) (end : ItemEnd) (max : ℕ) where
+  pub known_components : (path output : List ℕ) → Lacks (byte_of end) path → path ≢ [] → IsOutput (rules_of p style Components (lacking end max)) path output → IsComponentsText p style path output
   known_components path output l some o =
       ⊎_elim
       (λ components. components.1)
       (λ answer. absurd answer.1.0)
-      (known_text p style Components max path output l some o)
+      (known_text p style Components end max path output l some o)
 
 -- a path that is refused is no failed write
 pub no_write : (number : ℕ) (why : Refusal) → ¬ (Refused number why ≡ Run Write)

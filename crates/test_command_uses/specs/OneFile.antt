@@ -7,6 +7,7 @@ use Rattle.os_str_bytes.specs.UnixPlatform.TheImpl as unix
 use Rattle.program_frame.specs.Files.{KnownFiles}
 use Rattle.program_frame.specs.declared.fault.Failure.TheVariants.{Memory}
 use Rattle.program_frame.specs.declared.lists.fault.ListFault.TheVariants.{Run}
+use Rattle.program_frame.specs.declared.lists.options.ItemEnd.{ItemEnd}
 use Rattle.program_frame.specs.declared.lists.options.ItemEnd.TheVariants.{Nul}
 use Rattle.program_frame.specs.declared.lists.options.LastItem.TheVariants.{MustEnd, MayLackEnd}
 use Rattle.program_frame.specs.declared.lists.options.ListOptions.{ListOptions}
@@ -23,9 +24,13 @@ use Rattle.names_commands.specs.declared.fault.CommandFault.TheVariants.{NoFile,
 abbrev pub usual : ListOptions
 usual = record { end = Nul; last = MustEnd; max = 1048576 }
 
+-- items of at most this many bytes, which this byte ends and the last may lack
+abbrev pub lacking : ItemEnd → ℕ → ListOptions
+lacking end max = record { end = end; last = MayLackEnd; max = max }
+
 -- names of at most this many bytes, ended by NUL, which the last may lack
 abbrev pub unended : ℕ → ListOptions
-unended max = record { end = Nul; last = MayLackEnd; max = max }
+unended max = lacking Nul max
 
 -- there is one file, of this name and with these bytes
 abbrev pub only : List ℕ → List ℕ → KnownFiles

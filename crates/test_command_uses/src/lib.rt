@@ -25,7 +25,8 @@ pub use names::{
     line_before, line_of, list_of_two, names_again, returned_line, unended_line, unended_name,
 };
 pub use paths::{
-    answered, asked_on, asked_one, components_of, joined_one, parent_of, requests_a_command,
+    answered, asked_on, asked_one, components_of, joined_one, line_with_nul, parent_line,
+    parent_of, requests_a_command, stated_list, unended_path,
 };
 pub use plans::{kept, refuses_first, turns};
 pub use programs::{

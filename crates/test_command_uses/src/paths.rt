@@ -1,5 +1,5 @@
 //! Lists of paths: the arguments of commands, the result for one path, and one that is rejected.
-ghost use Rattle.std.specs.Prelude.{◌≡◌, ◌≢◌, ◌∷◌, ◌++◌, ◌⊎◌, [], ℕ, List, true, false, Some, None, IsOk, IfErr, OnOk};
+ghost use Rattle.std.specs.Prelude.{◌≡◌, ◌≢◌, ◌∷◌, ◌++◌, ◌⊎◌, [], ℕ, List, true, false, Some, None, IsOk, IfErr, IfSome, OnOk};
 ghost use Rattle.std.specs.Fmt.InlineText.{inline_text};
 ghost use Rattle.std.specs.Io.KnownBytes.{Appends};
 ghost use Rattle.std.specs.declared.fmt.InlineText.{InlineText};
@@ -12,6 +12,7 @@ ghost use Rattle.path_rules.specs.Parent.{IsParent, HasNoParent};
 ghost use Rattle.path_building.specs.Relative.{IsRelativeFrom};
 ghost use Rattle.path_building.specs.Restyled.{IsRestyled};
 ghost use Rattle.program_frame.specs.Items.{Lacks};
+ghost use Rattle.program_frame.specs.ListOptions.{AreStated, byte_of};
 ghost use Rattle.program_frame.specs.ListRun.{IsOutput, StopsOn};
 ghost use Rattle.program_frame.specs.Marked.{marked_inner, has_failed};
 ghost use Rattle.program_frame.specs.Rules.{EndsRun, passing};
@@ -19,12 +20,14 @@ ghost use Rattle.program_frame.specs.Strings.{strings};
 ghost use Rattle.program_frame.specs.declared.fault.Failure.TheVariants.{Write as WriteFailure};
 ghost use Rattle.program_frame.specs.declared.misuse.Misuse.{Misuse as DeclaredMisuse};
 ghost use Rattle.program_frame.specs.declared.lists.fault.ListFault.TheVariants.{Refused, Run};
-ghost use Rattle.paths_commands.specs.Command.{AsksFor, IsMisuse, RequestsNothing};
+ghost use Rattle.paths_commands.specs.Command.{AsksFor, IsMisuse, RequestsNothing, longest_path};
 ghost use Rattle.paths_commands.specs.Styles.{style_of};
-ghost use Rattle.paths_commands.specs.Task.{component_of, rules_of, IsAnswer, IsComponentsText, IsShownOf};
+ghost use Rattle.paths_commands.specs.Task.{component_of, rules_of, IsAnswer, IsComponentsText, IsShownOf, way_text};
 ghost use Rattle.paths_commands.specs.declared.command.Command.{Command as DeclaredCommand};
 ghost use Rattle.paths_commands.specs.declared.fault.Refusal.TheVariants.{NoJoin, NoJoinAt, NoString};
+ghost use Rattle.paths_commands.specs.declared.option.PathsOption.TheVariants.{Lines, Unterminated};
 ghost use Rattle.paths_commands.specs.declared.task.Task.TheVariants.{Components};
+ghost use Rattle.test_command_uses.specs.OneFile.{lacking};
 
 use os_path::PathStyle;
 use os_str_bytes::Platform;
@@ -33,6 +36,7 @@ use paths_commands::command::{Command, Line};
 use paths_commands::fault::Refusal;
 use paths_commands::task::{OnPlatform, Task};
 use program_frame::lists::fault::ListFault;
+use program_frame::lists::options::{ItemEnd, LastItem, ListOptions};
 use program_frame::lists::refusals::KeepGoing;
 use program_frame::lists::run::{run, run_with};
 use program_frame::marked::Marked;
@@ -50,26 +54,56 @@ pub fn requests_a_command(given: Line<'_, '_>) -> bool
     Command::parse(given).is_ok()
 }
 
+/// How a list of options and operands is written that request a run over one.
+pub fn stated_list(given: Line<'_, '_>) -> Option<ListOptions>
+    ensures { IfSome result (λ list.
+        AreStated Lines Unterminated longest_path given.entry.now list) }
+{
+    match Command::parse(given) {
+        Ok(command) => match command {
+            Command::Ask(_, _, list, _) => Some(list),
+            Command::Help | Command::Version => None,
+        },
+        Err(_) => None,
+    }
+}
+
+/// A list of paths of at most 4,096 bytes, each ended by this byte, which the last may lack.
+fn lacking(end: ItemEnd) -> ListOptions
+    ensures { result ≡ lacking end 4096 }
+{
+    ListOptions {
+        end,
+        last: LastItem::MayLackEnd,
+        max: 4096,
+    }
+}
+
 /// A run over bytes.
 fn ask<E: PathStyle, A: Allocator, W: Write>(
     alloc: A,
     task: Task<'_>,
-    max: usize,
+    list: ListOptions,
     input: &[u8],
     writer: &mut Marked<W>,
 ) -> Result<(), ListFault<Refusal>>
     requires { has_failed writer.old ≡ false }
     ensures written { OnOk result ((output : List ℕ)
-        × (IsOutput (rules_of ⟦<E as Platform>⟧ E.follows task.entry max) input.now output
+        × (IsOutput (rules_of ⟦<E as Platform>⟧ E.follows task.entry list) input.now output
         × Appends (W.contents (marked_inner writer.old)) (W.contents (marked_inner writer.new))
         output)) }
     ensures stopped { IfErr result (λ fault. fault ≢ Run WriteFailure → (output : List ℕ)
-        × (StopsOn (rules_of ⟦<E as Platform>⟧ E.follows task.entry max) input.now output fault
+        × (StopsOn (rules_of ⟦<E as Platform>⟧ E.follows task.entry list) input.now output fault
         × Appends (W.contents (marked_inner writer.old)) (W.contents (marked_inner writer.new))
         output)) }
 {
     let mut reader = Marked::new(input);
-    run(alloc, &OnPlatform::<E>::new(task, max), &mut reader, writer)
+    run(
+        alloc,
+        &OnPlatform::<E>::new(task, list),
+        &mut reader,
+        writer,
+    )
 }
 
 /// A run over bytes that passes over paths that are refused, and how many were: no such path ends it,
@@ -78,40 +112,92 @@ pub fn asked_on<E: PathStyle, P: Eprint, A: Allocator, W: Write>(
     alloc: A,
     errors: &P,
     task: Task<'_>,
-    max: usize,
+    list: ListOptions,
     input: &[u8],
     writer: &mut Marked<W>,
 ) -> (u64, Result<(), ListFault<Refusal>>)
     requires { has_failed writer.old ≡ false }
     ensures written { OnOk result.1 ((output : List ℕ) × (IsOutput
-        (passing result.0 (rules_of ⟦<E as Platform>⟧ E.follows task.entry max)) input.now output
+        (passing result.0 (rules_of ⟦<E as Platform>⟧ E.follows task.entry list)) input.now output
         × Appends (W.contents (marked_inner writer.old)) (W.contents (marked_inner writer.new))
         output)) }
     ensures ends { IfErr result.1 (λ fault. EndsRun ⊥ fault) }
 {
     let mut reader = Marked::new(input);
     let mut refusals = KeepGoing::new("paths", errors);
-    let on = OnPlatform::<E>::new(task, max);
+    let on = OnPlatform::<E>::new(task, list);
     let ran = run_with(alloc, &on, &mut refusals, &mut reader, writer);
     (refusals.count(), ran)
 }
 
-/// Runs a task other than the one for components on one path: the result is written with NUL.
+/// Runs a task other than the one for components on one path: the result lacks this end, and is
+/// written with it.
 pub fn answered<E: PathStyle, A: Allocator, W: Write>(
     alloc: A,
+    end: ItemEnd,
     task: Task<'_>,
     path: &[u8],
     writer: &mut Marked<W>,
 ) -> Result<(), ListFault<Refusal>>
     requires question { task ≢ Components }
-    requires whole { Lacks 0 path.now }
+    requires whole { Lacks (byte_of end) path.now }
     requires some { path.now ≢ [] }
     requires unmarked { has_failed writer.old ≡ false }
     ensures { OnOk result ((answer : List ℕ) × (IsAnswer E.follows task.entry path.now answer
+        × (Lacks (byte_of end) answer
         × Appends (W.contents (marked_inner writer.old)) (W.contents (marked_inner writer.new))
-        (answer ++ 0 ∷ []))) }
+        (answer ++ byte_of end ∷ [])))) }
 {
-    ask::<E, A, W>(alloc, task, 4096, path, writer)
+    ask::<E, A, W>(alloc, task, lacking(end), path, writer)
+}
+
+/// Writes the parent of one line as a line, which is empty where it has none.
+pub fn parent_line<E: PathStyle, A: Allocator, W: Write>(
+    alloc: A,
+    path: &[u8],
+    writer: &mut Marked<W>,
+) -> Result<(), ListFault<Refusal>>
+    requires whole { Lacks 0x0A path.now }
+    requires some { path.now ≢ [] }
+    requires unmarked { has_failed writer.old ≡ false }
+    ensures { OnOk result ((parent : List ℕ) × ((IsParent E.follows path.now parent
+        ⊎ (HasNoParent E.follows path.now × (parent ≡ [])))
+        × (Lacks 0x0A parent
+        × Appends (W.contents (marked_inner writer.old)) (W.contents (marked_inner writer.new))
+        (parent ++ 0x0A ∷ [])))) }
+{
+    answered::<E, A, W>(alloc, ItemEnd::Newline, Task::Parent, path, writer)
+}
+
+/// A line with a NUL, which is rejected.
+pub fn line_with_nul<E: PathStyle, A: Allocator, W: Write>(
+    alloc: A,
+    task: Task<'_>,
+    path: &[u8],
+    writer: &mut Marked<W>,
+) -> Result<(), ListFault<Refusal>>
+    requires whole { Lacks 0x0A path.now }
+    requires nul { ¬ (Lacks 0 path.now) }
+    requires some { path.now ≢ [] }
+    requires unmarked { has_failed writer.old ≡ false }
+    ensures { ¬ (IsOk result) }
+{
+    ask::<E, A, W>(alloc, task, lacking(ItemEnd::Newline), path, writer)
+}
+
+/// A path that no NUL ends, which is rejected.
+pub fn unended_path<E: PathStyle, A: Allocator, W: Write>(
+    alloc: A,
+    task: Task<'_>,
+    path: &[u8],
+    writer: &mut Marked<W>,
+) -> Result<(), ListFault<Refusal>>
+    requires whole { Lacks 0 path.now }
+    requires some { path.now ≢ [] }
+    requires unmarked { has_failed writer.old ≡ false }
+    ensures { ¬ (IsOk result) }
+{
+    ask::<E, A, W>(alloc, task, ListOptions::new(4096), path, writer)
 }
 
 /// Writes the parent of one path with NUL, or NUL alone where it has none.
@@ -125,10 +211,11 @@ pub fn parent_of<E: PathStyle, A: Allocator, W: Write>(
     requires unmarked { has_failed writer.old ≡ false }
     ensures { OnOk result ((parent : List ℕ) × ((IsParent E.follows path.now parent
         ⊎ (HasNoParent E.follows path.now × (parent ≡ [])))
+        × (Lacks 0 parent
         × Appends (W.contents (marked_inner writer.old)) (W.contents (marked_inner writer.new))
-        (parent ++ 0 ∷ []))) }
+        (parent ++ 0 ∷ [])))) }
 {
-    answered::<E, A, W>(alloc, Task::Parent, path, writer)
+    answered::<E, A, W>(alloc, ItemEnd::Nul, Task::Parent, path, writer)
 }
 
 /// Puts one path after a base, which is written with NUL.
@@ -142,10 +229,11 @@ pub fn after_base<E: PathStyle, A: Allocator, W: Write>(
     requires some { path.now ≢ [] }
     requires unmarked { has_failed writer.old ≡ false }
     ensures { OnOk result ((joined : List ℕ) × (IsJoin E.follows base.now path.now joined
+        × (Lacks 0 joined
         × Appends (W.contents (marked_inner writer.old)) (W.contents (marked_inner writer.new))
-        (joined ++ 0 ∷ []))) }
+        (joined ++ 0 ∷ [])))) }
 {
-    answered::<E, A, W>(alloc, Task::Join(base), path, writer)
+    answered::<E, A, W>(alloc, ItemEnd::Nul, Task::Join(base), path, writer)
 }
 
 /// Writes how one path is reached from a base, with NUL.
@@ -159,10 +247,11 @@ pub fn from_base<E: PathStyle, A: Allocator, W: Write>(
     requires some { path.now ≢ [] }
     requires unmarked { has_failed writer.old ≡ false }
     ensures { OnOk result ((way : List ℕ) × (IsRelativeFrom E.follows path.now base.now (Some way)
+        × (Lacks 0 (way_text way)
         × Appends (W.contents (marked_inner writer.old)) (W.contents (marked_inner writer.new))
-        (way ++ 0 ∷ []))) }
+        (way_text way ++ 0 ∷ [])))) }
 {
-    answered::<E, A, W>(alloc, Task::Relative(base), path, writer)
+    answered::<E, A, W>(alloc, ItemEnd::Nul, Task::Relative(base), path, writer)
 }
 
 /// Writes the path of another platform with one path's components, with NUL.
@@ -177,10 +266,11 @@ pub fn on_platform<E: PathStyle, A: Allocator, W: Write>(
     requires unmarked { has_failed writer.old ≡ false }
     ensures { OnOk result ((made : List ℕ) × (((strings to).well_formed made
         × IsRestyled E.follows (style_of to) path.now made)
+        × (Lacks 0 made
         × Appends (W.contents (marked_inner writer.old)) (W.contents (marked_inner writer.new))
-        (made ++ 0 ∷ []))) }
+        (made ++ 0 ∷ [])))) }
 {
-    answered::<E, A, W>(alloc, Task::Convert(to), path, writer)
+    answered::<E, A, W>(alloc, ItemEnd::Nul, Task::Convert(to), path, writer)
 }
 
 /// Writes the components of one path, one per line, and an empty line after them.
@@ -197,7 +287,7 @@ pub fn components_of<E: PathStyle, A: Allocator, W: Write>(
         × Appends (W.contents (marked_inner writer.old)) (W.contents (marked_inner writer.new))
         text)) }
 {
-    ask::<E, A, W>(alloc, Task::Components, 4096, path, writer)
+    ask::<E, A, W>(alloc, Task::Components, lacking(ItemEnd::Nul), path, writer)
 }
 
 /// Runs a task on one path: where it is rejected, it is the first, with the first fault of its
@@ -213,7 +303,7 @@ pub fn asked_one<E: PathStyle, A: Allocator, W: Write>(
     ensures { IfErr result (λ fault. (number : ℕ) → (error : EncodingError)
         → fault ≡ Refused number (NoString error) → (number ≡ 1) × E.first_fault path.now error) }
 {
-    ask::<E, A, W>(alloc, task, 4096, path, writer)
+    ask::<E, A, W>(alloc, task, lacking(ItemEnd::Nul), path, writer)
 }
 
 /// Runs `join --checked` on one path: where it is rejected for a component, that is the one that is
@@ -236,5 +326,11 @@ pub fn joined_one<E: PathStyle, A: Allocator, W: Write>(
         → (number ≡ 1) × (IsNameFault (base_style base.entry) path.now error
         × (component_of error ≡ None))) }
 {
-    ask::<E, A, W>(alloc, Task::JoinChecked(base), 4096, path, writer)
+    ask::<E, A, W>(
+        alloc,
+        Task::JoinChecked(base),
+        lacking(ItemEnd::Nul),
+        path,
+        writer,
+    )
 }

@@ -181,7 +181,7 @@ module _ (given : Line) (task : Task) (os : Os) (asks : HasOperands given (name_
 pub never_both : (given : Line) (misuse : Misuse) → IsOfPaths given → IsMisuse given misuse → RequestsNothing given
 never_both given misuse of_paths wrong Help asks = of_paths.0 asks
 never_both given misuse of_paths wrong Version asks = of_paths.1 asks.1
-never_both given (Argument error) of_paths wrong (Ask task os keeps_going) asks = nothing_surplus given task os asks.1.0 wrong.0 wrong.1.0
-never_both given (Missing what) of_paths wrong (Ask task os keeps_going) asks = nothing_missing given task os asks.1.0 what.now wrong
-never_both given (Invalid what word) of_paths wrong (Ask task os keeps_going) asks = nothing_invalid given task os asks.1.0 what.now word.now asks.1.1.0.1 asks.1.1.1.0 wrong
-never_both given (Misplaced word where_to) of_paths wrong (Ask task os keeps_going) asks = nothing_misplaced given task os asks.1.0 word.now where_to.now asks.1.1.0.1 wrong
+never_both given (Argument error) of_paths wrong (Ask task os list keeps_going) asks = nothing_surplus given task os asks.1.0 wrong.0 wrong.1.0
+never_both given (Missing what) of_paths wrong (Ask task os list keeps_going) asks = nothing_missing given task os asks.1.0 what.now wrong
+never_both given (Invalid what word) of_paths wrong (Ask task os list keeps_going) asks = nothing_invalid given task os asks.1.0 what.now word.now asks.1.1.0.1 asks.1.1.1.0 wrong
+never_both given (Misplaced word where_to) of_paths wrong (Ask task os list keeps_going) asks = nothing_misplaced given task os asks.1.0 word.now where_to.now asks.1.1.0.1 wrong

@@ -5,14 +5,20 @@ use Rattle.os_args.specs.Word.{Kind, Long, LongBytes, Short, ShortBytes, Value}
 use Rattle.os_args.specs.Reading.{Fault, Reading, TakesWord}
 use Rattle.os_args.proofs.lemmas.OneOutcome.{one_word}
 use Rattle.program_frame.specs.Arguments.{AreGiven, FailsAt, HasFault, HasOption, IsOption, Takes, TakesAll, operands_of, unread}
+use Rattle.program_frame.specs.ListOptions.{AreStated, IsEnd, IsLast}
 use Rattle.program_frame.specs.declared.arguments.Given.{Given}
 use Rattle.program_frame.specs.declared.arguments.Given.TheVariants.{Operand, Flag, Valued}
-use Rattle.paths_commands.specs.Command.{AsksFor, Line, RequestsNothing}
+use Rattle.program_frame.specs.declared.lists.options.ItemEnd.{ItemEnd}
+use Rattle.program_frame.specs.declared.lists.options.ItemEnd.TheVariants.{Nul, Newline}
+use Rattle.program_frame.specs.declared.lists.options.LastItem.{LastItem}
+use Rattle.program_frame.specs.declared.lists.options.LastItem.TheVariants.{MustEnd, MayLackEnd}
+use Rattle.program_frame.specs.declared.lists.options.ListOptions.{ListOptions}
+use Rattle.paths_commands.specs.Command.{AsksFor, Line, RequestsNothing, longest_path}
 use Rattle.paths_commands.specs.Options.{IsFlagOf, has_value, name_of, spelled}
 use Rattle.paths_commands.specs.declared.command.Command.{Command}
 use Rattle.paths_commands.specs.declared.command.Command.TheVariants.{Ask, Help as HelpCommand, Version as VersionCommand}
 use Rattle.paths_commands.specs.declared.option.PathsOption.{PathsOption}
-use Rattle.paths_commands.specs.declared.option.PathsOption.TheVariants.{Help, Version, Checked, KeepGoing}
+use Rattle.paths_commands.specs.declared.option.PathsOption.TheVariants.{Help, Version, Checked, KeepGoing, Lines, Unterminated}
 
 -- the first letter of the option's name
 abbrev letter : PathsOption → ℕ
@@ -20,12 +26,16 @@ letter Help = 104
 letter Version = 118
 letter Checked = 99
 letter KeepGoing = 107
+letter Lines = 108
+letter Unterminated = 117
 
 letter_is : (option : PathsOption) → letter option ≡ get_or (name_of option) 0 0
 letter_is Help = refl
 letter_is Version = refl
 letter_is Checked = refl
 letter_is KeepGoing = refl
+letter_is Lines = refl
+letter_is Unterminated = refl
 
 same_letter : (option other : PathsOption) → name_of option ≡ name_of other → letter option ≡ letter other
 same_letter option other e = letter_is option ∙ ap (λ name. get_or name 0 0) e ∙ sym (letter_is other)
@@ -35,10 +45,14 @@ same_option Help Help e = refl
 same_option Version Version e = refl
 same_option Checked Checked e = refl
 same_option KeepGoing KeepGoing e = refl
+same_option Lines Lines e = refl
+same_option Unterminated Unterminated e = refl
 same_option Help other e = let letters = same_letter Help other e in absurd (omega arith)
 same_option Version other e = let letters = same_letter Version other e in absurd (omega arith)
 same_option Checked other e = let letters = same_letter Checked other e in absurd (omega arith)
 same_option KeepGoing other e = let letters = same_letter KeepGoing other e in absurd (omega arith)
+same_option Lines other e = let letters = same_letter Lines other e in absurd (omega arith)
+same_option Unterminated other e = let letters = same_letter Unterminated other e in absurd (omega arith)
 
 same_flag : (option other : PathsOption) (c : ℕ) → IsFlagOf option c → IsFlagOf other c → option ≡ other
 same_flag Help Help c is of_other = refl
@@ -49,14 +63,14 @@ same_flag Version Help c is of_other = let same : ◌≡◌ {A = ℕ} 86 104 = s
 same_flag Version Version c is of_other = refl
 same_flag Version Checked c is of_other = absurd of_other
 same_flag Version KeepGoing c is of_other = absurd of_other
-same_flag Checked Help c is of_other = absurd is
-same_flag Checked Version c is of_other = absurd is
-same_flag Checked Checked c is of_other = absurd is
-same_flag Checked KeepGoing c is of_other = absurd is
-same_flag KeepGoing Help c is of_other = absurd is
-same_flag KeepGoing Version c is of_other = absurd is
-same_flag KeepGoing Checked c is of_other = absurd is
-same_flag KeepGoing KeepGoing c is of_other = absurd is
+same_flag Help Lines c is of_other = absurd of_other
+same_flag Help Unterminated c is of_other = absurd of_other
+same_flag Version Lines c is of_other = absurd of_other
+same_flag Version Unterminated c is of_other = absurd of_other
+same_flag Checked other c is of_other = absurd is
+same_flag KeepGoing other c is of_other = absurd is
+same_flag Lines other c is of_other = absurd is
+same_flag Unterminated other c is of_other = absurd is
 
 -- an argument is one option
 one_option : (option other : PathsOption) (kind : Kind) → spelled option kind → spelled other kind → option ≡ other
@@ -201,10 +215,21 @@ module _ (given other : Line) (alike : AreAlike given other) where
   had : (option : PathsOption) → HasOption option other → HasOption option given
   had option = alike_option option other given (alike_back given other alike)
 
+  alike_end : (end : ItemEnd) → IsEnd Lines given end → IsEnd Lines other end
+  alike_end Nul is = λ lines. is (had Lines lines)
+  alike_end Newline is = has Lines is
+
+  alike_last : (last : LastItem) → IsLast Unterminated given last → IsLast Unterminated other last
+  alike_last MustEnd is = λ unterminated. is (had Unterminated unterminated)
+  alike_last MayLackEnd is = has Unterminated is
+
+  alike_list : (list : ListOptions) → AreStated Lines Unterminated longest_path given list → AreStated Lines Unterminated longest_path other list
+  alike_list list are = record { end = alike_end list.end are.end; last = alike_last list.last are.last; limit = are.limit }
+
   alike_request : (command : Command) → AsksFor given command → AsksFor other command
   alike_request HelpCommand asks = has Help asks
   alike_request VersionCommand asks = ((λ help. asks.0 (had Help help)), has Version asks.1)
-  alike_request (Ask task os keeps_going) asks = (
+  alike_request (Ask task os list keeps_going) asks = (
     ((λ help. asks.0.0 (had Help help)), (λ version. asks.0.1 (had Version version))),
     (
       sym (alike_operands given other alike) ∙ asks.1.0,
@@ -212,7 +237,10 @@ module _ (given other : Line) (alike : AreAlike given other) where
         ((λ is. has Checked (asks.1.1.0.0 is)), (λ checked. asks.1.1.0.1 (had Checked checked))),
         (
           asks.1.1.1.0,
-          ((λ going. has KeepGoing (asks.1.1.1.1.0 going)), (λ going. asks.1.1.1.1.1 (had KeepGoing going))),
+          (
+            ((λ going. has KeepGoing (asks.1.1.1.1.0.0 going)), (λ going. asks.1.1.1.1.0.1 (had KeepGoing going))),
+            alike_list list asks.1.1.1.1.1,
+          ),
         ),
       ),
     ),

@@ -4,23 +4,26 @@ use Rattle.path_building.specs.declared.base.Base.{Base}
 use Rattle.os_str_bytes.specs.Platform.{Ghosts}
 use Rattle.path_rules.specs.declared.rules.Style.{Style}
 use Rattle.program_frame.specs.Strings.{strings}
+use Rattle.program_frame.specs.declared.lists.options.ItemEnd.{ItemEnd}
 use Rattle.program_frame.specs.declared.os.Os.{Os}
 use Rattle.paths_commands.specs.Styles.{style_of}
 use Rattle.paths_commands.specs.Task.{IsRefusal, IsUnanswered, IsUnconverted, IsUnjoined}
 use Rattle.paths_commands.specs.declared.fault.Refusal.{Refusal}
-use Rattle.paths_commands.specs.declared.fault.Refusal.TheVariants.{NoString, NoNormalForm, NoRelativePath, NoJoin, NoJoinAt, NoComponent, NoStringThere}
+use Rattle.paths_commands.specs.declared.fault.Refusal.TheVariants.{NoString, NoNormalForm, NoRelativePath, NoJoin, NoJoinAt, NoComponent, NoStringThere, HasNul, ResultHas}
 use Rattle.paths_commands.specs.declared.task.Task.{Task}
 use Rattle.paths_commands.specs.declared.task.Task.TheVariants.{Convert, JoinChecked}
 
 -- a string without a result is rejected
-pub unanswered_refused : {E : Type 0} (p : Ghosts E) (style : Style) (task : Task) (path : List ℕ) (why : Refusal) → IsUnanswered p style task path why → IsRefusal p style task path why
-unanswered_refused p style task path (NoString error) none = absurd none
-unanswered_refused p style task path NoNormalForm none = none
-unanswered_refused p style task path NoRelativePath none = none
-unanswered_refused p style task path (NoJoin error) none = none
-unanswered_refused p style task path (NoJoinAt error text) none = none
-unanswered_refused p style task path (NoComponent index text) none = none
-unanswered_refused p style task path (NoStringThere error) none = none
+pub unanswered_refused : {E : Type 0} (p : Ghosts E) (style : Style) (end : ItemEnd) (task : Task) (path : List ℕ) (why : Refusal) → IsUnanswered p style task path why → IsRefusal p style end task path why
+unanswered_refused p style end task path (NoString error) none = absurd none
+unanswered_refused p style end task path NoNormalForm none = none
+unanswered_refused p style end task path NoRelativePath none = none
+unanswered_refused p style end task path (NoJoin error) none = none
+unanswered_refused p style end task path (NoJoinAt error text) none = none
+unanswered_refused p style end task path (NoComponent index text) none = none
+unanswered_refused p style end task path (NoStringThere error) none = none
+unanswered_refused p style end task path HasNul none = absurd none
+unanswered_refused p style end task path (ResultHas byte) none = absurd none
 
 -- a path that has no path of the other platform has no result
 pub unconverted_unanswered : {E : Type 0} (p : Ghosts E) (style : Style) (task : Task) (to : Os) (path : List ℕ) (why : Refusal) → task ≡ Convert to
@@ -32,6 +35,8 @@ unconverted_unanswered p style task to path (NoJoin error) is none = absurd none
 unconverted_unanswered p style task to path (NoJoinAt error text) is none = absurd none
 unconverted_unanswered p style task to path (NoComponent index text) is none = (to, (is, none))
 unconverted_unanswered p style task to path (NoStringThere error) is none = (to, (is, none))
+unconverted_unanswered p style task to path HasNul is none = absurd none
+unconverted_unanswered p style task to path (ResultHas byte) is none = absurd none
 
 -- a path that isn't joined to the base has no result
 pub unjoined_unanswered : {E : Type 0} (p : Ghosts E) (style : Style) (task : Task) (base : Base) (path : List ℕ) (why : Refusal) → task ≡ JoinChecked base
@@ -43,3 +48,5 @@ unjoined_unanswered p style task base path (NoJoin error) is none = (base, (is, 
 unjoined_unanswered p style task base path (NoJoinAt error text) is none = (base, (is, none))
 unjoined_unanswered p style task base path (NoComponent index text) is none = absurd none.1.1
 unjoined_unanswered p style task base path (NoStringThere error) is none = absurd none.1.1
+unjoined_unanswered p style task base path HasNul is none = absurd none.1.1
+unjoined_unanswered p style task base path (ResultHas byte) is none = absurd none.1.1

@@ -4,31 +4,31 @@ use Rattle.program_frame.specs.Marked.{marked_inner}
 use Rattle.program_frame.specs.Rules.{passing}
 use Rattle.program_frame.specs.Strings.{strings}
 use Rattle.program_frame.specs.ListRun.{Runs}
+use Rattle.program_frame.specs.declared.lists.options.ListOptions.{ListOptions}
 use Rattle.program_frame.specs.declared.os.Os.{Os}
 use Rattle.program_frame.specs.declared.lists.program_fault.Fault.TheVariants.{List as OfList}
-use Rattle.paths_commands.specs.Command.{longest_path}
 use Rattle.paths_commands.specs.Styles.{style_of}
 use Rattle.paths_commands.specs.Program.{Fault}
 use Rattle.paths_commands.specs.Task.{rules_of}
 use Rattle.paths_commands.specs.declared.task.Task.{Task}
 use Rattle.paths_commands.proofs.program.run_on.Goals as goal
 
--- what holds of a platform, a task and a length holds of equal ones
-same_run : (os other : Os) (t task : Task) (max count : ℕ) (input left old new : Option (List ℕ)) (answer : Result ⊤ Fault) → os ≡ other → t ≡ task → max ≡ longest_path
-    → Runs (passing count (rules_of (strings other) (style_of other) t max)) OfList input left old new answer → Runs (passing count (rules_of (strings os) (style_of os) task longest_path)) OfList input left old new answer
-same_run os other t task max count input left old new answer is same most ran =
-    subst (λ os. Runs (passing count (rules_of (strings os) (style_of os) task longest_path)) OfList input left old new answer) (sym is)
-    (subst (λ n. Runs (passing count (rules_of (strings other) (style_of other) task n)) OfList input left old new answer) most
-    (subst (λ t. Runs (passing count (rules_of (strings other) (style_of other) t max)) OfList input left old new answer) same ran))
+-- what holds of a platform, a task and a list holds of equal ones
+same_run : (os other : Os) (t task : Task) (l list : ListOptions) (count : ℕ) (input left old new : Option (List ℕ)) (answer : Result ⊤ Fault) → os ≡ other → t ≡ task → l ≡ list
+    → Runs (passing count (rules_of (strings other) (style_of other) t l)) OfList input left old new answer → Runs (passing count (rules_of (strings os) (style_of os) task list)) OfList input left old new answer
+same_run os other t task l list count input left old new answer is same written ran =
+    subst (λ os. Runs (passing count (rules_of (strings os) (style_of os) task list)) OfList input left old new answer) (sym is)
+    (subst (λ l. Runs (passing count (rules_of (strings other) (style_of other) task l)) OfList input left old new answer) written
+    (subst (λ t. Runs (passing count (rules_of (strings other) (style_of other) t l)) OfList input left old new answer) same ran))
 
 pub returns-in-Unix-clause-run : goal.returns-in-Unix-clause-run
 returns-in-Unix-clause-run g c =
-    same_run _ _ _ _ _ _ (g.R.Read.remaining (marked_inner c.args.reader.now)) (g.R.Read.remaining (marked_inner c.run_list_with.new.reader)) (g.W.Write.contents (marked_inner c.args.writer.now)) (g.W.Write.contents (marked_inner c.run_list_with.new.writer)) c.run_list_with.result c.in-Unix.is c.new.ensures.task c.new.ensures.max c.run_list_with.ensures.run
+    same_run _ _ _ _ _ _ _ (g.R.Read.remaining (marked_inner c.args.reader.now)) (g.R.Read.remaining (marked_inner c.run_list_with.new.reader)) (g.W.Write.contents (marked_inner c.args.writer.now)) (g.W.Write.contents (marked_inner c.run_list_with.new.writer)) c.run_list_with.result c.in-Unix.is c.new.ensures.task c.new.ensures.list c.run_list_with.ensures.run
 
 pub returns-in-Windows-clause-run : goal.returns-in-Windows-clause-run
 returns-in-Windows-clause-run g c =
-    same_run _ _ _ _ _ _ (g.R.Read.remaining (marked_inner c.args.reader.now)) (g.R.Read.remaining (marked_inner c.run_list_with-in-Windows.new.reader)) (g.W.Write.contents (marked_inner c.args.writer.now)) (g.W.Write.contents (marked_inner c.run_list_with-in-Windows.new.writer)) c.run_list_with-in-Windows.result c.in-Windows.is c.new-in-Windows.ensures.task c.new-in-Windows.ensures.max c.run_list_with-in-Windows.ensures.run
+    same_run _ _ _ _ _ _ _ (g.R.Read.remaining (marked_inner c.args.reader.now)) (g.R.Read.remaining (marked_inner c.run_list_with-in-Windows.new.reader)) (g.W.Write.contents (marked_inner c.args.writer.now)) (g.W.Write.contents (marked_inner c.run_list_with-in-Windows.new.writer)) c.run_list_with-in-Windows.result c.in-Windows.is c.new-in-Windows.ensures.task c.new-in-Windows.ensures.list c.run_list_with-in-Windows.ensures.run
 
 pub returns-in-Wasm-clause-run : goal.returns-in-Wasm-clause-run
 returns-in-Wasm-clause-run g c =
-    same_run _ _ _ _ _ _ (g.R.Read.remaining (marked_inner c.args.reader.now)) (g.R.Read.remaining (marked_inner c.run_list_with-in-Wasm.new.reader)) (g.W.Write.contents (marked_inner c.args.writer.now)) (g.W.Write.contents (marked_inner c.run_list_with-in-Wasm.new.writer)) c.run_list_with-in-Wasm.result c.in-Wasm.is c.new-in-Wasm.ensures.task c.new-in-Wasm.ensures.max c.run_list_with-in-Wasm.ensures.run
+    same_run _ _ _ _ _ _ _ (g.R.Read.remaining (marked_inner c.args.reader.now)) (g.R.Read.remaining (marked_inner c.run_list_with-in-Wasm.new.reader)) (g.W.Write.contents (marked_inner c.args.writer.now)) (g.W.Write.contents (marked_inner c.run_list_with-in-Wasm.new.writer)) c.run_list_with-in-Wasm.result c.in-Wasm.is c.new-in-Wasm.ensures.task c.new-in-Wasm.ensures.list c.run_list_with-in-Wasm.ensures.run

@@ -3,6 +3,8 @@ use Rattle.std.proofs.lemmas.Result.{IfErr-weaker}
 use Rattle.paths_commands.specs.Task.{rules_of}
 use Rattle.paths_commands.specs.declared.fault.Refusal.TheVariants.{NoString}
 use Rattle.program_frame.specs.ListRun.{StopsOn}
+use Rattle.program_frame.specs.declared.lists.options.ItemEnd.TheVariants.{Nul}
+use Rattle.test_command_uses.specs.OneFile.{lacking}
 use Rattle.test_command_uses.proofs.KnownPaths.{known_refusal, no_write}
 use Rattle.test_command_uses.proofs.paths.asked_one.Goals as goal
 
@@ -13,5 +15,7 @@ returns g c =
     IfErr-weaker c.ask.result _ _
     (λ fault stopped number error is.
     let s = stopped (λ e. no_write number _ (sym is ∙ e)) in
-    known_refusal P g.E.PathStyle.follows c.args.task 4096 path s.0 number (NoString error) c.requires.whole (subst (λ f. StopsOn (rules_of P g.E.PathStyle.follows c.args.task 4096) path s.0 f) is s.1.0))
+    known_refusal P g.E.PathStyle.follows c.args.task Nul 4096 path s.0 number (NoString error) c.requires.whole
+    (subst (λ f. StopsOn (rules_of P g.E.PathStyle.follows c.args.task (lacking Nul 4096)) path s.0 f) is
+    (subst (λ l. StopsOn (rules_of P g.E.PathStyle.follows c.args.task l) path s.0 fault) c.lacking.ensures s.1.0)))
     c.ask.ensures.stopped
