@@ -48,10 +48,8 @@ pub fn is_shown<A: Allocator + Copy>(
     ensures files { files_of_walk walk.new ≡ files_of_walk walk.old }
 {
     let (path, is_dir) = path_of(without_dot(name));
-    match walk.matched(path, is_dir) {
-        Ok(verdict) => Ok(!verdict.is_ignored()),
-        Err(fault) => Err(fault),
-    }
+    let verdict = walk.matched(path, is_dir)?;
+    Ok(!verdict.is_ignored())
 }
 
 /// The file and the line that decide a name, by their numbers.
@@ -84,10 +82,8 @@ pub fn read_ignore<F: Files, A: Allocator + Copy>(
         (λ fault. IsFaultOf (F.known files.now) A (map text_of values.now) fault) }
 {
     let mut ignore = Ignore::empty(alloc);
-    match add_files(alloc, files, values, &mut ignore) {
-        Ok(()) => Ok(ignore),
-        Err(fault) => Err(fault),
-    }
+    add_files(alloc, files, values, &mut ignore)?;
+    Ok(ignore)
 }
 
 /// Reads ignore files, and adds them where there are none yet.
@@ -173,10 +169,7 @@ fn add_file<F: Files, A: Allocator + Copy>(
         IsFaultOfOne (F.known files.now) number value.now fault) }
 {
     let (directory, name) = file_in(value.as_bytes());
-    let bytes = match read_file(alloc, files, number, name) {
-        Ok(bytes) => bytes,
-        Err(fault) => return Err(fault),
-    };
+    let bytes = read_file(alloc, files, number, name)?;
     match ignore.add(alloc, directory, &bytes) {
         Ok(()) => Ok(()),
         Err(_) => Err(Fault::List(ListFault::Run(Failure::Memory))),

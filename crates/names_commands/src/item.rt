@@ -39,19 +39,19 @@ pub fn write_item<E: Platform, A: Allocator + Copy>(
     ensures unchanged { OnErr result (output.new.items ≡ output.old.items) }
 {
     match settings.task {
-        Task::ListAll => match named::<E>(item) {
-            Ok(name) => write_line::<E, A>(alloc, name, output),
-            Err(fault) => Err(fault),
-        },
-        Task::Check => match named::<E>(item) {
-            Ok(_) => Ok(()),
-            Err(fault) => Err(fault),
-        },
+        Task::ListAll => {
+            let name = named::<E>(item)?;
+            write_line::<E, A>(alloc, name, output)
+        }
+        Task::Check => {
+            named::<E>(item)?;
+            Ok(())
+        }
         Task::Join(empty) => write_name::<E, A>(alloc, empty, settings.list, item, output),
-        Task::ListWords(form) => match named::<E>(item) {
-            Ok(_) => write_word(alloc, form, item, output),
-            Err(fault) => Err(fault),
-        },
+        Task::ListWords(form) => {
+            named::<E>(item)?;
+            write_word(alloc, form, item, output)
+        }
         Task::JoinWords => write_names(alloc, settings.list, item, output),
     }
 }

@@ -83,10 +83,8 @@ impl<'g, E: Platform, A: Allocator + Copy> Matching<'g, E, A> {
             (files_of self.now.ignore.now) (bytes name.entry)) }
         ensures files { files_of_walk walk.new ≡ files_of_walk walk.old }
     {
-        match self.matches(walk, name) {
-            Ok(matches) => Ok(turned(self.inverted, matches)),
-            Err(fault) => Err(fault),
-        }
+        let matches = self.matches(walk, name)?;
+        Ok(turned(self.inverted, matches))
     }
 
     /// Whether the name is picked where the others aren't.

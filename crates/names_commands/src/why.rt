@@ -89,10 +89,7 @@ fn write_decided<E: Platform, A: Allocator + Copy, B: Allocator + Copy>(
     ensures fault { IfErr result (λ fault. IsNoName ⟦<E as Platform>⟧ item.now fault) }
     ensures unchanged { OnErr result (output.new.items ≡ output.old.items) }
 {
-    let name = match named::<E>(item) {
-        Ok(name) => name,
-        Err(fault) => return Err(fault),
-    };
+    let name = named::<E>(item)?;
     let Ok(text) = text_of_decided::<E, A, B>(alloc, values, ignore, name) else {
         return Err(ItemFault::Memory);
     };
