@@ -76,12 +76,13 @@ pub fn run_list<T: ListTask, U, A: Allocator, R: Read, W: Write>(
 /// use paths_commands::fault::Fault;
 /// use paths_commands::task::{OnPlatform, Task};
 /// use program_frame::lists::answers::run_list_with;
+/// use program_frame::lists::options::ListOptions;
 /// use program_frame::lists::refusals::KeepGoing;
 /// use program_frame::marked::Marked;
 ///
 /// let mut taken = Vec::new(alloc);
 /// let (mut reader, mut writer) = (Marked::new(b"..\0a\0".as_slice()), Marked::new(&mut taken));
-/// let task = OnPlatform::<Unix>::new(Task::Normalize, 255);
+/// let task = OnPlatform::<Unix>::new(Task::Normalize, ListOptions::new(255));
 /// let mut refusals = KeepGoing::new("paths", &rt);
 /// let ended: Result<(), Fault> =
 ///     run_list_with(alloc, &task, &mut refusals, &mut reader, &mut writer);

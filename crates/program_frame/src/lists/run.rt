@@ -97,6 +97,7 @@ pub fn run<T: ListTask, A: Allocator, R: Read, W: Write>(
 /// ```
 /// use os_str_bytes::Unix;
 /// use paths_commands::task::{OnPlatform, Task};
+/// use program_frame::lists::options::ListOptions;
 /// use program_frame::lists::refusals::KeepGoing;
 /// use program_frame::lists::run::run_with;
 /// use program_frame::marked::Marked;
@@ -104,7 +105,7 @@ pub fn run<T: ListTask, A: Allocator, R: Read, W: Write>(
 /// let paths: &[u8] = b"a/../b\0../c\0d/./e\0";
 /// let mut taken = Vec::new(alloc);
 /// let (mut reader, mut writer) = (Marked::new(paths), Marked::new(&mut taken));
-/// let task = OnPlatform::<Unix>::new(Task::Normalize, 255);
+/// let task = OnPlatform::<Unix>::new(Task::Normalize, ListOptions::new(255));
 /// let mut refusals = KeepGoing::new("paths", &rt);
 /// assert!(rt; run_with(alloc, &task, &mut refusals, &mut reader, &mut writer).is_ok());
 /// assert_eq!(rt; refusals.count(), 1);
