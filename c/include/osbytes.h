@@ -460,7 +460,8 @@ typedef enum osb_join_reason {
     OSB_JOIN_STREAM = 4,   /* a name of a Windows path has a colon */
     OSB_JOIN_RESERVED = 5, /* a name of a Windows path is reserved, as nul.txt, has one of <>"|?* or a
                             * control character, or ends with a space or a dot, which Windows removes */
-    OSB_JOIN_BASE = 6,     /* the base of Windows is incomplete, as \\server, or has a reserved name, as C:\nul */
+    OSB_JOIN_BASE = 6,     /* the base of Windows is incomplete, as \\server, has a reserved name, as C:\nul, or has a
+                            * separator after \\?\ that Windows reads otherwise, as \\?\C:/a */
     OSB_JOIN_NUL = 7,      /* the path has a NUL, at which every system ends it */
     OSB_JOIN_BASE_NUL = 8  /* the base has one */
 } osb_join_reason;
