@@ -79,7 +79,6 @@ pub fn above_and_below<A: Allocator + Copy>(
 }
 
 /// Whether it is the one file of a tree that decides a path, if a line does: always.
-#[tactic(auto, using(crate::proofs::OneFile::its_number))]
 pub fn is_decided_by_first<A: Allocator + Copy>(
     alloc: A,
     content: &[u8],
