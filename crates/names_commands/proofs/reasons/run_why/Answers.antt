@@ -29,5 +29,5 @@ pub invariant_of-reasons : goal.invariant_of-reasons
 invariant_of-reasons g c =
     let values = c.as_slice-values.result.now in
     let files = files_of c.in-Ok.ignore in record {
-      known = subst (λ n. LinesAreKnown n files) (length-map values text_of) (known_lines (g.F.Files.known c.args.files.now) (map text_of values) files c.in-Ok.ensures);
+      known = subst (λ n. LinesAreKnown n files) (length-map values text_of) (known_lines c.known_line.ensures (g.F.Files.known c.args.files.now) (map text_of values) files c.in-Ok.ensures);
     }
