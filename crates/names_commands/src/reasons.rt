@@ -9,6 +9,7 @@ use crate::command::Request;
 use crate::fault::Fault;
 use crate::ignoring::read_ignore;
 use crate::why::Reasons;
+use os_ignore::IgnoreOptions;
 use os_ignore::laws::known_line;
 use os_str_bytes::Platform;
 use program_frame::files::Files;
@@ -35,7 +36,10 @@ pub(crate) fn run_why<E: Platform, F: Files, A: Allocator + Copy, R: Read, W: Wr
 {
     known_line::<A>();
     let values = request.files.as_slice();
-    match read_ignore(alloc, files, values) {
+    let options = IgnoreOptions {
+        case_insensitive: request.case_insensitive,
+    };
+    match read_ignore(alloc, files, options, values) {
         Ok(ignore) => {
             let reasons = Reasons {
                 values,

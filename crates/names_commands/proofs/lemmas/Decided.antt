@@ -2,7 +2,7 @@
 use Rattle.std.proofs.Common.{◌≡◌, ◌+◌, ◌<◌, ◌≤◌, ℕ, Bool, true, false, Option, Some, None, List, [], ◌∷◌, ◌++◌, length, sym, ap, ◌∙◌, subst, arith}
 use Rattle.std.proofs.lemmas.List.{length-append, length-map}
 use Rattle.std.specs.List.{AllByRecursion}
-use Rattle.os_ignore.specs.Ignores.{HasLineOf, HasNoText, IsAdded}
+use Rattle.os_ignore.specs.Ignores.{HasLineOf, HasNoText, IsAddedTo}
 use Rattle.os_ignore.specs.Verdicts as rule
 use Rattle.os_ignore.specs.Verdicts.{Decides, IsOwn, IsVerdict}
 use Rattle.os_ignore.specs.declared.file.File.{File}
@@ -42,22 +42,22 @@ module _ {A : Type 0} where
     abbrev IsBelow : File A → Type 0
     IsBelow file = file.number < count
 
-    one_more : (directory content : List ℕ) (old new : List (File A)) → IsAdded directory content old new → length old < count → AllByRecursion IsBelow old → AllByRecursion IsBelow new
-    one_more directory content old new i few a =
+    one_more : (folds : Bool) (directory content : List ℕ) (old new : List (File A)) → IsAddedTo folds directory content old new → length old < count → AllByRecursion IsBelow old → AllByRecursion IsBelow new
+    one_more folds directory content old new i few a =
         let number = i.file_is.number_is in
         subst (AllByRecursion IsBelow) (sym i.joined) (between IsBelow i.before i.file i.place.after (subst (AllByRecursion IsBelow) i.place.joined a) (omega (arith, number, few)))
 
-    its_length : (directory content : List ℕ) (old new : List (File A)) → IsAdded directory content old new → length new ≡ length old + 1
-    its_length directory content old new i =
+    its_length : (folds : Bool) (directory content : List ℕ) (old new : List (File A)) → IsAddedTo folds directory content old new → length new ≡ length old + 1
+    its_length folds directory content old new i =
         let all = ap length i.joined ∙ length-append i.before (i.file ∷ i.place.after) in
         let others = ap length i.place.joined ∙ length-append i.before i.place.after in
         omega (arith, all, others)
 
-    all_more : (reads : List FileRead) (old new : List (File A)) → AreAdded reads old new → length old + length reads ≤ count → AllByRecursion IsBelow old → AllByRecursion IsBelow new
-    all_more [] old new e few a = subst (AllByRecursion IsBelow) (sym e) a
-    all_more (read ∷ reads) old new m few a =
-        let longer = its_length read.directory read.content old m.0 m.1 in
-        all_more reads m.0 new m.2 (omega (arith, longer, few)) (one_more read.directory read.content old m.0 m.1 (omega (arith, few)) a)
+    all_more : (folds : Bool) (reads : List FileRead) (old new : List (File A)) → AreAdded folds reads old new → length old + length reads ≤ count → AllByRecursion IsBelow old → AllByRecursion IsBelow new
+    all_more folds [] old new e few a = subst (AllByRecursion IsBelow) (sym e) a
+    all_more folds (read ∷ reads) old new m few a =
+        let longer = its_length folds read.directory read.content old m.0 m.1 in
+        all_more folds reads m.0 new m.2 (omega (arith, longer, few)) (one_more folds read.directory read.content old m.0 m.1 (omega (arith, few)) a)
 
     -- a file that decides is one of the files
     module _ (files : List (File A)) (a : AllByRecursion IsBelow files) where
@@ -88,8 +88,8 @@ module _ {A : Type 0} where
     of_numbers files (Ignored f l) file line e below has = same files f l file line e below has
     of_numbers files (TakenIn f l) file line e below has = same files f l file line e below has
 
-  pub known_lines : ((files : List (File A)) (path : List ℕ) (is_dir : Bool) (v : Verdict) → IsVerdict files path is_dir v → HasLineOf files v) → (known : KnownFiles) (values : List (List ℕ)) (files : List (File A)) → AreRead known values files → LinesAreKnown (length values) files
-  known_lines has_line known values files r name file line d =
+  pub known_lines : ((files : List (File A)) (path : List ℕ) (is_dir : Bool) (v : Verdict) → IsVerdict files path is_dir v → HasLineOf files v) → (known : KnownFiles) (folds : Bool) (values : List (List ℕ)) (files : List (File A)) → AreRead known folds values files → LinesAreKnown (length values) files
+  known_lines has_line known folds values files r name file line d =
       let few = ap length r.values_are ∙ length-map r.reads value_of in
-      let all = all_more (length values) r.reads [] files r.added (omega (arith, few)) tt in
+      let all = all_more (length values) folds r.reads [] files r.added (omega (arith, few)) tt in
       of_numbers (length values) files d.verdict file line d.numbers_are (of_verdict (length values) files all d.path d.is_dir d.verdict d.verdict_is) (has_line files d.path d.is_dir d.verdict d.verdict_is)
