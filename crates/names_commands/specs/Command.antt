@@ -6,6 +6,7 @@ use Rattle.glob_patterns.specs.Options.{usual_options}
 use Rattle.os_args.specs.Reading.{UnexpectedArgument}
 use Rattle.os_args.specs.Views.{fault_of}
 use Rattle.os_args.specs.Word.{Value}
+use Rattle.wildcards.specs.declared.separators.Separators.{Separators}
 use Rattle.wildcards.specs.declared.separators.Separators.TheVariants.{Slash, SlashAndBackslash}
 use Rattle.program_frame.specs.Arguments.{AreValues, HasOption, LastValue, operands_of, text_of}
 use Rattle.program_frame.specs.ListOptions.{AreStated}
@@ -93,6 +94,11 @@ TakesOption name.Join option.Invert = ⊥
 TakesOption name.Filter option.Invert = Unit {0}
 TakesOption name.Why option.Invert = ⊥
 TakesOption name.Check option.Invert = ⊥
+TakesOption name.List option.IgnoreCase = Unit {0}
+TakesOption name.Join option.IgnoreCase = ⊥
+TakesOption name.Filter option.IgnoreCase = Unit {0}
+TakesOption name.Why option.IgnoreCase = Unit {0}
+TakesOption name.Check option.IgnoreCase = ⊥
 
 -- the command takes the option, if this is one
 abbrev pub FitsOne : Name → Given NamesOption → Type 0
@@ -189,7 +195,7 @@ IsMax given max =
 abbrev pub IsListed : Line → ListOptions → Type 0
 IsListed given list = (max : ℕ) × (IsMax given max × AreStated option.Lines option.Unterminated max given list)
 
--- all that options and operands state: the command, how the list is written, the patterns, of which the first `plain` come before those of `--name`, the values of `--ignore`, and whether the names are picked that don't match
+-- all that options and operands state: the command, how the list is written, the patterns, of which the first `plain` come before those of `--name`, the values of `--ignore`, whether the names are picked that don't match, and whether patterns and files match without regard to case
 pub record Asked : Type 0 where
   pub command : Command
   pub list : ListOptions
@@ -197,6 +203,7 @@ pub record Asked : Type 0 where
   pub globs : List (List ℕ)
   pub files : List (List ℕ)
   pub inverted : Bool
+  pub case_insensitive : Bool
 
 -- what a request states
 abbrev pub asked_of : {A : Type 0} → Request A → Asked
@@ -207,11 +214,12 @@ asked_of request = record {
   globs = map string_bytes request.patterns.items;
   files = map text_of request.files.items;
   inverted = request.inverted;
+  case_insensitive = request.case_insensitive;
 }
 
--- these state the patterns, the ignore files, and whether the other names are picked
+-- these state the patterns, the ignore files, whether the other names are picked, and whether case is disregarded
 abbrev pub StatesPicks : Line → Asked → Type 0
-StatesPicks given a = ArePatterns given a.plain a.globs × (AreValues option.Ignore given a.files × (IsTrue a.inverted ↔ HasOption option.Invert given))
+StatesPicks given a = ArePatterns given a.plain a.globs × (AreValues option.Ignore given a.files × ((IsTrue a.inverted ↔ HasOption option.Invert given) × (IsTrue a.case_insensitive ↔ HasOption option.IgnoreCase given)))
 
 -- these make up the request: help, wherever its option is; the version; or a command
 abbrev pub AsksFor : Line → Asked → Type 0
@@ -251,6 +259,7 @@ IsForPlatform os option.Glob = Unit {0}
 IsForPlatform os option.Name = Unit {0}
 IsForPlatform os option.Ignore = TakesIgnore os
 IsForPlatform os option.Invert = Unit {0}
+IsForPlatform os option.IgnoreCase = Unit {0}
 
 -- which option isn't for the command that is given, or for its platform
 pub record IsMisplaced (given : Line) (word where_to : List ℕ) : Type 0 where
@@ -290,8 +299,16 @@ abbrev pub IsRequestError : Line → RequestError → Type 0
 IsRequestError given (OfMisuse misuse) = IsRejected given misuse
 IsRequestError given Memory = Unit {0}
 
--- how a pattern is matched on the platform: `\` is a separator on Windows alone
-abbrev pub options_of : Os → GlobOptions
-options_of Unix = usual_options Slash
-options_of Windows = usual_options SlashAndBackslash
-options_of Wasm = usual_options Slash
+-- what separates components on the platform: `\` does on Windows alone
+abbrev pub separators_of : Os → Separators
+separators_of Unix = Slash
+separators_of Windows = SlashAndBackslash
+separators_of Wasm = Slash
+
+-- these options, with regard to case or without
+abbrev pub with_case : Bool → GlobOptions → GlobOptions
+with_case case_insensitive o = record { separators = o.separators; literal_leading_dot = o.literal_leading_dot; escapes = o.escapes; class_escapes = o.class_escapes; case_insensitive = case_insensitive }
+
+-- how a pattern is matched on the platform, without regard to case where that is requested
+abbrev pub options_of : Os → Bool → GlobOptions
+options_of os case_insensitive = with_case case_insensitive (usual_options (separators_of os))

@@ -2,7 +2,7 @@
 use Rattle.std.specs.Prelude.{◌≡◌, ◌≢◌, ◌⊎◌, ◌+◌, ℕ, Bool, true, false, nat_eq, ◌&&◌, cond, List, [], ◌∷◌, ◌++◌, map, length}
 use Rattle.std.specs.List.{AllByRecursion}
 use denote.Ref.{Bor}
-use Rattle.os_ignore.specs.Ignores.{IsAdded}
+use Rattle.os_ignore.specs.Ignores.{IsAddedTo}
 use Rattle.os_ignore.specs.Verdicts.{IsVerdict, is_ignored}
 use Rattle.os_ignore.specs.declared.file.File.{File}
 use Rattle.os_ignore.specs.declared.verdict.Verdict.{Verdict}
@@ -60,23 +60,23 @@ module _ {A : Type 0} where
     pub verdict_is : IsVerdict files path is_dir verdict
     pub ignored : is_ignored verdict ≡ true
 
-  -- files were added, one after the other, each in its directory
-  abbrev pub AreAdded : List FileRead → List (File A) → List (File A) → Type 0
-  AreAdded [] old new = new ≡ old
-  AreAdded (read ∷ reads) old new = (mid : List (File A)) × IsAdded read.directory read.content old mid × AreAdded reads mid new
+  -- files were added, one after the other, each in its directory, without regard to case if they fold it
+  abbrev pub AreAdded : Bool → List FileRead → List (File A) → List (File A) → Type 0
+  AreAdded folds [] old new = new ≡ old
+  AreAdded folds (read ∷ reads) old new = (mid : List (File A)) × IsAddedTo folds read.directory read.content old mid × AreAdded folds reads mid new
 
-  -- the files that these values state were read, and their lines are those of the files
-  pub record AreRead (known : KnownFiles) (values : List (List ℕ)) (files : List (File A)) : Type 0 where
+  -- the files that these values state were read, and their lines are those of the files, without regard to case if they fold it
+  pub record AreRead (known : KnownFiles) (folds : Bool) (values : List (List ℕ)) (files : List (File A)) : Type 0 where
     pub reads : List FileRead
     pub values_are : values ≡ map value_of reads
     pub have : AllByRecursion (WasRead known) reads
-    pub added : AreAdded reads [] files
+    pub added : AreAdded folds reads [] files
 
 -- the first of the values whose file isn't read, and its number, counted from 1
-pub record IsFirstUnread (A : Type 0) (known : KnownFiles) (values : List (List ℕ)) (number : ℕ) (value : List ℕ) : Type 0 where
+pub record IsFirstUnread (A : Type 0) (known : KnownFiles) (folds : Bool) (values : List (List ℕ)) (number : ℕ) (value : List ℕ) : Type 0 where
   pub before : List (List ℕ)
   pub after : List (List ℕ)
   pub joined : values ≡ before ++ value ∷ after
   pub number_is : number ≡ length before + 1
   pub files : List (File A)
-  pub read : AreRead known before files
+  pub read : AreRead known folds before files

@@ -2,7 +2,7 @@
 use Rattle.std.specs.Prelude.{◌≡◌, ℕ, Bool, true, false, List, codes}
 use Rattle.os_args.specs.Word.{Kind, Long, LongBytes, Short, ShortBytes, Value}
 use Rattle.names_commands.specs.declared.option.NamesOption.{NamesOption}
-use Rattle.names_commands.specs.declared.option.NamesOption.TheVariants.{Help, Version, Max, Sh, ShLine, Lines, Unterminated, Empty, Glob, Name, Ignore, Invert}
+use Rattle.names_commands.specs.declared.option.NamesOption.TheVariants.{Help, Version, Max, Sh, ShLine, Lines, Unterminated, Empty, Glob, Name, Ignore, Invert, IgnoreCase}
 
 -- the name of the option after `--`
 abbrev pub name_of : NamesOption → List ℕ
@@ -18,6 +18,7 @@ name_of Glob = codes "glob"
 name_of Name = codes "name"
 name_of Ignore = codes "ignore"
 name_of Invert = codes "invert"
+name_of IgnoreCase = codes "ignore-case"
 
 -- the option as it is written
 abbrev pub word_of : NamesOption → List ℕ
@@ -33,8 +34,9 @@ word_of Glob = codes "--glob"
 word_of Name = codes "--name"
 word_of Ignore = codes "--ignore"
 word_of Invert = codes "--invert"
+word_of IgnoreCase = codes "--ignore-case"
 
--- this character after `-` is the option, too: h, V and v
+-- this character after `-` is the option, too: h, V, v and i
 abbrev pub IsFlagOf : NamesOption → ℕ → Type 0
 IsFlagOf Help c = c ≡ 0x68
 IsFlagOf Version c = c ≡ 0x56
@@ -48,6 +50,7 @@ IsFlagOf Glob c = ⊥
 IsFlagOf Name c = ⊥
 IsFlagOf Ignore c = ⊥
 IsFlagOf Invert c = c ≡ 0x76
+IsFlagOf IgnoreCase c = c ≡ 0x69
 
 -- the argument is the option
 abbrev pub spelled : NamesOption → Kind → Type 0
@@ -71,3 +74,4 @@ has_value Glob = true
 has_value Name = true
 has_value Ignore = true
 has_value Invert = false
+has_value IgnoreCase = false

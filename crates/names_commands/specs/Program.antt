@@ -87,36 +87,36 @@ IsOfPatterns p o plain texts why = (index : ℕ) × (fault : PatternFault) × (f
 -- where this is known of files, and memory is taken of an allocator of this type:
 module _ (known : KnownFiles) (A : Type 0) where
   -- why an ignore file can't be read: no file has the name, or it isn't read
-  abbrev pub IsFileFault : List (List ℕ) → CommandFault → Type 0
-  IsFileFault names Unreadable = ⊥
-  IsFileFault names (Misuse text) = ⊥
-  IsFileFault names (Pattern number why lines) = ⊥
-  IsFileFault values (NoFile number) = (value : List ℕ) × IsFirstUnread A known values number value × LacksFile known value
-  IsFileFault values (Unread number) = (value : List ℕ) × IsFirstUnread A known values number value
+  abbrev pub IsFileFault : Bool → List (List ℕ) → CommandFault → Type 0
+  IsFileFault folds values Unreadable = ⊥
+  IsFileFault folds values (Misuse text) = ⊥
+  IsFileFault folds values (Pattern number why lines) = ⊥
+  IsFileFault folds values (NoFile number) = (value : List ℕ) × IsFirstUnread A known folds values number value × LacksFile known value
+  IsFileFault folds values (Unread number) = (value : List ℕ) × IsFirstUnread A known folds values number value
 
   -- why ignore files can't be read: that, or that memory was refused
-  abbrev pub IsFaultOf : List (List ℕ) → Fault → Type 0
-  IsFaultOf names fault = (fault ≡ OfList (Run Memory)) ⊎ ((why : CommandFault) × IsFileFault names why × (fault ≡ Words why))
+  abbrev pub IsFaultOf : Bool → List (List ℕ) → Fault → Type 0
+  IsFaultOf folds values fault = (fault ≡ OfList (Run Memory)) ⊎ ((why : CommandFault) × IsFileFault folds values why × (fault ≡ Words why))
 
   -- the run ends with the first ignore file that can't be read. Or it writes these names, but for those that the files ignore, or, inverted, the others, on a platform that states this of its strings, from a list that is written so
-  abbrev pub RunsBut : {E : Type 0} → Ghosts E → Form → ListOptions → Bool → (List ℕ → Type 0) → List (List ℕ) → Doing
-  RunsBut p shape list inverted Chosen names input left old new answer =
-      ((why : CommandFault) × IsFileFault names why × EndsAtOnce (Words why) input left old new answer)
-      ⊎ ((files : List (File A)) × AreRead known names files × Runs (picking p shape list (IsPicked inverted Chosen files)) OfList input left old new answer)
+  abbrev pub RunsBut : {E : Type 0} → Ghosts E → Form → ListOptions → Bool → Bool → (List ℕ → Type 0) → List (List ℕ) → Doing
+  RunsBut p shape list inverted folds Chosen values input left old new answer =
+      ((why : CommandFault) × IsFileFault folds values why × EndsAtOnce (Words why) input left old new answer)
+      ⊎ ((files : List (File A)) × AreRead known folds values files × Runs (picking p shape list (IsPicked inverted Chosen files)) OfList input left old new answer)
 
   -- where this is requested, on a platform that states this of its strings:
   module _ {E : Type 0} (p : Ghosts E) (asked : Asked) where
     -- the run ends with the first ignore file that can't be read. Or it writes the lines of the files that decide names, and these names
     abbrev pub RunsReasons : Doing
     RunsReasons input left old new answer =
-        ((why : CommandFault) × IsFileFault asked.files why × EndsAtOnce (Words why) input left old new answer)
-        ⊎ ((files : List (File A)) × AreRead known asked.files files × Runs (deciding p asked.list asked.files files) OfList input left old new answer)
+        ((why : CommandFault) × IsFileFault asked.case_insensitive asked.files why × EndsAtOnce (Words why) input left old new answer)
+        ⊎ ((files : List (File A)) × AreRead known asked.case_insensitive asked.files files × Runs (deciding p asked.list asked.files files) OfList input left old new answer)
 
     -- the run ends with the first of the patterns that has a fault. Or it writes in this form the names that one of them matches, or all where there are none, but for those that the files ignore; or, inverted, the others
     abbrev pub RunsPicked : Os → Form → Doing
     RunsPicked os shape input left old new answer =
-        ((index : ℕ) × (fault : PatternFault) × (first : IsFirstFault p (options_of os) asked.globs index fault) × (why : Fault) × IsOfPattern (added_before asked.plain index) (index + 1) first.text fault why × EndsAtOnce why input left old new answer)
-        ⊎ ((written : List (List (List Mark))) × AreWrittenOut p (options_of os) asked.globs written × RunsBut p shape asked.list asked.inverted (IsChosen p (options_of os) written) asked.files input left old new answer)
+        ((index : ℕ) × (fault : PatternFault) × (first : IsFirstFault p (options_of os asked.case_insensitive) asked.globs index fault) × (why : Fault) × IsOfPattern (added_before asked.plain index) (index + 1) first.text fault why × EndsAtOnce why input left old new answer)
+        ⊎ ((written : List (List (List Mark))) × AreWrittenOut p (options_of os asked.case_insensitive) asked.globs written × RunsBut p shape asked.list asked.inverted asked.case_insensitive (IsChosen p (options_of os asked.case_insensitive) written) asked.files input left old new answer)
 
     -- what is done with a list
     abbrev pub DoesWork : Os → Work → Doing

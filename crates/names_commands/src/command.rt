@@ -38,6 +38,8 @@ pub struct Request<'a, A: Allocator = Global> {
     pub files: Vec<&'a str, A>,
     /// Whether the names are picked that don't match.
     pub inverted: bool,
+    /// Whether patterns and ignore files match without regard to case.
+    pub case_insensitive: bool,
 }
 
 /// Why options and operands make up no request.
@@ -111,6 +113,7 @@ impl<'a, A: Allocator + Copy> Request<'a, A> {
         let (patterns, plain) = patterns_of(alloc, given)?;
         let files = values(alloc, given, NamesOption::Ignore)?;
         let inverted = has(given, NamesOption::Invert);
+        let case_insensitive = has(given, NamesOption::IgnoreCase);
         Ok(Request {
             command,
             list,
@@ -118,6 +121,7 @@ impl<'a, A: Allocator + Copy> Request<'a, A> {
             plain,
             files,
             inverted,
+            case_insensitive,
         })
     }
 
@@ -132,6 +136,7 @@ impl<'a, A: Allocator + Copy> Request<'a, A> {
             plain: 0,
             files: Vec::new(alloc),
             inverted: false,
+            case_insensitive: false,
         }
     }
 }
@@ -198,7 +203,7 @@ impl Name {
                 Name::Join => true,
                 Name::List | Name::Filter | Name::Why | Name::Check => false,
             },
-            NamesOption::Ignore => match self {
+            NamesOption::Ignore | NamesOption::IgnoreCase => match self {
                 Name::List | Name::Filter | Name::Why => true,
                 Name::Join | Name::Check => false,
             },

@@ -1,7 +1,7 @@
 //! What options and operands state: a limit, what picks names, and how they are written.
 ghost use Rattle.std.specs.Prelude.{◌≡◌, ◌↔◌, [], IfOk, IfErr, IsTrue, MatchOption};
 ghost use Rattle.program_frame.specs.Arguments.{HasOption, operands_of};
-ghost use Rattle.names_commands.specs.Command.{HasOperands, IsEmptyLine, IsForm, IsListed, IsMax, IsMisuse, IsWordOption, NoWords, OptionsPick, Picks, TakesOption, options_of};
+ghost use Rattle.names_commands.specs.Command.{HasOperands, IsEmptyLine, IsForm, IsListed, IsMax, IsMisuse, IsWordOption, NoWords, OptionsPick, Picks, TakesOption, options_of, separators_of};
 ghost use Rattle.names_commands.specs.Pick.{TakesIgnore};
 ghost use Rattle.names_commands.specs.declared.option.NamesOption.TheVariants.{Glob, Ignore};
 
@@ -122,12 +122,21 @@ pub(crate) fn empty_line(given: Line<'_, '_>) -> EmptyLine
     }
 }
 
-/// How a pattern is matched on a platform: `\` is a separator on Windows alone.
-pub(crate) fn options_of(os: Os) -> GlobOptions
-    ensures { result ≡ options_of os }
+/// How a pattern is matched on a platform, without regard to case where that is requested.
+pub(crate) fn options_of(os: Os, case_insensitive: bool) -> GlobOptions
+    ensures { result ≡ options_of os case_insensitive }
 {
-    GlobOptions::new(match os {
+    let mut options = GlobOptions::new(separators_of(os));
+    options.case_insensitive = case_insensitive;
+    options
+}
+
+/// What separates components on a platform: `\` does on Windows alone.
+fn separators_of(os: Os) -> Separators
+    ensures { result ≡ separators_of os }
+{
+    match os {
         Os::Unix | Os::Wasm => Separators::Slash,
         Os::Windows => Separators::SlashAndBackslash,
-    })
+    }
 }

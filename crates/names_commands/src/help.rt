@@ -25,6 +25,8 @@ PLATFORM is unix, windows or wasm. Options may stand anywhere; -- ends them.
                    with DIR=FILE, as that of the folder DIR does
                    why: the names that a line of it decides, after that line
   -v, --invert     list, filter: pick the others
+  -i, --ignore-case
+                   list, filter, why: GLOB and FILE match without regard to case
   --sh             list, join: words that every POSIX shell reads as the names (unix)
   --sh-line        list, join: words on one line, for bash, zsh, ksh93, mksh and busybox (unix)
   --lines          a newline ends each name that is read or written, and not NUL; names with a newline are rejected

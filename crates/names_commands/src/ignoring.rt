@@ -1,6 +1,6 @@
 //! Names that ignore files leave out.
 ghost use Rattle.std.specs.Prelude.{◌≡◌, ◌↔◌, ◌⊎◌, ◌+◌, ◌<◌, ◌∷◌, [], ℕ, List, map, length, drop, IsTrue, IfErr, IfOk, IfSome, MatchOption, MatchResult, OnOk};
-ghost use Rattle.os_ignore.specs.Ignores.{IsAdded, files_of};
+ghost use Rattle.os_ignore.specs.Ignores.{IsAddedTo, files_of};
 ghost use Rattle.os_ignore.specs.Walks.{files_of_walk};
 ghost use Rattle.names_commands.specs.Ignoring.{AreRead, IsDirectory, IsFileIn, IsIgnored, IsPath, text_of, without_dot};
 ghost use Rattle.names_commands.specs.Why.{IsDecided, numbers_of};
@@ -11,7 +11,7 @@ ghost use Rattle.names_commands.specs.Program.{IsFaultOf, IsFaultOfOne};
 ghost use Rattle.names_commands.specs.declared.fault.CommandFault.TheVariants.{NoFile, Unread};
 
 use crate::fault::{CommandFault, Fault};
-use os_ignore::{Ignore, Verdict, Walk};
+use os_ignore::{Ignore, IgnoreOptions, Verdict, Walk};
 use program_frame::fault::Failure;
 use program_frame::files::{FileFault, Files};
 use program_frame::lists::fault::ListFault;
@@ -71,18 +71,21 @@ fn numbers_of(verdict: Verdict) -> Option<(usize, usize)>
     }
 }
 
-/// Reads the ignore files that values of `--ignore` state.
+/// Reads the ignore files that values of `--ignore` state, with options.
 pub fn read_ignore<F: Files, A: Allocator + Copy>(
     alloc: A,
     files: &F,
+    options: IgnoreOptions,
     values: &[&str],
 ) -> Result<Ignore<A>, Fault>
     ensures { MatchResult result
-        (λ ignore. AreRead (F.known files.now) (map text_of values.now) (files_of ignore))
-        (λ fault. IsFaultOf (F.known files.now) A (map text_of values.now) fault) }
+        (λ ignore. AreRead (F.known files.now) options.case_insensitive (map text_of values.now)
+        (files_of ignore))
+        (λ fault. IsFaultOf (F.known files.now) A options.case_insensitive
+        (map text_of values.now) fault) }
 {
     let mut ignore = Ignore::empty(alloc);
-    add_files(alloc, files, values, &mut ignore)?;
+    add_files(alloc, files, options, values, &mut ignore)?;
     Ok(ignore)
 }
 
@@ -90,18 +93,19 @@ pub fn read_ignore<F: Files, A: Allocator + Copy>(
 fn add_files<F: Files, A: Allocator + Copy>(
     alloc: A,
     files: &F,
+    options: IgnoreOptions,
     values: &[&str],
     ignore: &mut Ignore<A>,
 ) -> Result<(), Fault>
     requires { files_of ignore.old ≡ [] }
-    ensures read { OnOk result (AreRead (F.known files.now) (map text_of values.now)
-        (files_of ignore.new)) }
-    ensures fault { IfErr result (λ fault.
-        IsFaultOf (F.known files.now) A (map text_of values.now) fault) }
+    ensures read { OnOk result (AreRead (F.known files.now) options.case_insensitive
+        (map text_of values.now) (files_of ignore.new)) }
+    ensures fault { IfErr result (λ fault. IsFaultOf (F.known files.now) A
+        options.case_insensitive (map text_of values.now) fault) }
 {
     let mut added = 0;
     while let Some(value) = value_at(values, added) {
-        match add_file(alloc, files, added + 1, value, ignore) {
+        match add_file(alloc, files, options, added + 1, value, ignore) {
             Ok(()) => {}
             Err(fault) => return Err(fault),
         }
@@ -158,19 +162,21 @@ fn directory_of(word: &[u8]) -> &[u8]
 fn add_file<F: Files, A: Allocator + Copy>(
     alloc: A,
     files: &F,
+    options: IgnoreOptions,
     number: usize,
     value: &str,
     ignore: &mut Ignore<A>,
 ) -> Result<(), Fault>
     ensures added { OnOk result ((directory : List ℕ) × (name : List ℕ) × (bytes : List ℕ)
         × (IsFileIn value.now directory name × ((F.known files.now).has name bytes
-        × IsAdded directory bytes (files_of ignore.old) (files_of ignore.new)))) }
+        × IsAddedTo options.case_insensitive directory bytes (files_of ignore.old)
+        (files_of ignore.new)))) }
     ensures fault { IfErr result (λ fault.
         IsFaultOfOne (F.known files.now) number value.now fault) }
 {
     let (directory, name) = file_in(value.as_bytes());
     let bytes = read_file(alloc, files, number, name)?;
-    match ignore.add(alloc, directory, &bytes) {
+    match ignore.add_with(alloc, options, directory, &bytes) {
         Ok(()) => Ok(()),
         Err(_) => Err(Fault::List(ListFault::Run(Failure::Memory))),
     }

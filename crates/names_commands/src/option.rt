@@ -35,6 +35,8 @@ pub enum NamesOption {
     Ignore,
     /// `-v`, `--invert`: picks the names that would be left out, and leaves out the others.
     Invert,
+    /// `-i`, `--ignore-case`: patterns and ignore files match without regard to case.
+    IgnoreCase,
 }
 
 impl NamesOption {
@@ -61,6 +63,7 @@ impl NamesOption {
             NamesOption::Name => "--name",
             NamesOption::Ignore => "--ignore",
             NamesOption::Invert => "--invert",
+            NamesOption::IgnoreCase => "--ignore-case",
         }
     }
 }
@@ -90,7 +93,8 @@ impl ProgramOption for NamesOption {
             | NamesOption::Lines
             | NamesOption::Unterminated
             | NamesOption::Empty
-            | NamesOption::Invert => false,
+            | NamesOption::Invert
+            | NamesOption::IgnoreCase => false,
         }
     }
 
@@ -117,6 +121,7 @@ fn long_option(name: &str) -> Option<NamesOption>
         "name" => Some(NamesOption::Name),
         "ignore" => Some(NamesOption::Ignore),
         "invert" => Some(NamesOption::Invert),
+        "ignore-case" => Some(NamesOption::IgnoreCase),
         _ => None,
     }
 }
@@ -130,6 +135,7 @@ fn short_option(flag: char) -> Option<NamesOption>
         'h' => Some(NamesOption::Help),
         'V' => Some(NamesOption::Version),
         'v' => Some(NamesOption::Invert),
+        'i' => Some(NamesOption::IgnoreCase),
         _ => None,
     }
 }

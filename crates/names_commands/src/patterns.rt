@@ -5,7 +5,7 @@ ghost use Rattle.program_frame.specs.ProgramFault.{BlamesEnds};
 ghost use Rattle.program_frame.specs.declared.fault.Failure.TheVariants.{Memory};
 ghost use Rattle.program_frame.specs.declared.lists.fault.ListFault.TheVariants.{Run};
 ghost use Rattle.program_frame.specs.declared.lists.program_fault.Fault.TheVariants.{List as OfList};
-ghost use Rattle.names_commands.specs.Command.{asked_of, options_of};
+ghost use Rattle.names_commands.specs.Command.{asked_of};
 ghost use Rattle.names_commands.specs.Matching.{IsSetOf};
 ghost use Rattle.names_commands.specs.Program.{Did, IsOfPattern, IsOfPatterns, RunsPicked, UnlessOutOfMemory};
 
@@ -16,7 +16,8 @@ use crate::given::options_of;
 use crate::ignoring::read_ignore;
 use crate::matching::{Form, Matching};
 use crate::pick::{added_before, strings_of, typed, typed_fault};
-use glob_patterns::{GlobSet, GlobSetError, PatternFault};
+use glob_patterns::{GlobOptions, GlobSet, GlobSetError, PatternFault};
+use os_ignore::IgnoreOptions;
 use os_str_bytes::Platform;
 use program_frame::fault::Failure;
 use program_frame::files::Files;
@@ -46,11 +47,14 @@ pub(crate) fn run_picked<E: Platform, F: Files, A: Allocator + Copy, R: Read, W:
     ensures ends { BlamesEnds result (has_failed reader.new) (has_failed writer.new) }
 {
     let patterns = request.patterns.as_slice();
-    let set = match compiled::<E, A>(alloc, os, patterns, request.plain) {
+    let case_insensitive = request.case_insensitive;
+    let options = options_of(os, case_insensitive);
+    let set = match compiled::<E, A>(alloc, options, patterns, request.plain) {
         Ok(set) => set,
         Err(fault) => return Err(fault),
     };
-    let ignore = match read_ignore(alloc, files, request.files.as_slice()) {
+    let reading = IgnoreOptions { case_insensitive };
+    let ignore = match read_ignore(alloc, files, reading, request.files.as_slice()) {
         Ok(ignore) => ignore,
         Err(fault) => return Err(fault),
     };
@@ -68,21 +72,20 @@ pub(crate) fn run_picked<E: Platform, F: Files, A: Allocator + Copy, R: Read, W:
 /// The set of patterns.
 fn compiled<E: Platform, A: Allocator + Copy>(
     alloc: A,
-    os: Os,
+    options: GlobOptions,
     patterns: &[String<A>],
     plain: usize,
 ) -> Result<GlobSet<E, A>, Fault>
     ensures { MatchResult result
-        (λ set. IsSetOf ⟦<E as Platform>⟧ A (options_of os) (map string_bytes patterns.now) set)
+        (λ set. IsSetOf ⟦<E as Platform>⟧ A options (map string_bytes patterns.now) set)
         (λ fault. (fault ≡ OfList (Run Memory))
-        ⊎ IsOfPatterns ⟦<E as Platform>⟧ (options_of os) plain (map string_bytes patterns.now)
-        fault) }
+        ⊎ IsOfPatterns ⟦<E as Platform>⟧ options plain (map string_bytes patterns.now) fault) }
 {
     let Ok(strings) = strings_of::<E, A>(alloc, patterns) else {
         return Err(Fault::List(ListFault::Run(Failure::Memory)));
     };
     let globs = strings.as_slice();
-    match GlobSet::<E, A>::new(alloc, options_of(os), globs) {
+    match GlobSet::<E, A>::new(alloc, options, globs) {
         Ok(set) => Ok(set),
         Err(GlobSetError::Pattern(index, fault)) => {
             let pattern = globs[index].as_encoded_bytes();

@@ -9,6 +9,8 @@ use crate::command::Request;
 use crate::fault::Fault;
 use crate::ignoring::read_ignore;
 use crate::why::Reasons;
+use os_ignore::IgnoreOptions;
+use os_ignore::laws::known_line;
 use os_str_bytes::Platform;
 use program_frame::files::Files;
 use program_frame::lists::answers::run_list;
@@ -32,8 +34,12 @@ pub(crate) fn run_why<E: Platform, F: Files, A: Allocator + Copy, R: Read, W: Wr
         reader.old reader.new writer.old writer.new result }
     ensures ends { BlamesEnds result (has_failed reader.new) (has_failed writer.new) }
 {
+    known_line::<A>();
     let values = request.files.as_slice();
-    match read_ignore(alloc, files, values) {
+    let options = IgnoreOptions {
+        case_insensitive: request.case_insensitive,
+    };
+    match read_ignore(alloc, files, options, values) {
         Ok(ignore) => {
             let reasons = Reasons {
                 values,

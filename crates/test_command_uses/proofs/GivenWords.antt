@@ -74,6 +74,7 @@ only_ignore option.Glob e = let n : ◌≡◌ {A = ℕ} 103 108 = ap (λ w. get_
 only_ignore option.Name e = let n : ◌≡◌ {A = ℕ} 103 97 = ap (λ w. get_or w 1 0) e in absurd (omega (arith, n))
 only_ignore option.Ignore e = refl
 only_ignore option.Invert e = let n : ◌≡◌ {A = ℕ} 103 110 = ap (λ w. get_or w 1 0) e in absurd (omega (arith, n))
+only_ignore option.IgnoreCase e = let n : ◌≡◌ {A = ℕ} 0 45 = ap (λ w. get_or w 6 0) e in absurd (omega (arith, n))
 
 -- a step of reading has one outcome
 abbrev pub OneWord : Type 0

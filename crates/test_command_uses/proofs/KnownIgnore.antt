@@ -181,44 +181,43 @@ module _ (command platform value : Bor (List ℕ)) where
   no_version (inr (inr (inl h))) = let never : option.Ignore ≡ option.Version = h in cc
   no_version (inr (inr (inr h))) = h
 
-  no_invert : ¬ (HasOption option.Invert given_of)
-  no_invert (inl h) = h
-  no_invert (inr (inl h)) = h
-  no_invert (inr (inr (inl h))) = let never : option.Ignore ≡ option.Invert = h in cc
-  no_invert (inr (inr (inr h))) = h
+  -- so what another option states isn't stated
+  pub not_stated : (it : NamesOption) → (option.Ignore ≡ it → ⊥) → (stated : Bool) → (IsTrue stated ↔ HasOption it given_of) → stated ≡ false
+  not_stated it other true is = absurd (no_other it other (is.0 refl))
+  not_stated it other false is = refl
 
-  not_inverted : (inverted : Bool) → (IsTrue inverted ↔ HasOption option.Invert given_of) → inverted ≡ false
-  not_inverted true is = absurd (no_invert (is.0 refl))
-  not_inverted false is = refl
+  none_is_stated : (it : NamesOption) → (option.Ignore ≡ it → ⊥) → IsTrue false ↔ HasOption it given_of
+  none_is_stated it other = (λ e. let never : false ≡ true = e in absurd (cc), λ h. absurd (no_other it other h))
 
   none_stated : (it : NamesOption) → (option.Ignore ≡ it → ⊥) → AreValues it given_of []
   none_stated it other = inr (λ v h. h, inr (λ v h. h, inr (λ v h. other h.0, refl)))
 
   -- no pattern is stated, and this ignore file
-  pub states_one : (asked : Command) (list : ListOptions) → StatesPicks given_of (record { command = asked; list = list; plain = 0; globs = []; files = value.now ∷ []; inverted = false })
+  pub states_one : (asked : Command) (list : ListOptions) → StatesPicks given_of (record { command = asked; list = list; plain = 0; globs = []; files = value.now ∷ []; inverted = false; case_insensitive = false })
   states_one asked list = (
     ([], [], (none_stated option.Glob (λ e. cc), (none_stated option.Name (λ e. cc), (refl, refl)))),
-    (inr (λ v h. h, inr (λ v h. h, inl (value.now, [], ((refl, refl), (refl, refl))))), (λ e. let never : false ≡ true = e in absurd (cc), λ h. absurd (no_invert h))),
+    (inr (λ v h. h, inr (λ v h. h, inl (value.now, [], ((refl, refl), (refl, refl))))), (none_is_stated option.Invert (λ e. cc), none_is_stated option.IgnoreCase (λ e. cc))),
   )
 
 module _ (known : KnownFiles) (A : Type 0) (file : List ℕ) (input left old new : Option (List ℕ)) (answer : Result ⊤ Fault) where
   -- all names are written, but for those that the file ignores
   abbrev pub Filters : Type 0
-  Filters = UnlessOutOfMemory (RunsBut known A (strings Unix) Name usual false (IsChosen (strings Unix) (options_of Unix) []) (file ∷ [])) input left old new answer
+  Filters = UnlessOutOfMemory (RunsBut known A (strings Unix) Name usual false false (IsChosen (strings Unix) (options_of Unix false) []) (file ∷ [])) input left old new answer
 
   no_fault : (before after : List (List ℕ)) (text : List ℕ) → [] ≡ before ++ text ∷ after → ⊥
   no_fault [] after text e = cc
   no_fault (x ∷ before) after text e = let never : [] ≡ x ∷ (before ++ text ∷ after) = e in cc
 
   -- no pattern has a fault where there is none
-  ran : (asked : Asked) → asked.globs ≡ [] → asked.list ≡ usual → asked.inverted ≡ false → asked.files ≡ file ∷ [] → RunsPicked known A (strings Unix) asked Unix Name input left old new answer → Filters
-  ran asked globs list kept files (inl fault) = absurd (no_fault fault.2.before fault.2.after fault.2.text (sym globs ∙ fault.2.joined))
-  ran asked globs list kept files (inr compiled) =
-      let none : compiled.0 ≡ [] = subst (λ texts. AreWrittenOut (strings Unix) (options_of Unix) texts compiled.0) globs compiled.1 in
-      inr (subst (λ f. RunsBut known A (strings Unix) Name usual false (IsChosen (strings Unix) (options_of Unix) []) f input left old new answer) files
-      (subst (λ v. RunsBut known A (strings Unix) Name usual v (IsChosen (strings Unix) (options_of Unix) []) asked.files input left old new answer) kept
-      (subst (λ m. RunsBut known A (strings Unix) Name m asked.inverted (IsChosen (strings Unix) (options_of Unix) []) asked.files input left old new answer) list
-      (subst (λ w. RunsBut known A (strings Unix) Name asked.list asked.inverted (IsChosen (strings Unix) (options_of Unix) w) asked.files input left old new answer) none compiled.2))))
+  ran : (asked : Asked) → asked.globs ≡ [] → asked.list ≡ usual → asked.inverted ≡ false → asked.case_insensitive ≡ false → asked.files ≡ file ∷ [] → RunsPicked known A (strings Unix) asked Unix Name input left old new answer → Filters
+  ran asked globs list kept cased files (inl fault) = absurd (no_fault fault.2.before fault.2.after fault.2.text (sym globs ∙ fault.2.joined))
+  ran asked globs list kept cased files (inr compiled) =
+      let none : compiled.0 ≡ [] = subst (λ texts. AreWrittenOut (strings Unix) (options_of Unix asked.case_insensitive) texts compiled.0) globs compiled.1 in
+      inr (subst (λ f. RunsBut known A (strings Unix) Name usual false false (IsChosen (strings Unix) (options_of Unix false) []) f input left old new answer) files
+      (subst (λ v. RunsBut known A (strings Unix) Name usual v false (IsChosen (strings Unix) (options_of Unix false) []) asked.files input left old new answer) kept
+      (subst (λ m. RunsBut known A (strings Unix) Name m asked.inverted false (IsChosen (strings Unix) (options_of Unix false) []) asked.files input left old new answer) list
+      (subst (λ w. RunsBut known A (strings Unix) Name asked.list asked.inverted false (IsChosen (strings Unix) (options_of Unix false) w) asked.files input left old new answer) none
+      (subst (λ z. RunsBut known A (strings Unix) Name asked.list asked.inverted z (IsChosen (strings Unix) (options_of Unix z) compiled.0) asked.files input left old new answer) cased compiled.2)))))
 
   module _ (command platform value : Bor (List ℕ)) (is_command : command.now ≡ codes "filter") (is_platform : platform.now ≡ codes "unix") (is_file : value.now ≡ file) where
     abbrev given : Line
@@ -232,7 +231,7 @@ module _ (known : KnownFiles) (A : Type 0) (file : List ℕ) (input left old new
         let of_names : patterns.1 ≡ [] = no_values command platform value option.Name (λ e. cc) patterns.1 patterns.2.1.0 in
         let globs_are : asked.globs ≡ [] = patterns.2.1.1.0 ∙ ap (λ x. x ++ map in_any_folder patterns.1) more ∙ ap (map in_any_folder) of_names in
         let files_are : asked.files ≡ file ∷ [] = one_file command platform value asked.files states.1.0 ∙ ap (λ x. x ∷ []) is_file in
-        ran asked globs_are is_usual (not_inverted command platform value asked.inverted states.1.1) files_are runs
+        ran asked globs_are is_usual (not_stated command platform value option.Invert (λ e. cc) asked.inverted states.1.1.0) (not_stated command platform value option.IgnoreCase (λ e. cc) asked.case_insensitive states.1.1.1) files_are runs
 
     -- the operands are those of one command
     operands : HasOperands given name.Filter Unix []
@@ -275,7 +274,7 @@ module _ (known : KnownFiles) (A : Type 0) (file : List ℕ) (input left old new
     makes_up = ([], (operands, ((tt, (tt, (tt, tt))), (tt, (inr (inr (inl (inr (inr (inl refl))))), λ h. tt)))))
 
     some : (asked : Asked) × AsksFor given asked
-    some = (record { command = On Unix (Picked Name); list = usual; plain = 0; globs = []; files = value.now ∷ []; inverted = false }, inr (no_help command platform value, inr (no_version command platform value, (is_usual command platform value, (makes_up, states_one command platform value (On Unix (Picked Name)) usual)))))
+    some = (record { command = On Unix (Picked Name); list = usual; plain = 0; globs = []; files = value.now ∷ []; inverted = false; case_insensitive = false }, inr (no_help command platform value, inr (no_version command platform value, (is_usual command platform value, (makes_up, states_one command platform value (On Unix (Picked Name)) usual)))))
 
     not_rejected : RejectsLine known A given input left old new answer → ⊥
     not_rejected r = r.2.0.0.no_request some.0 some.1
@@ -305,7 +304,7 @@ at_top value directory name lacks (inr placed) = absurd (has_end 0x3D value plac
 
 -- the file that was read is the only one
 module _ {A : Type 0} (name bytes : List ℕ) where
-  pub only_read : (files : List (File A)) → Lacks 0x3D name → AreRead (only name bytes) (name ∷ []) files → IsOnly bytes files
+  pub only_read : (files : List (File A)) → Lacks 0x3D name → AreRead (only name bytes) false (name ∷ []) files → IsOnly bytes files
   only_read files plain r = by r.reads r.values_are r.have r.added
     where
       one : (directory content : List ℕ) → directory ≡ [] → content ≡ bytes → (mid : List (File A)) → IsAdded directory content [] mid → files ≡ mid → IsOnly bytes files
@@ -318,13 +317,13 @@ module _ {A : Type 0} (name bytes : List ℕ) where
             file_is = subst (λ c. IsFileAt false 0 [] c a.file) same (subst (λ d. IsFileAt false 0 d content a.file) top a.file_is);
           }
 
-      by : (reads : List FileRead) → name ∷ [] ≡ map value_of reads → AllByRecursion (WasRead (only name bytes)) reads → AreAdded reads [] files → IsOnly bytes files
+      by : (reads : List FileRead) → name ∷ [] ≡ map value_of reads → AllByRecursion (WasRead (only name bytes)) reads → AreAdded false reads [] files → IsOnly bytes files
       by [] e h a = absurd (cc)
       by (read ∷ []) e h a = one read.directory read.content (at_top read.value read.directory read.name (subst (Lacks 0x3D) (first e) plain) h.0.0).0 h.0.1.1 a.0 a.1 a.2
       by (read ∷ more ∷ reads) e h a = let never : [] ≡ more.value ∷ map value_of reads = later e in absurd (cc)
 
   -- another file isn't read
-  not_read : (other : List ℕ) (files : List (File A)) → Lacks 0x3D other → other ≢ name → AreRead (only name bytes) (other ∷ []) files → ⊥
+  not_read : (other : List ℕ) (files : List (File A)) → Lacks 0x3D other → other ≢ name → AreRead (only name bytes) false (other ∷ []) files → ⊥
   not_read other files plain differs r = by r.reads r.values_are r.have
     where
       by : (reads : List FileRead) → other ∷ [] ≡ map value_of reads → AllByRecursion (WasRead (only name bytes)) reads → ⊥
@@ -339,11 +338,11 @@ module _ (A : Type 0) (file bytes name : List ℕ) (plain : Lacks 0x3D file) (wh
   err_written : (answer : Result ⊤ Fault) (fault : Fault) → answer ≡ Err fault → Written answer
   err_written answer fault e = subst Written (sym e) tt
 
-  run_written : (files : List (File A)) → AreRead (only file bytes) (file ∷ []) files → (run : Result ⊤ (ListFault Refusal)) → IsRun (picking (strings Unix) Name usual (IsPicked false (IsChosen (strings Unix) (options_of Unix) []) files)) (Some (name ++ 0 ∷ [])) left old new run → Written (answer_of OfList run)
+  run_written : (files : List (File A)) → AreRead (only file bytes) false (file ∷ []) files → (run : Result ⊤ (ListFault Refusal)) → IsRun (picking (strings Unix) Name usual (IsPicked false (IsChosen (strings Unix) (options_of Unix false) []) files)) (Some (name ++ 0 ∷ [])) left old new run → Written (answer_of OfList run)
   run_written files read (Err fault) is = tt
   run_written files read (Ok done) is =
       let w = is.written in
-      let said = ended_filtered (strings Unix) (IsPicked false (IsChosen (strings Unix) (options_of Unix) []) files) name w.0 whole w.1.0 in
+      let said = ended_filtered (strings Unix) (IsPicked false (IsChosen (strings Unix) (options_of Unix false) []) files) name w.0 whole w.1.0 in
       (w.0, (record { files = files; only = only_read file bytes files plain read; ignored = λ i. left_out i said; kept = λ n. kept n said }, w.1.1))
     where
       left_out : {text : List ℕ} → IsIgnored files name → ((Unit {0} × (¬ (IsIgnored files name))) × (text ≡ name ++ 0 ∷ [])) ⊎ ((¬ (Unit {0} × (¬ (IsIgnored files name)))) × (text ≡ [])) → text ≡ []
@@ -367,10 +366,10 @@ pub record EndsUnread (input left old new : Option (List ℕ)) (answer : Result 
 
 -- what the program does where there is no such file
 module _ (A : Type 0) (file bytes other : List ℕ) (plain : Lacks 0x3D other) (differs : other ≢ file) (input left old new : Option (List ℕ)) (answer : Result ⊤ Fault) where
-  number_one : (number : ℕ) (name : List ℕ) → IsFirstUnread A (only file bytes) (other ∷ []) number name → number ≡ 1
+  number_one : (number : ℕ) (name : List ℕ) → IsFirstUnread A (only file bytes) false (other ∷ []) number name → number ≡ 1
   number_one number name u = u.number_is ∙ ap (λ b. length b + 1) (one_before other name u.before u.after u.joined)
 
-  by_fault : (why : CommandFault) → IsFileFault (only file bytes) A (other ∷ []) why → EndsAtOnce (Words why) input left old new answer → EndsUnread input left old new answer
+  by_fault : (why : CommandFault) → IsFileFault (only file bytes) A false (other ∷ []) why → EndsAtOnce (Words why) input left old new answer → EndsUnread input left old new answer
   by_fault Unreadable f ends = absurd f
   by_fault (Misuse text) f ends = absurd f
   by_fault (Pattern number fault lines) f ends = absurd f
@@ -387,9 +386,9 @@ module _ (A : Type 0) (file bytes name : List ℕ) (whole : Lacks 0 name) (some 
   abbrev IsFine : Result ⊤ Fault → Type 0
   IsFine ended = IsOk ended
 
-  not_run : (files : List (File A)) (run : Result ⊤ (ListFault Refusal)) → IsRun (picking (strings Unix) Name usual (IsPicked false (IsChosen (strings Unix) (options_of Unix) []) files)) (Some name) left old new run → ¬ (IsFine (answer_of OfList run))
+  not_run : (files : List (File A)) (run : Result ⊤ (ListFault Refusal)) → IsRun (picking (strings Unix) Name usual (IsPicked false (IsChosen (strings Unix) (options_of Unix false) []) files)) (Some name) left old new run → ¬ (IsFine (answer_of OfList run))
   not_run files (Err fault) is ok = let never : false ≡ true = ok in cc
-  not_run files (Ok done) is ok = let w = is.written in never_read (strings Unix) (picking (strings Unix) Name usual (IsPicked false (IsChosen (strings Unix) (options_of Unix) []) files)) name w.0 whole some (λ never. never) w.1.0
+  not_run files (Ok done) is ok = let w = is.written in never_read (strings Unix) (picking (strings Unix) Name usual (IsPicked false (IsChosen (strings Unix) (options_of Unix false) []) files)) name w.0 whole some (λ never. never) w.1.0
 
   not_err : (answer : Result ⊤ Fault) (fault : Fault) → answer ≡ Err fault → ¬ (IsOk answer)
   not_err answer fault e ok = let never : false ≡ true = subst IsOk e ok in cc

@@ -1,5 +1,5 @@
 -- What the program does for the words that ask which lines of one ignore file decide names.
-use Rattle.std.proofs.Common.{◌≡◌, ◌≢◌, ◌⊎◌, inl, inr, ℕ, zero, suc, false, List, [], ◌∷◌, ◌++◌, drop, get_or, refl, sym, ap, ◌∙◌, subst, append-nil, arith, Option, Some, None, Result, Ok, Err}
+use Rattle.std.proofs.Common.{◌≡◌, ◌≢◌, ◌⊎◌, inl, inr, ℕ, zero, suc, Bool, false, List, [], ◌∷◌, ◌++◌, drop, get_or, refl, sym, ap, ◌∙◌, subst, append-nil, arith, Option, Some, None, Result, Ok, Err}
 use Rattle.std.specs.Prelude.{codes, OnOk, ⊤}
 use Rattle.std.specs.List.{AllByRecursion}
 use Rattle.std.specs.Io.KnownBytes.{Appends}
@@ -40,7 +40,7 @@ use Rattle.os_args.specs.Views.{fault_of}
 use Rattle.program_frame.specs.Arguments.{AreGiven, HasOption}
 use Rattle.test_command_uses.specs.OneFile.{IsExplainedBy, IsReasonOf, explaining, only, usual}
 use Rattle.test_command_uses.proofs.GivenWords.{OneValue, OneWord, are_asking, no_fault_of}
-use Rattle.test_command_uses.proofs.KnownIgnore.{at_top, first, given_of, is_usual, later, no_help, no_version, not_wasm, not_windows, one_file, only_read, states_one, usual_list}
+use Rattle.test_command_uses.proofs.KnownIgnore.{at_top, first, given_of, is_usual, later, no_help, no_version, not_stated, not_wasm, not_windows, one_file, only_read, states_one, usual_list}
 use Rattle.test_command_uses.proofs.KnownNames.{all_whole, one_ended}
 
 not_list : codes "why" ≡ codes "list" → ⊥
@@ -69,12 +69,12 @@ not_check e =
 
 module _ (known : KnownFiles) (A : Type 0) (file : List ℕ) (input left old new : Option (List ℕ)) (answer : Result ⊤ Fault) where
   -- the lines of these files that decide names are written
-  abbrev Reasons : ListOptions → List (List ℕ) → Type 0
-  Reasons list files = UnlessOutOfMemory (RunsReasons known A (strings Unix) (record { command = On Unix Why; list = list; plain = 0; globs = []; files = files; inverted = false })) input left old new answer
+  abbrev Reasons : ListOptions → Bool → List (List ℕ) → Type 0
+  Reasons list folds files = UnlessOutOfMemory (RunsReasons known A (strings Unix) (record { command = On Unix Why; list = list; plain = 0; globs = []; files = files; inverted = false; case_insensitive = folds })) input left old new answer
 
   -- the line of the file that decides each name is written
   abbrev pub Explains : Type 0
-  Explains = Reasons usual (file ∷ [])
+  Explains = Reasons usual false (file ∷ [])
 
   module _ (command platform value : Bor (List ℕ)) (is_command : command.now ≡ codes "why") (is_platform : platform.now ≡ codes "unix") (is_file : value.now ≡ file) where
     abbrev given : Line
@@ -83,7 +83,8 @@ module _ (known : KnownFiles) (A : Type 0) (file : List ℕ) (input left old new
     decided : (asked : Asked) → asked.list ≡ usual → StatesPicks given asked → DoesWork known A (strings Unix) asked Unix Why input left old new answer → Explains
     decided asked is_usual states runs =
         let files_are : asked.files ≡ file ∷ [] = one_file command platform value asked.files states.1.0 ∙ ap (λ x. x ∷ []) is_file in
-        subst (λ m. Reasons m (file ∷ [])) is_usual (subst (λ files. Reasons asked.list files) files_are runs)
+        let cased = not_stated command platform value option.IgnoreCase (λ e. cc) asked.case_insensitive states.1.1.1 in
+        subst (λ m. Reasons m false (file ∷ [])) is_usual (subst (λ folds. Reasons asked.list folds (file ∷ [])) cased (subst (λ files. Reasons asked.list asked.case_insensitive files) files_are runs))
 
     -- the operands are those of one command
     operands : HasOperands given name.Why Unix []
@@ -126,7 +127,7 @@ module _ (known : KnownFiles) (A : Type 0) (file : List ℕ) (input left old new
     makes_up = (operands, ((tt, (tt, (tt, tt))), (inr (inr (inl refl)), tt)))
 
     some : (asked : Asked) × AsksFor given asked
-    some = (record { command = On Unix Why; list = usual; plain = 0; globs = []; files = value.now ∷ []; inverted = false }, inr (no_help command platform value, inr (no_version command platform value, (is_usual command platform value, (makes_up, states_one command platform value (On Unix Why) usual)))))
+    some = (record { command = On Unix Why; list = usual; plain = 0; globs = []; files = value.now ∷ []; inverted = false; case_insensitive = false }, inr (no_help command platform value, inr (no_version command platform value, (is_usual command platform value, (makes_up, states_one command platform value (On Unix Why) usual)))))
 
     not_rejected : RejectsLine known A given input left old new answer → ⊥
     not_rejected r = r.2.0.0.no_request some.0 some.1
@@ -182,7 +183,7 @@ module _ (A : Type 0) (file bytes item : List ℕ) (plain : Lacks 0x3D file) (wh
   err_written : (answer : Result ⊤ Fault) (fault : Fault) → answer ≡ Err fault → Written answer
   err_written answer fault e = subst Written (sym e) tt
 
-  run_written : (files : List (File A)) → AreRead (only file bytes) (file ∷ []) files → (run : Result ⊤ (ListFault Refusal)) → IsRun (deciding (strings Unix) usual (file ∷ []) files) (Some (item ++ 0 ∷ [])) left old new run → Written (answer_of OfList run)
+  run_written : (files : List (File A)) → AreRead (only file bytes) false (file ∷ []) files → (run : Result ⊤ (ListFault Refusal)) → IsRun (deciding (strings Unix) usual (file ∷ []) files) (Some (item ++ 0 ∷ [])) left old new run → Written (answer_of OfList run)
   run_written files read (Err fault) is = tt
   run_written files read (Ok done) is =
       let w = is.written in

@@ -1,7 +1,10 @@
 -- Arguments that request something, for the programs `names` and `paths`.
 use Rattle.std.proofs.Common.{◌≡◌, ◌⊎◌, inl, inr, ℕ, List, Option, Result, Ok, Err, refl, ◌∙◌, subst, sym}
-use Rattle.std.specs.Prelude.{⊤, IfErr}
-use Rattle.names_commands.specs.Command.{Asked, AsksFor, IsRequestError, Line}
+use Rattle.std.specs.Prelude.{⊤, IfErr, IsTrue, ◌↔◌}
+use Rattle.names_commands.specs.Command.{Asked, AsksFor, IsListed, IsRequestError, Line, MakesUp, StatesPicks}
+use Rattle.names_commands.specs.declared.command.Command.TheVariants.{Version as VersionCommand}
+use Rattle.names_commands.specs.declared.option.NamesOption.TheVariants.{Help, IgnoreCase, Version}
+use Rattle.program_frame.specs.Arguments.{HasOption}
 use Rattle.names_commands.specs.declared.command.RequestError.{RequestError}
 use Rattle.names_commands.specs.declared.command.RequestError.TheVariants.{Misuse, Memory as NoMemory}
 use Rattle.program_frame.specs.declared.fault.Failure.TheVariants.{Memory}
@@ -26,3 +29,12 @@ pub never_rejected : {X : Type 0} (given : Line) (answer : Result X RequestError
 never_rejected given (Ok found) error asked asks = tt
 never_rejected given (Err (Misuse misuse)) error asked asks = absurd (error.no_request asked asks)
 never_rejected given (Err NoMemory) error asked asks = refl
+
+-- a request is without regard to case exactly where the option for that is given, and no help and no version is requested
+pub case_stated : (given : Line) (asked : Asked) → ¬ (HasOption Help given) → ¬ (HasOption Version given) → AsksFor given asked → IsTrue asked.case_insensitive ↔ HasOption IgnoreCase given
+case_stated given asked no_help no_version (inl help) = absurd (no_help help.0)
+case_stated given asked no_help no_version (inr asks) = by asks.1
+  where
+    by : ((HasOption Version given × (asked.command ≡ VersionCommand)) ⊎ ((¬ (HasOption Version given)) × (IsListed given asked.list × (MakesUp given asked.command × StatesPicks given asked)))) → IsTrue asked.case_insensitive ↔ HasOption IgnoreCase given
+    by (inl version) = absurd (no_version version.0)
+    by (inr c) = c.1.1.1.1.1.1

@@ -1,11 +1,12 @@
 //! Lists of names: the arguments of requests, what runs write and reject, and the way back.
-ghost use Rattle.std.specs.Prelude.{◌≡◌, ◌≢◌, ◌≤◌, ◌∷◌, ◌++◌, ◌⊎◌, [], ℕ, List, true, false, IsOk, IfErr, IfSome, OnErr, OnOk, length};
+ghost use Rattle.std.specs.Prelude.{◌≡◌, ◌≢◌, ◌≤◌, ◌∷◌, ◌++◌, ◌⊎◌, [], ℕ, List, true, false, ◌↔◌, IsOk, IsTrue, IfErr, IfOk, IfSome, OnErr, OnOk, length};
 ghost use Rattle.std.specs.Io.KnownBytes.{Appends};
 ghost use Rattle.os_command_line.specs.ShellWriting.{quoted_word};
 ghost use Rattle.os_ignore.specs.Ignores.{files_of};
 ghost use Rattle.os_quote.specs.Escape.{IsLineEscape};
 ghost use Rattle.os_str_bytes.specs.EncodingError.{EncodingError};
 ghost use Rattle.os_str_bytes.specs.Strings.{bytes};
+ghost use Rattle.program_frame.specs.Arguments.{HasOption};
 ghost use Rattle.program_frame.specs.Items.{Lacks};
 ghost use Rattle.program_frame.specs.ListOptions.{byte_of};
 ghost use Rattle.program_frame.specs.ListRun.{IsOutput, StopsOn};
@@ -22,6 +23,7 @@ ghost use Rattle.test_command_uses.specs.OneFile.{unended, usual};
 ghost use Rattle.names_commands.specs.declared.command.RequestError.TheVariants.{Memory as NoMemory};
 ghost use Rattle.names_commands.specs.declared.fault.Refusal.{Refusal};
 ghost use Rattle.names_commands.specs.declared.fault.Refusal.TheVariants.{NoString};
+ghost use Rattle.names_commands.specs.declared.option.NamesOption.TheVariants.{Help, IgnoreCase, Version};
 
 use names_commands::command::{Line, Request, RequestError};
 use names_commands::fault::Refusal;
@@ -77,6 +79,22 @@ pub fn known_request<'a, A: Allocator + Copy>(
         → IfErr result (λ error. error ≡ NoMemory) }
 {
     Request::parse(alloc, given)
+}
+
+/// Whether the request that options and operands make up matches without regard to case: exactly where
+/// the option for that is given.
+pub fn is_case_insensitive<'a, A: Allocator + Copy>(
+    alloc: A,
+    given: Line<'_, 'a>,
+) -> Result<bool, RequestError<'a>>
+    requires help { ¬ (HasOption Help given.now) }
+    requires version { ¬ (HasOption Version given.now) }
+    ensures { IfOk result (λ stated. IsTrue stated ↔ HasOption IgnoreCase given.entry.now) }
+{
+    match Request::parse(alloc, given) {
+        Ok(request) => Ok(request.case_insensitive),
+        Err(error) => Err(error),
+    }
 }
 
 /// A run over bytes.

@@ -4,7 +4,7 @@ use Rattle.std.proofs.Math.Logic.{∥∥₁_elim}
 use Rattle.std.proofs.Props.{props}
 use Rattle.std.proofs.lemmas.List.{append_cancel_right, length-append}
 use Rattle.std.specs.List.{AllByRecursion}
-use Rattle.os_ignore.specs.Ignores.{IsAdded}
+use Rattle.os_ignore.specs.Ignores.{IsAddedTo}
 use Rattle.os_ignore.specs.Verdicts.{IsVerdict, is_ignored}
 use Rattle.os_ignore.specs.declared.file.File.{File}
 use Rattle.os_ignore.specs.declared.verdict.Verdict.{Verdict}
@@ -45,40 +45,42 @@ module _ {A : Type 0} where
     λ none. absurd (∥∥₁_elim m (Prim.hlevel props) (λ v. none (record { path = path; is_dir = is_dir; path_is = is; verdict = verdict; verdict_is = v; ignored = sym e }))),
   )
 
-  one_added : (reads : List FileRead) (read : FileRead) (old mid new : List (File A)) → AreAdded reads old mid → IsAdded read.directory read.content mid new → AreAdded (reads ++ read ∷ []) old new
-  one_added [] read old mid new a i = (new, subst (λ x. IsAdded read.directory read.content x new) a i, refl)
-  one_added (x ∷ reads) read old mid new a i = (a.0, a.1, one_added reads read a.0 mid new a.2 i)
+  -- with regard to case or without
+  module _ (folds : Bool) where
+    one_added : (reads : List FileRead) (read : FileRead) (old mid new : List (File A)) → AreAdded folds reads old mid → IsAddedTo folds read.directory read.content mid new → AreAdded folds (reads ++ read ∷ []) old new
+    one_added [] read old mid new a i = (new, subst (λ x. IsAddedTo folds read.directory read.content x new) a i, refl)
+    one_added (x ∷ reads) read old mid new a i = (a.0, a.1, one_added reads read a.0 mid new a.2 i)
 
-  -- so many of the files were read, and the names of the others are left
-  pub record AreReadSoFar (known : KnownFiles) (names left : List (List ℕ)) (number : ℕ) (files : List (File A)) : Type 0 where
-    pub before : List (List ℕ)
-    pub joined : names ≡ before ++ left
-    pub number_is : number ≡ length before
-    pub read : AreRead known before files
+    -- so many of the files were read, and the names of the others are left
+    pub record AreReadSoFar (known : KnownFiles) (names left : List (List ℕ)) (number : ℕ) (files : List (File A)) : Type 0 where
+      pub before : List (List ℕ)
+      pub joined : names ≡ before ++ left
+      pub number_is : number ≡ length before
+      pub read : AreRead known folds before files
 
-  pub none_read : (known : KnownFiles) (names : List (List ℕ)) (files : List (File A)) → files ≡ [] → AreReadSoFar known names names 0 files
-  none_read known names files none = record { before = []; joined = refl; number_is = refl; read = record { reads = []; values_are = refl; have = tt; added = none } }
+    pub none_read : (known : KnownFiles) (names : List (List ℕ)) (files : List (File A)) → files ≡ [] → AreReadSoFar known names names 0 files
+    none_read known names files none = record { before = []; joined = refl; number_is = refl; read = record { reads = []; values_are = refl; have = tt; added = none } }
 
-  pub one_read : (known : KnownFiles) (values left : List (List ℕ)) (number : ℕ) (read : FileRead) (old new : List (File A)) → AreReadSoFar known values (read.value ∷ left) number old → WasRead known read → IsAdded read.directory read.content old new → AreReadSoFar known values left (number + 1) new
-  one_read known values left number read old new s was added = record {
-    before = s.before ++ read.value ∷ [];
-    joined = s.joined ∙ sym (append_assoc s.before (read.value ∷ []) left);
-    number_is = ap (λ n. n + 1) s.number_is ∙ sym (length-append s.before (read.value ∷ []));
-    read = record {
-      reads = s.read.reads ++ read ∷ [];
-      values_are = ap (λ x. x ++ read.value ∷ []) s.read.values_are ∙ sym (pushed value_of s.read.reads read);
-      have = one_has known s.read.reads read s.read.have was;
-      added = one_added s.read.reads read [] old new s.read.added added;
-    };
-  }
+    pub one_read : (known : KnownFiles) (values left : List (List ℕ)) (number : ℕ) (read : FileRead) (old new : List (File A)) → AreReadSoFar known values (read.value ∷ left) number old → WasRead known read → IsAddedTo folds read.directory read.content old new → AreReadSoFar known values left (number + 1) new
+    one_read known values left number read old new s was added = record {
+      before = s.before ++ read.value ∷ [];
+      joined = s.joined ∙ sym (append_assoc s.before (read.value ∷ []) left);
+      number_is = ap (λ n. n + 1) s.number_is ∙ sym (length-append s.before (read.value ∷ []));
+      read = record {
+        reads = s.read.reads ++ read ∷ [];
+        values_are = ap (λ x. x ++ read.value ∷ []) s.read.values_are ∙ sym (pushed value_of s.read.reads read);
+        have = one_has known s.read.reads read s.read.have was;
+        added = one_added s.read.reads read [] old new s.read.added added;
+      };
+    }
 
-  pub all_read : (known : KnownFiles) (names : List (List ℕ)) (number : ℕ) (files : List (File A)) → AreReadSoFar known names [] number files → AreRead known names files
-  all_read known names number files s = subst (λ x. AreRead known x files) (sym (s.joined ∙ append-nil s.before)) s.read
+    pub all_read : (known : KnownFiles) (names : List (List ℕ)) (number : ℕ) (files : List (File A)) → AreReadSoFar known names [] number files → AreRead known folds names files
+    all_read known names number files s = subst (λ x. AreRead known folds x files) (sym (s.joined ∙ append-nil s.before)) s.read
 
-  first_unread : (known : KnownFiles) (names left : List (List ℕ)) (number : ℕ) (name : List ℕ) (files : List (File A)) → AreReadSoFar known names (name ∷ left) number files → IsFirstUnread A known names (number + 1) name
-  first_unread known names left number name files s = record { before = s.before; after = left; joined = s.joined; number_is = ap (λ n. n + 1) s.number_is; files = files; read = s.read }
+    first_unread : (known : KnownFiles) (names left : List (List ℕ)) (number : ℕ) (name : List ℕ) (files : List (File A)) → AreReadSoFar known names (name ∷ left) number files → IsFirstUnread A known folds names (number + 1) name
+    first_unread known names left number name files s = record { before = s.before; after = left; joined = s.joined; number_is = ap (λ n. n + 1) s.number_is; files = files; read = s.read }
 
-  pub unread : (known : KnownFiles) (names left : List (List ℕ)) (number : ℕ) (name : List ℕ) (files : List (File A)) (fault : Fault) → AreReadSoFar known names (name ∷ left) number files → IsFaultOfOne known (number + 1) name fault → IsFaultOf known A names fault
-  unread known names left number name files fault s (inl memory) = inl memory
-  unread known names left number name files fault s (inr (inl none)) = inr (NoFile (number + 1), (name, first_unread known names left number name files s, none.1), none.0)
-  unread known names left number name files fault s (inr (inr failed)) = inr (Unread (number + 1), (name, first_unread known names left number name files s), failed)
+    pub unread : (known : KnownFiles) (names left : List (List ℕ)) (number : ℕ) (name : List ℕ) (files : List (File A)) (fault : Fault) → AreReadSoFar known names (name ∷ left) number files → IsFaultOfOne known (number + 1) name fault → IsFaultOf known A folds names fault
+    unread known names left number name files fault s (inl memory) = inl memory
+    unread known names left number name files fault s (inr (inl none)) = inr (NoFile (number + 1), (name, first_unread known names left number name files s, none.1), none.0)
+    unread known names left number name files fault s (inr (inr failed)) = inr (Unread (number + 1), (name, first_unread known names left number name files s), failed)

@@ -132,6 +132,7 @@ plain os given none ignores option.Glob h = tt
 plain os given none ignores option.Name h = tt
 plain os given none ignores option.Ignore h = ignores h
 plain os given none ignores option.Invert h = tt
+plain os given none ignores option.IgnoreCase h = tt
 
 on_unix : (it : NamesOption) → IsForPlatform Unix it
 on_unix option.Help = tt
@@ -146,6 +147,7 @@ on_unix option.Glob = tt
 on_unix option.Name = tt
 on_unix option.Ignore = tt
 on_unix option.Invert = tt
+on_unix option.IgnoreCase = tt
 
 for_words : (os : Os) (given : Line) → os ≡ Unix → (it : NamesOption) → HasOption it given → IsForPlatform os it
 for_words os given unix it h = subst (λ o. IsForPlatform o it) (sym unix) (on_unix it)

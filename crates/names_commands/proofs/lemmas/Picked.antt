@@ -101,10 +101,10 @@ picked_alike : {A : Type 0} (inverted : Bool) (Chosen Other : List ℕ → Type 
 picked_alike false Chosen Other files same name = (λ k. ((same name).0 k.0, k.1), λ k. ((same name).1 k.0, k.1))
 picked_alike true Chosen Other files same name = (λ k other. k ((same name).1 other.0, other.1), λ k other. k ((same name).0 other.0, other.1))
 
-pub same_but : {E : Type 0} (known : KnownFiles) (A : Type 0) (p : Ghosts E) (form : Form) (list : ListOptions) (inverted : Bool) (Chosen Other : List ℕ → Type 0) → ((name : List ℕ) → Chosen name ↔ Other name)
-    → (names : List (List ℕ)) (input left old new : Option (List ℕ)) (answer : Result ⊤ Fault) → RunsBut known A p form list inverted Chosen names input left old new answer → RunsBut known A p form list inverted Other names input left old new answer
-same_but known A p form list inverted Chosen Other same names input left old new answer (inl fault) = inl fault
-same_but known A p form list inverted Chosen Other same names input left old new answer (inr k) = inr (k.0, k.1, same_runs p form list (IsPicked inverted Chosen k.0) (IsPicked inverted Other k.0) (picked_alike inverted Chosen Other k.0 same) OfList input left old new answer k.2)
+pub same_but : {E : Type 0} (known : KnownFiles) (A : Type 0) (p : Ghosts E) (form : Form) (list : ListOptions) (inverted folds : Bool) (Chosen Other : List ℕ → Type 0) → ((name : List ℕ) → Chosen name ↔ Other name)
+    → (names : List (List ℕ)) (input left old new : Option (List ℕ)) (answer : Result ⊤ Fault) → RunsBut known A p form list inverted folds Chosen names input left old new answer → RunsBut known A p form list inverted folds Other names input left old new answer
+same_but known A p form list inverted folds Chosen Other same names input left old new answer (inl fault) = inl fault
+same_but known A p form list inverted folds Chosen Other same names input left old new answer (inr k) = inr (k.0, k.1, same_runs p form list (IsPicked inverted Chosen k.0) (IsPicked inverted Other k.0) (picked_alike inverted Chosen Other k.0 same) OfList input left old new answer k.2)
 
 -- a name that is chosen is picked where the files don't ignore its text
 pub picked_shown : {A : Type 0} (Chosen : List ℕ → Type 0) (files its_files : List (File A)) (name text : List ℕ) (shown : Bool) → its_files ≡ files → text ≡ name → Chosen name

@@ -2,8 +2,7 @@ use Rattle.std.proofs.Common.{◌+◌, ⊎_elim, inl, inr, map, ap, subst, ◌�
 use Rattle.os_str_bytes.specs.Strings.{bytes}
 use Rattle.glob_patterns.specs.GlobSets.{IsSetError}
 use Rattle.glob_patterns.specs.Letters.{letters_of}
-use Rattle.glob_patterns.specs.Options as glob
-use Rattle.names_commands.specs.Command.{options_of}
+use Rattle.glob_patterns.specs.Options.{syntax_of}
 use Rattle.names_commands.specs.Matching.{IsSetOf}
 use Rattle.names_commands.specs.Program.{IsOfPattern, IsOfPatterns}
 use Rattle.names_commands.proofs.lemmas.Picked.{first_fault}
@@ -13,23 +12,20 @@ use Rattle.names_commands.proofs.patterns.compiled.Goals as goal
 pub returns-in-Ok-new : goal.returns-in-Ok-new
 returns-in-Ok-new g c =
     let texts = ap (map bytes) c.as_slice-globs.ensures.value ∙ c.in-Ok.ensures in
-    let made = subst (λ o. IsSetOf g.E.Platform g.row.A.Denot o (map bytes c.as_slice-globs.result.now) c.in-Ok-new.set) c.options_of.ensures c.in-Ok-new.ensures in
-    subst (λ texts. IsSetOf g.E.Platform g.row.A.Denot (options_of c.args.os) texts c.in-Ok-new.set) texts made
+    subst (λ texts. IsSetOf g.E.Platform g.row.A.Denot c.args.options texts c.in-Ok-new.set) texts c.in-Ok-new.ensures
 
 pub bounds-globs-index : goal.bounds-globs-index
 bounds-globs-index g c =
     let P = g.E.Platform in
     let globs = c.as_slice-globs.result.now in
-    let made = subst (λ o. IsSetError P.well_formed (letters_of P.units) (glob.syntax_of o) g.row.A.Denot (map bytes globs) c.in-Err-Pattern.field-0) c.options_of.ensures c.in-Err-Pattern.ensures in
-    let error = subst (IsSetError P.well_formed (letters_of P.units) (glob.syntax_of (options_of c.args.os)) g.row.A.Denot (map bytes globs)) c.in-Err-Pattern.field-0-is made in
+    let error = subst (IsSetError P.well_formed (letters_of P.units) (syntax_of c.args.options) g.row.A.Denot (map bytes globs)) c.in-Err-Pattern.field-0-is c.in-Err-Pattern.ensures in
     is_within bytes globs error.before error.text error.after c.in-Err-Pattern.index error.joined error.index_is
 
 pub overflow_add-index : goal.overflow_add-index
 overflow_add-index g c =
     let P = g.E.Platform in
     let globs = c.as_slice-globs.result.now in
-    let made = subst (λ o. IsSetError P.well_formed (letters_of P.units) (glob.syntax_of o) g.row.A.Denot (map bytes globs) c.in-Err-Pattern.field-0) c.options_of.ensures c.in-Err-Pattern.ensures in
-    let error = subst (IsSetError P.well_formed (letters_of P.units) (glob.syntax_of (options_of c.args.os)) g.row.A.Denot (map bytes globs)) c.in-Err-Pattern.field-0-is made in
+    let error = subst (IsSetError P.well_formed (letters_of P.units) (syntax_of c.args.options) g.row.A.Denot (map bytes globs)) c.in-Err-Pattern.field-0-is c.in-Err-Pattern.ensures in
     let within = is_within bytes globs error.before error.text error.after c.in-Err-Pattern.index error.joined error.index_is in
     omega (arith, within, c.as_slice-globs.ensures.len, c.in-Ok.strings.ok.1, c.in-Ok.strings.small)
 
@@ -37,21 +33,19 @@ pub offset_bounds-globs-index : goal.offset_bounds-globs-index
 offset_bounds-globs-index g c =
     let P = g.E.Platform in
     let globs = c.as_slice-globs.result.now in
-    let made = subst (λ o. IsSetError P.well_formed (letters_of P.units) (glob.syntax_of o) g.row.A.Denot (map bytes globs) c.in-Err-Pattern.field-0) c.options_of.ensures c.in-Err-Pattern.ensures in
-    let error = subst (IsSetError P.well_formed (letters_of P.units) (glob.syntax_of (options_of c.args.os)) g.row.A.Denot (map bytes globs)) c.in-Err-Pattern.field-0-is made in
+    let error = subst (IsSetError P.well_formed (letters_of P.units) (syntax_of c.args.options) g.row.A.Denot (map bytes globs)) c.in-Err-Pattern.field-0-is c.in-Err-Pattern.ensures in
     let within = is_within bytes globs error.before error.text error.after c.in-Err-Pattern.index error.joined error.index_is in
     omega (arith, within, c.as_slice-globs.ensures.len, c.in-Ok.strings.ok.1, c.in-Ok.strings.small)
 
 pub returns-in-Err-Pattern : goal.returns-in-Err-Pattern
 returns-in-Err-Pattern g c =
     let P = g.E.Platform in
-    let o = options_of c.args.os in
+    let o = c.args.options in
     let globs = c.as_slice-globs.result.now in
     let texts = ap (map bytes) c.as_slice-globs.ensures.value ∙ c.in-Ok.ensures in
     let index = c.in-Err-Pattern.index in
     let fault = c.in-Err-Pattern.fault in
-    let made = subst (λ o. IsSetError P.well_formed (letters_of P.units) (glob.syntax_of o) g.row.A.Denot (map bytes globs) c.in-Err-Pattern.field-0) c.options_of.ensures c.in-Err-Pattern.ensures in
-    let error = subst (IsSetError P.well_formed (letters_of P.units) (glob.syntax_of o) g.row.A.Denot (map bytes globs)) c.in-Err-Pattern.field-0-is made in
+    let error = subst (IsSetError P.well_formed (letters_of P.units) (syntax_of o) g.row.A.Denot (map bytes globs)) c.in-Err-Pattern.field-0-is c.in-Err-Pattern.ensures in
     let first = first_fault g.row.A.Denot P o (map bytes globs) index fault error in
     let text = c.as_encoded_bytes-pattern.ensures.value ∙ is_at bytes globs first.before first.text first.after index c.index-globs-index.result first.joined first.index_is c.index-globs-index.is in
     let why = c.rejection.result in

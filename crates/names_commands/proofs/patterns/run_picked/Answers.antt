@@ -16,18 +16,20 @@ returns-in-Err-clause-run g c =
     ⊎_elim
     (λ memory. inl (ap Err memory, (refl, refl)))
     (λ of.
-    let shown = subst (λ items. IsOfPatterns g.E.Platform (options_of c.args.os) asked.plain (map string_bytes items) fault) c.as_slice-patterns.ensures.value of in
+    let its = subst (λ o. IsOfPatterns g.E.Platform o asked.plain (map string_bytes c.as_slice-patterns.result.now) fault) c.options_of-options.ensures of in
+    let shown = subst (λ items. IsOfPatterns g.E.Platform (options_of c.args.os asked.case_insensitive) asked.plain (map string_bytes items) fault) c.as_slice-patterns.ensures.value its in
     inr (inl (shown.0, shown.1, shown.2, fault, shown.3, (refl, (refl, refl)))))
     c.in-Err.ensures
 
 pub returns-in-Err-read_ignore-clause-run : goal.returns-in-Err-read_ignore-clause-run
 returns-in-Err-read_ignore-clause-run g c =
     let P = g.E.Platform in
-    let o = options_of c.args.os in
     let asked = asked_of c.args.request.now in
+    let o = options_of c.args.os asked.case_insensitive in
     let set = c.in-Ok.set in
-    let made = subst (λ items. IsSetOf P g.row.A.Denot o (map string_bytes items) set) c.as_slice-patterns.ensures.value c.in-Ok.ensures in
-    let why = subst (λ items. IsFaultOf (g.F.Files.known c.args.files.now) g.row.A.Denot (map text_of items) c.in-Err-read_ignore.fault) c.as_slice.ensures.value c.in-Err-read_ignore.ensures in
+    let compiled = subst (λ z. IsSetOf P g.row.A.Denot z (map string_bytes c.as_slice-patterns.result.now) set) c.options_of-options.ensures c.in-Ok.ensures in
+    let made = subst (λ items. IsSetOf P g.row.A.Denot o (map string_bytes items) set) c.as_slice-patterns.ensures.value compiled in
+    let why = subst (λ items. IsFaultOf (g.F.Files.known c.args.files.now) g.row.A.Denot asked.case_insensitive (map text_of items) c.in-Err-read_ignore.fault) c.as_slice.ensures.value c.in-Err-read_ignore.ensures in
     ⊎_elim
     (λ memory. inl (ap Err memory, (refl, refl)))
     (λ of. inr (inr (written_of P o asked.globs set.set.patterns.items made.1, are_written P o asked.globs set.set.patterns.items made.1, inl (of.0, of.1, (ap Err of.2, (refl, refl))))))
@@ -37,19 +39,20 @@ pub returns-clause-run : goal.returns-clause-run
 returns-clause-run g c =
     let P = g.E.Platform in
     let asked = asked_of c.args.request.now in
-    let o = options_of c.args.os in
+    let o = options_of c.args.os asked.case_insensitive in
     let texts = asked.globs in
     let set = c.in-Ok.set in
-    let made = subst (λ items. IsSetOf P g.row.A.Denot o (map string_bytes items) set) c.as_slice-patterns.ensures.value c.in-Ok.ensures in
+    let compiled = subst (λ z. IsSetOf P g.row.A.Denot z (map string_bytes c.as_slice-patterns.result.now) set) c.options_of-options.ensures c.in-Ok.ensures in
+    let made = subst (λ items. IsSetOf P g.row.A.Denot o (map string_bytes items) set) c.as_slice-patterns.ensures.value compiled in
     let written = written_of P o texts set.set.patterns.items made.1 in
     let globs = c.set_of.result in
     let held = subst (λ strings. MatchOption globs (strings ≡ []) (λ held. (strings ≢ []) × (held.now ≡ set))) c.as_slice-patterns.ensures.value c.set_of.ensures in
     let choose = chosen P o texts set made.0 made.1 globs (where_texts string_bytes (λ held. held.now ≡ set) c.args.request.now.patterns.items globs held) in
     let known = g.F.Files.known c.args.files.now in
     let files = files_of c.in-Ok-read_ignore.ignore in
-    let read = subst (λ items. AreRead known (map text_of items) files) c.as_slice.ensures.value c.in-Ok-read_ignore.ensures in
+    let read = subst (λ items. AreRead known asked.case_insensitive (map text_of items) files) c.as_slice.ensures.value c.in-Ok-read_ignore.ensures in
     let input = g.R.Read.remaining (marked_inner c.args.reader.now) in
     let left = g.R.Read.remaining (marked_inner c.run_list.new.reader) in
     let old = g.W.Write.contents (marked_inner c.args.writer.now) in
     let new = g.W.Write.contents (marked_inner c.run_list.new.writer) in
-    inr (inr (written, are_written P o texts set.set.patterns.items made.1, same_but known g.row.A.Denot P c.args.form asked.list asked.inverted (IsChosenBy P globs) (IsChosen P o written) choose asked.files input left old new c.run_list.result (inr (files, read, c.run_list.ensures.run))))
+    inr (inr (written, are_written P o texts set.set.patterns.items made.1, same_but known g.row.A.Denot P c.args.form asked.list asked.inverted asked.case_insensitive (IsChosenBy P globs) (IsChosen P o written) choose asked.files input left old new c.run_list.result (inr (files, read, c.run_list.ensures.run))))
