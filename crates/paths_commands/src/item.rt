@@ -2,14 +2,17 @@
 ghost use Rattle.std.specs.Prelude.{◌≡◌, ◌≢◌, ◌⊎◌, ◌∷◌, ◌++◌, ◌≤◌, [], ℕ, List, Some, None, OnOk, OnErr, IfErr, drop, length, take};
 ghost use Rattle.program_frame.specs.declared.lists.fault.ItemFault.TheVariants.{Refused, Memory};
 ghost use Rattle.path_building.specs.Cleaned.{IsCleaned};
+ghost use Rattle.path_building.specs.FullPath.{IsFullPath, IsAbsoluteFault};
 ghost use Rattle.path_building.specs.Join.{IsJoin};
 ghost use Rattle.path_building.specs.Normalized.{IsNormalized, HasNoNormalForm};
 ghost use Rattle.path_building.specs.Relative.{IsRelativeFrom};
 ghost use Rattle.path_building.specs.Restyled.{IsRestyled};
+ghost use Rattle.path_building.specs.declared.full_paths.AbsoluteError.{AbsoluteError as DeclaredError};
+ghost use Rattle.path_building.specs.declared.full_paths.AbsoluteError.TheVariants as absolute_error;
 ghost use Rattle.path_building.specs.declared.walk.NameError.TheVariants as name_error;
 ghost use Rattle.path_building.specs.BaseViews.{base_path, base_style};
 ghost use Rattle.paths_commands.specs.declared.fault.Refusal as why;
-ghost use Rattle.paths_commands.specs.declared.fault.Refusal.TheVariants.{NoNormalForm, NoRelativePath, ResultHas};
+ghost use Rattle.paths_commands.specs.declared.fault.Refusal.TheVariants.{NoNormalForm, NoRelativePath, NoAbsolutePath, ResultHas};
 ghost use Rattle.program_frame.specs.Items.{Lacks};
 ghost use Rattle.program_frame.specs.ListOptions.{byte_of};
 ghost use Rattle.program_frame.specs.Rules.{IsItemFault};
@@ -22,7 +25,7 @@ use crate::answers::{parent, part};
 use crate::components::{push_components, shown_component};
 use crate::fault::Refusal;
 use crate::task::Task;
-use os_path::{ConvertError, NameError, NormalizeError, PathExt, PathStyle};
+use os_path::{AbsoluteError, ConvertError, NameError, NormalizeError, PathExt, PathStyle};
 use os_str_bytes::{OsStr, Path, Platform, Unix, Wasm, Windows};
 use path_building::Base;
 use program_frame::lists::fault::ItemFault;
@@ -138,6 +141,7 @@ fn write_result<E: PathStyle, A: Allocator + Copy>(
         Task::Join(base) => write_joined::<E, A>(alloc, base, path, output),
         Task::JoinChecked(base) => write_checked::<E, A>(alloc, base, path, output),
         Task::Relative(base) => write_relative::<E, A>(alloc, base, path, output),
+        Task::Absolute(directory) => write_absolute::<E, A>(alloc, directory, path, output),
         Task::Convert(to) => write_on::<E, A>(alloc, to, path, output),
     }
 }
@@ -303,6 +307,38 @@ fn way_text<'a>(way: &'a [u8]) -> &'a [u8]
     match way {
         [] => b".",
         _ => way,
+    }
+}
+
+/// Appends a path as an absolute path, which is below the directory if the path is relative.
+fn write_absolute<E: PathStyle, A: Allocator + Copy>(
+    alloc: A,
+    directory: &str,
+    path: Path<'_, E>,
+    output: &mut Vec<u8, A>,
+) -> Result<(), ItemFault<Refusal>>
+    ensures ok { OnOk result ((full : List ℕ)
+        × (IsFullPath E.follows (path_bytes path.entry) directory.now full
+        × (output.new.items ≡ output.old.items ++ full))) }
+    ensures fault { IfErr result (λ fault. (fault ≡ Memory) ⊎ ((error : DeclaredError)
+        × ((fault ≡ Refused (NoAbsolutePath error)) × ((error ≢ absolute_error.Memory)
+        × IsAbsoluteFault E.follows (path_bytes path.entry) directory.now error)))) }
+    ensures unchanged { OnErr result (output.new.items ≡ output.old.items) }
+{
+    match path.absolute(alloc, Path::new(OsStr::new(directory))) {
+        Ok(full) => write_answer(full.as_os_str().as_encoded_bytes(), output),
+        Err(error) => Err(unplaced(error)),
+    }
+}
+
+/// The fault of a path that isn't made absolute.
+fn unplaced(error: AbsoluteError) -> ItemFault<Refusal>
+    ensures { (result ≡ Memory)
+        ⊎ ((error ≢ absolute_error.Memory) × (result ≡ Refused (NoAbsolutePath error))) }
+{
+    match error {
+        AbsoluteError::Memory => ItemFault::Memory,
+        reason => ItemFault::Refused(Refusal::NoAbsolutePath(reason)),
     }
 }
 
