@@ -1,6 +1,6 @@
 -- What each task requests of a path, and with which faults a path is rejected. No file's path has a NUL (POSIX, "Definitions", Pathname).
 use Rattle.std.specs.Prelude.{◌≡◌, ◌≢◌, ◌⊎◌, ℕ, ◌≤◌, List, [], ◌∷◌, ◌++◌, codes, length, Option, Some, None}
-use Rattle.std.specs.Fmt.Cut.{IsTextOrCut}
+use Rattle.std.specs.Fmt.Cut.{cut_to}
 use Rattle.std.specs.Fmt.InlineText.{inline_text}
 use Rattle.std.specs.Borrow.{Bor}
 use Rattle.os_str_bytes.specs.Platform.{Ghosts}
@@ -179,10 +179,10 @@ module _ {E : Type 0} (p : Ghosts E) (style : Style) where
   abbrev pub IsText : ItemEnd → Task → List ℕ → List ℕ → Type 0
   IsText end task path text = p.well_formed path × (Lacks 0 path × IsPathText end task path text)
 
-  -- what is shown of the component at this index: its escape, which is cut if it is longer than 200 bytes
+  -- what is shown of the component at this index: its escape, of which 200 bytes are kept, three dots among them, if it is longer
   abbrev pub IsShown : List Item → ℕ → List ℕ → Type 0
   IsShown items index text =
-      ((item : Item) × (IsAt items index item × ((line : List ℕ) × (IsLineEscape p.units (component_text style item) line × IsTextOrCut 200 line text))))
+      ((item : Item) × (IsAt items index item × ((line : List ℕ) × (IsLineEscape p.units (component_text style item) line × (text ≡ cut_to 200 line)))))
       ⊎ ((length items ≤ index) × (text ≡ []))
 
   -- the same, of a path's components

@@ -1,5 +1,5 @@
 //! What is written for one path.
-ghost use Rattle.std.specs.Prelude.{◌≡◌, ◌≢◌, ◌⊎◌, ◌∷◌, ◌++◌, ◌≤◌, [], ℕ, List, Some, None, OnOk, OnErr, IfErr, drop, length, take};
+ghost use Rattle.std.specs.Prelude.{◌≡◌, ◌≢◌, ◌⊎◌, ◌∷◌, ◌++◌, ◌≤◌, [], ℕ, List, Some, None, OnOk, OnErr, IfOk, IfErr, drop, length, take};
 ghost use Rattle.program_frame.specs.declared.lists.fault.ItemFault.TheVariants.{Refused, Memory};
 ghost use Rattle.path_building.specs.Cleaned.{IsCleaned};
 ghost use Rattle.path_building.specs.FullPath.{IsFullPath, IsAbsoluteFault};
@@ -32,7 +32,7 @@ use program_frame::lists::fault::ItemFault;
 use program_frame::lists::items::split_at_end;
 use program_frame::lists::options::{ItemEnd, ListOptions};
 use program_frame::os::Os;
-use std::alloc::Allocator;
+use std::alloc::{AllocError, Allocator};
 
 /// Appends what is written for a path.
 #[tactic(auto, using(program_frame::proofs::lemmas::lists::Items::has_end))]
@@ -238,29 +238,41 @@ fn write_checked<E: PathStyle, A: Allocator + Copy>(
 {
     match base.join(alloc, path.as_os_str().as_encoded_bytes()) {
         Ok(joined) => write_answer(&joined, output),
-        Err(error) => Err(unjoined::<E>(path, error)),
+        Err(error) => Err(unjoined::<E, A>(alloc, path, error)),
     }
 }
 
 /// The fault of a path that isn't joined to a base.
-fn unjoined<E: PathStyle>(path: Path<'_, E>, error: NameError) -> ItemFault<Refusal>
+fn unjoined<E: PathStyle, A: Allocator>(
+    alloc: A,
+    path: Path<'_, E>,
+    error: NameError,
+) -> ItemFault<Refusal>
     ensures { (result ≡ Memory) ⊎ ((error ≢ name_error.Memory) × ((why : why.Refusal)
         × ((result ≡ Refused why)
         × IsReasonOf ⟦<E as Platform>⟧ E.follows (path_bytes path.entry) error why))) }
 {
     match error {
         NameError::Memory => ItemFault::Memory,
-        reason => ItemFault::Refused(reason_of::<E>(path, reason)),
+        reason => match reason_of::<E, A>(alloc, path, reason) {
+            Ok(why) => ItemFault::Refused(why),
+            Err(_) => ItemFault::Memory,
+        },
     }
 }
 
 /// The reason for an error, with the component at fault, if it is one.
-fn reason_of<E: PathStyle>(path: Path<'_, E>, error: NameError) -> Refusal
-    ensures { IsReasonOf ⟦<E as Platform>⟧ E.follows (path_bytes path.entry) error result }
+fn reason_of<E: PathStyle, A: Allocator>(
+    alloc: A,
+    path: Path<'_, E>,
+    error: NameError,
+) -> Result<Refusal, AllocError>
+    ensures { IfOk result (λ why.
+        IsReasonOf ⟦<E as Platform>⟧ E.follows (path_bytes path.entry) error why) }
 {
     match component_of(error) {
-        Some(index) => Refusal::NoJoinAt(error, shown_component::<E>(path, index)),
-        None => Refusal::NoJoin(error),
+        Some(index) => Ok(Refusal::NoJoinAt(error, shown_component::<E, A>(alloc, path, index)?)),
+        None => Ok(Refusal::NoJoin(error)),
     }
 }
 
@@ -380,10 +392,10 @@ fn write_converted<E: PathStyle, F: PathStyle, A: Allocator + Copy>(
 {
     match path.with_style::<F, A>(alloc) {
         Ok(made) => write_answer(made.as_os_str().as_encoded_bytes(), output),
-        Err(ConvertError::Component(index)) => Err(ItemFault::Refused(Refusal::NoComponent(
-            index,
-            shown_component(path, index),
-        ))),
+        Err(ConvertError::Component(index)) => match shown_component::<E, A>(alloc, path, index) {
+            Ok(text) => Err(ItemFault::Refused(Refusal::NoComponent(index, text))),
+            Err(_) => Err(ItemFault::Memory),
+        },
         Err(ConvertError::Encoding(fault)) => {
             Err(ItemFault::Refused(Refusal::NoStringThere(fault)))
         }
