@@ -14,6 +14,7 @@ use Rattle.path_building.specs.BaseViews.{base_style}
 use Rattle.path_building.specs.Faults.{IsBaseFault}
 use Rattle.path_building.specs.declared.base.BaseError.{BaseError}
 use Rattle.path_building.specs.declared.base.BaseError.TheVariants as base_error
+use Rattle.path_rules.specs.Root.{IsAbsolute}
 use Rattle.path_rules.specs.declared.rules.Style.{Style}
 use Rattle.paths_commands.specs.Options.{has_value, spelled}
 use Rattle.paths_commands.specs.Styles.{style_of}
@@ -25,7 +26,7 @@ use Rattle.paths_commands.specs.declared.command.Name.TheVariants as task_name
 use Rattle.paths_commands.specs.declared.option.PathsOption.{PathsOption}
 use Rattle.paths_commands.specs.declared.option.PathsOption.TheVariants as option
 use Rattle.paths_commands.specs.declared.task.Task.{Task}
-use Rattle.paths_commands.specs.declared.task.Task.TheVariants.{Components, Parent, Name as LastName, Stem, Extension, Normalize, Clean, Join, JoinChecked, Relative, Convert}
+use Rattle.paths_commands.specs.declared.task.Task.TheVariants.{Components, Parent, Name as LastName, Stem, Extension, Normalize, Clean, Join, JoinChecked, Relative, Absolute, Convert}
 
 -- options and operands, as they were given
 abbrev pub Line : Type 0
@@ -39,7 +40,7 @@ IsOfPaths given = (¬ (HasOption option.Help given)) × (¬ (HasOption option.Ve
 abbrev pub HasOperands : Line → Name → Os → List (List ℕ) → Type 0
 HasOperands given name os more = operands_of given ≡ name_word name ∷ os_word os ∷ more
 
--- the base of the task, if it has one that was tested, follows these rules
+-- the task's operand is valid by these rules: a base that was tested follows them, and a directory is absolute
 abbrev pub HasStyle : Style → Task → Type 0
 HasStyle style Components = Unit {0}
 HasStyle style Parent = Unit {0}
@@ -51,9 +52,10 @@ HasStyle style Clean = Unit {0}
 HasStyle style (Join base) = Unit {0}
 HasStyle style (JoinChecked base) = base_style base ≡ style
 HasStyle style (Relative base) = Unit {0}
+HasStyle style (Absolute directory) = IsAbsolute style directory.now
 HasStyle style (Convert to) = Unit {0}
 
--- the task has this name, is checked where that is requested, and has these operands; a base that was tested is one on this platform
+-- the task has this name, is checked where that is requested, and has these operands; the operand is valid on this platform
 abbrev pub IsTaskOf : Name → Bool → Os → List (List ℕ) → Task → Type 0
 IsTaskOf name is_checked os operands task = (name_of task ≡ name) × ((IsChecked task ↔ (is_checked ≡ true)) × (HasStyle (style_of os) task × (operands ≡ operands_of_task task)))
 
@@ -68,6 +70,7 @@ Needs task_name.Normalize what = ⊥
 Needs task_name.Clean what = ⊥
 Needs task_name.Join what = what ≡ codes "BASE"
 Needs task_name.Relative what = what ≡ codes "BASE"
+Needs task_name.Absolute what = what ≡ codes "DIR"
 Needs task_name.Convert what = what ≡ codes "platform to convert to"
 
 -- what is missing: a command, a platform after it, or the operand that the task needs
@@ -88,14 +91,18 @@ abbrev pub IsNoBase : Line → List ℕ → List ℕ → Type 0
 IsNoBase given what word = (error : BaseError) × ((what ≡ base_word error) × (HasOption option.Checked given
     × ((os : Os) × (HasOperands given task_name.Join os (word ∷ []) × IsBaseFault (style_of os) word error))))
 
--- which word is no command, no platform or no base
+-- the word is no absolute path of the platform, and `absolute` wants one
+abbrev pub IsNoDirectory : Line → List ℕ → List ℕ → Type 0
+IsNoDirectory given what word = (what ≡ codes "DIR (not absolute)") × ((os : Os) × (HasOperands given task_name.Absolute os (word ∷ []) × (¬ (IsAbsolute (style_of os) word))))
+
+-- which word is no command, no platform, no base or no directory
 abbrev pub IsInvalid : Line → List ℕ → List ℕ → Type 0
 IsInvalid given what word =
     ((what ≡ codes "command") × (((name : Name) → word ≢ name_word name) × ((more : List (List ℕ)) × (operands_of given ≡ word ∷ more))))
     ⊎ (((what ≡ codes "platform") × (((os : Os) → word ≢ os_word os) × (
     ((command : List ℕ) × ((more : List (List ℕ)) × (operands_of given ≡ command ∷ word ∷ more)))
     ⊎ ((os : Os) × HasOperands given task_name.Convert os (word ∷ [])))))
-    ⊎ IsNoBase given what word)
+    ⊎ (IsNoBase given what word ⊎ IsNoDirectory given what word))
 
 -- `--checked` is given, and isn't for the task that is named
 abbrev pub IsMisplaced : Line → List ℕ → List ℕ → Type 0

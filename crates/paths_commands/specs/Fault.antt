@@ -3,11 +3,11 @@ use Rattle.std.specs.Prelude.{ℕ, ◌+◌, ◌-◌, ◌^◌, min, List, ◌++�
 use Rattle.std.specs.Fmt.Cut.{IsTextOrCut}
 use Rattle.std.specs.Fmt.InlineText.{inline_text}
 use Rattle.os_str_bytes.specs.FaultText.{fault_text}
-use Rattle.path_building.specs.ErrorText.{name_error_text}
+use Rattle.path_building.specs.ErrorText.{absolute_error_text, name_error_text}
 use Rattle.path_building.specs.declared.walk.NameError.{NameError}
 use Rattle.path_building.specs.declared.walk.NameError.TheVariants as name
 use Rattle.paths_commands.specs.declared.fault.Refusal.{Refusal}
-use Rattle.paths_commands.specs.declared.fault.Refusal.TheVariants.{NoString, NoNormalForm, NoRelativePath, NoJoin, NoJoinAt, NoComponent, NoStringThere, HasNul, ResultHas}
+use Rattle.paths_commands.specs.declared.fault.Refusal.TheVariants.{NoString, NoNormalForm, NoRelativePath, NoAbsolutePath, NoJoin, NoJoinAt, NoComponent, NoStringThere, HasNul, ResultHas}
 use Rattle.paths_commands.specs.declared.fault.CommandFault.{CommandFault}
 use Rattle.paths_commands.specs.declared.fault.CommandFault.TheVariants.{Unreadable, Misuse, PassedOver}
 use Rattle.program_frame.specs.Misuse.{misuse_text}
@@ -55,6 +55,7 @@ abbrev pub refusal_text : Refusal → List ℕ
 refusal_text (NoString error) = fault_text error
 refusal_text NoNormalForm = codes "no name before a .."
 refusal_text NoRelativePath = codes "no path from the base leads there"
+refusal_text (NoAbsolutePath error) = absolute_error_text error
 refusal_text (NoJoin error) = name_error_text error
 refusal_text (NoJoinAt error text) = at_fault_text error (inline_text text)
 refusal_text (NoComponent index text) = unlike_text index (inline_text text)

@@ -1,6 +1,6 @@
 -- What each task requests of a path, and with which faults a path is rejected. No file's path has a NUL (POSIX, "Definitions", Pathname).
 use Rattle.std.specs.Prelude.{◌≡◌, ◌≢◌, ◌⊎◌, ℕ, ◌≤◌, List, [], ◌∷◌, ◌++◌, codes, length, Option, Some, None}
-use Rattle.std.specs.Fmt.Cut.{IsTextOrCut}
+use Rattle.std.specs.Fmt.Cut.{cut_to}
 use Rattle.std.specs.Fmt.InlineText.{inline_text}
 use Rattle.std.specs.Borrow.{Bor}
 use Rattle.os_str_bytes.specs.Platform.{Ghosts}
@@ -15,9 +15,11 @@ use Rattle.path_building.specs.Checked.{IsBelowBase, IsCheckedJoin}
 use Rattle.path_building.specs.Faults.{IsNameFault}
 use Rattle.path_building.specs.declared.base.Base.{Base}
 use Rattle.path_building.specs.Cleaned.{IsCleaned}
+use Rattle.path_building.specs.FullPath.{IsFullPath, IsAbsoluteFault}
 use Rattle.path_building.specs.Join.{IsJoin}
 use Rattle.path_building.specs.Normalized.{IsNormalized, HasNoNormalForm}
 use Rattle.path_building.specs.Relative.{IsRelativeFrom}
+use Rattle.path_building.specs.declared.full_paths.AbsoluteError.TheVariants as absolute_error
 use Rattle.path_building.specs.declared.walk.NameError.{NameError}
 use Rattle.path_building.specs.declared.walk.NameError.TheVariants as name_error
 use Rattle.path_building.specs.Restyled.{IsRestyled}
@@ -39,7 +41,7 @@ use Rattle.paths_commands.specs.declared.fault.Refusal.TheVariants as refusal
 use Rattle.paths_commands.specs.declared.command.Name.{Name as DeclaredName}
 use Rattle.paths_commands.specs.declared.command.Name.TheVariants as name
 use Rattle.paths_commands.specs.declared.task.Task.{Task}
-use Rattle.paths_commands.specs.declared.task.Task.TheVariants.{Components, Parent, Name, Stem, Extension, Normalize, Clean, Join, JoinChecked, Relative, Convert}
+use Rattle.paths_commands.specs.declared.task.Task.TheVariants.{Components, Parent, Name, Stem, Extension, Normalize, Clean, Join, JoinChecked, Relative, Absolute, Convert}
 
 -- the name of the task
 abbrev pub name_of : Task → DeclaredName
@@ -53,6 +55,7 @@ name_of Clean = name.Clean
 name_of (Join base) = name.Join
 name_of (JoinChecked base) = name.Join
 name_of (Relative base) = name.Relative
+name_of (Absolute directory) = name.Absolute
 name_of (Convert to) = name.Convert
 
 -- the argument that is the name
@@ -66,6 +69,7 @@ name_word name.Normalize = codes "normalize"
 name_word name.Clean = codes "clean"
 name_word name.Join = codes "join"
 name_word name.Relative = codes "relative"
+name_word name.Absolute = codes "absolute"
 name_word name.Convert = codes "convert"
 
 -- the task joins no path that could leave the base
@@ -80,6 +84,7 @@ IsChecked Clean = ⊥
 IsChecked (Join base) = ⊥
 IsChecked (JoinChecked base) = Unit {0}
 IsChecked (Relative base) = ⊥
+IsChecked (Absolute directory) = ⊥
 IsChecked (Convert to) = ⊥
 
 -- the operands after the platform's
@@ -94,6 +99,7 @@ operands_of_task Clean = []
 operands_of_task (Join base) = base.now ∷ []
 operands_of_task (JoinChecked base) = base_path base ∷ []
 operands_of_task (Relative base) = base.now ∷ []
+operands_of_task (Absolute directory) = directory.now ∷ []
 operands_of_task (Convert to) = os_word to ∷ []
 
 -- a component as it is written (std's `Component::as_os_str`)
@@ -113,7 +119,7 @@ abbrev pub way_text : List ℕ → List ℕ
 way_text [] = codes "."
 way_text (b ∷ way) = b ∷ way
 
--- the result of the task: the requested part, and nothing where the path has none. Or a form of the path, the path after a base or how it is reached from one, or a path of another platform with its components
+-- the result of the task: the requested part, and nothing where the path has none. Or a form of the path, the path after a base or how it is reached from one, the path as an absolute path, or a path of another platform with its components
 abbrev pub IsAnswer : Style → Task → List ℕ → List ℕ → Type 0
 IsAnswer style Components path answer = ⊥
 IsAnswer style Parent path answer = IsParent style path answer ⊎ (HasNoParent style path × (answer ≡ []))
@@ -125,6 +131,7 @@ IsAnswer style Clean path answer = IsCleaned style path answer
 IsAnswer style (Join base) path answer = IsJoin style base.now path answer
 IsAnswer style (JoinChecked base) path answer = IsJoinedBelow base path answer
 IsAnswer style (Relative base) path answer = (way : List ℕ) × (IsRelativeFrom style path base.now (Some way) × (answer ≡ way_text way))
+IsAnswer style (Absolute directory) path answer = IsFullPath style path directory.now answer
 IsAnswer style (Convert to) path answer = (strings to).well_formed answer × IsRestyled style (style_of to) path answer
 
 -- the index of the component that the error is about, if it is about one: a prefix or a root is the first
@@ -172,10 +179,10 @@ module _ {E : Type 0} (p : Ghosts E) (style : Style) where
   abbrev pub IsText : ItemEnd → Task → List ℕ → List ℕ → Type 0
   IsText end task path text = p.well_formed path × (Lacks 0 path × IsPathText end task path text)
 
-  -- what is shown of the component at this index: its escape, which is cut if it is longer than 200 bytes
+  -- what is shown of the component at this index: its escape, of which 200 bytes are kept, three dots among them, if it is longer
   abbrev pub IsShown : List Item → ℕ → List ℕ → Type 0
   IsShown items index text =
-      ((item : Item) × (IsAt items index item × ((line : List ℕ) × (IsLineEscape p.units (component_text style item) line × IsTextOrCut 200 line text))))
+      ((item : Item) × (IsAt items index item × ((line : List ℕ) × (IsLineEscape p.units (component_text style item) line × (text ≡ cut_to 200 line)))))
       ⊎ ((length items ≤ index) × (text ≡ []))
 
   -- the same, of a path's components
@@ -187,6 +194,7 @@ module _ {E : Type 0} (p : Ghosts E) (style : Style) where
   IsReasonOf path error (refusal.NoString other) = ⊥
   IsReasonOf path error refusal.NoNormalForm = ⊥
   IsReasonOf path error refusal.NoRelativePath = ⊥
+  IsReasonOf path error (refusal.NoAbsolutePath other) = ⊥
   IsReasonOf path error (refusal.NoJoin other) = (other ≡ error) × (component_of error ≡ None)
   IsReasonOf path error (refusal.NoJoinAt other text) = (other ≡ error) × ((index : ℕ) × ((component_of error ≡ Some index) × IsShownOf path index (inline_text text)))
   IsReasonOf path error (refusal.NoComponent index text) = ⊥
@@ -203,6 +211,7 @@ module _ {E : Type 0} (p : Ghosts E) (style : Style) where
   IsUnconverted to is_fault path (refusal.NoString error) = ⊥
   IsUnconverted to is_fault path refusal.NoNormalForm = ⊥
   IsUnconverted to is_fault path refusal.NoRelativePath = ⊥
+  IsUnconverted to is_fault path (refusal.NoAbsolutePath error) = ⊥
   IsUnconverted to is_fault path (refusal.NoJoin error) = ⊥
   IsUnconverted to is_fault path (refusal.NoJoinAt error text) = ⊥
   IsUnconverted to is_fault path (refusal.NoComponent index text) = IsConvertFault style to is_fault path (convert.Component index) × IsShownOf path index (inline_text text)
@@ -215,6 +224,7 @@ module _ {E : Type 0} (p : Ghosts E) (style : Style) where
   IsUnanswered task path (refusal.NoString error) = ⊥
   IsUnanswered task path refusal.NoNormalForm = (task ≡ Normalize) × HasNoNormalForm style path
   IsUnanswered task path refusal.NoRelativePath = (base : Bor (List ℕ)) × ((task ≡ Relative base) × IsRelativeFrom style path base.now None)
+  IsUnanswered task path (refusal.NoAbsolutePath error) = (directory : Bor (List ℕ)) × ((task ≡ Absolute directory) × ((error ≢ absolute_error.Memory) × IsAbsoluteFault style path directory.now error))
   IsUnanswered task path (refusal.NoJoin error) = (base : Base) × ((task ≡ JoinChecked base) × IsUnjoined base path (refusal.NoJoin error))
   IsUnanswered task path (refusal.NoJoinAt error text) = (base : Base) × ((task ≡ JoinChecked base) × IsUnjoined base path (refusal.NoJoinAt error text))
   IsUnanswered task path (refusal.NoComponent index text) = (to : Os) × ((task ≡ Convert to) × IsUnconverted (style_of to) (strings to).first_fault path (refusal.NoComponent index text))
@@ -231,6 +241,7 @@ module _ {E : Type 0} (p : Ghosts E) (style : Style) where
   IsRefusal end task path (refusal.NoString error) = p.first_fault path error
   IsRefusal end task path refusal.NoNormalForm = IsUnanswered task path refusal.NoNormalForm
   IsRefusal end task path refusal.NoRelativePath = IsUnanswered task path refusal.NoRelativePath
+  IsRefusal end task path (refusal.NoAbsolutePath error) = IsUnanswered task path (refusal.NoAbsolutePath error)
   IsRefusal end task path (refusal.NoJoin error) = IsUnanswered task path (refusal.NoJoin error)
   IsRefusal end task path (refusal.NoJoinAt error text) = IsUnanswered task path (refusal.NoJoinAt error text)
   IsRefusal end task path (refusal.NoComponent index text) = IsUnanswered task path (refusal.NoComponent index text)

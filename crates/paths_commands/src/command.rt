@@ -3,6 +3,7 @@ ghost use Rattle.std.specs.Prelude.{◌≡◌, ◌≢◌, ◌↔◌, ◌∷◌, 
 ghost use Rattle.program_frame.specs.Arguments.{HasOption, operands_of};
 ghost use Rattle.program_frame.specs.ListOptions.{AreStated};
 ghost use Rattle.paths_commands.specs.Command.{AsksFor, HasOperands, HasStyle, base_word, IsMisuse, IsOfPaths, IsSurplus, IsTaskOf, RequestsNothing, longest_path};
+ghost use Rattle.path_rules.specs.Root.{IsAbsolute};
 ghost use Rattle.paths_commands.specs.Styles.{style_of};
 ghost use Rattle.paths_commands.specs.Task.{IsChecked, name_of, name_word, operands_of_task};
 ghost use Rattle.paths_commands.specs.declared.command.Name.{Name as DeclaredName};
@@ -15,6 +16,7 @@ use os_args::Word;
 use os_path::Style;
 use os_str_bytes::OsStr;
 use path_building::{Base, BaseError};
+use path_rules::is_absolute;
 use program_frame::arguments::{Given, has, next_operand};
 use program_frame::lists::options::ListOptions;
 use program_frame::misuse::Misuse;
@@ -42,7 +44,7 @@ impl<'a> Command<'a> {
     /// The command that options and operands make up. It doesn't allocate.
     ///
     /// `--help` and `--version` are commands wherever they stand. Otherwise the operands are a
-    /// command, a platform and, for `join`, `relative` and `convert`, one more. Options stand
+    /// command, a platform and, for `join`, `relative`, `absolute` and `convert`, one more. Options stand
     /// anywhere: `--keep-going`, `--lines`, `--unterminated`, and `--checked` for `join`. Without
     /// `--lines` a NUL ends each path, and without `--unterminated` the last path has its end, too.
     ///
@@ -50,7 +52,7 @@ impl<'a> Command<'a> {
     ///
     /// What is wrong: something is missing, an argument is invalid, `--checked` isn't for the
     /// command, or an operand is one too many. With `--checked` BASE is invalid if it is no
-    /// [`Base`].
+    /// [`Base`]. DIR of `absolute` is invalid if it isn't absolute ([`path_rules::is_absolute`]).
     ///
     /// ```
     /// use paths_commands::command::Command;
@@ -146,6 +148,8 @@ pub enum Name {
     Join,
     /// `relative`.
     Relative,
+    /// `absolute`.
+    Absolute,
     /// `convert`.
     Convert,
 }
@@ -166,6 +170,7 @@ impl Name {
             "clean" => Some(Name::Clean),
             "join" => Some(Name::Join),
             "relative" => Some(Name::Relative),
+            "absolute" => Some(Name::Absolute),
             "convert" => Some(Name::Convert),
             _ => None,
         }
@@ -185,6 +190,7 @@ impl Name {
             Name::Clean => "clean",
             Name::Join => "join",
             Name::Relative => "relative",
+            Name::Absolute => "absolute",
             Name::Convert => "convert",
         }
     }
@@ -232,6 +238,7 @@ fn without_operand<'a>(given: Line<'_, 'a>, name: Name, os: Os) -> Result<Task<'
         Name::Normalize => Ok(Task::Normalize),
         Name::Clean => Ok(Task::Clean),
         Name::Join | Name::Relative => Err(Misuse::Missing("BASE")),
+        Name::Absolute => Err(Misuse::Missing("DIR")),
         Name::Convert => Err(Misuse::Missing("platform to convert to")),
     }
 }
@@ -259,6 +266,12 @@ fn with_operand<'a>(
             Ok(Task::Join(operand))
         }
         Name::Relative => Ok(Task::Relative(operand)),
+        Name::Absolute => {
+            if is_absolute_on(os, operand) {
+                return Ok(Task::Absolute(operand));
+            }
+            Err(Misuse::Invalid("DIR (not absolute)", operand))
+        }
         Name::Convert => match Os::named(operand) {
             Some(to) => Ok(Task::Convert(to)),
             None => Err(Misuse::Invalid("platform", operand)),
@@ -271,6 +284,13 @@ fn with_operand<'a>(
         | Name::Normalize
         | Name::Clean => Err(surplus(operand)),
     }
+}
+
+/// Whether the directory is an absolute path of the platform.
+fn is_absolute_on(os: Os, directory: &str) -> bool
+    ensures { (result ≡ true) ↔ IsAbsolute (style_of os) directory.now }
+{
+    is_absolute(style_of(os), directory.as_bytes())
 }
 
 /// The task that joins paths to a base, which is tested.

@@ -1,5 +1,6 @@
 //! The components of a path: all of them, one a line, or the one at an index.
-ghost use Rattle.std.specs.Prelude.{◌≡◌, ◌∷◌, ◌++◌, [], ℕ, List, MatchOption, OnOk, OnErr, length, ◌≤◌};
+ghost use Rattle.std.specs.Prelude.{◌≡◌, ◌∷◌, ◌++◌, [], ℕ, List, MatchOption, IfOk, OnOk, OnErr, length, ◌≤◌};
+ghost use Rattle.std.specs.Fmt.Cut.{cut_to};
 ghost use Rattle.std.specs.Fmt.InlineText.{inline_text};
 ghost use Rattle.os_path.specs.Views.{os_item_of};
 ghost use Rattle.platform_str.specs.Strings.{bytes, path_bytes};
@@ -8,7 +9,7 @@ ghost use Rattle.paths_commands.specs.Task.{AreLines, IsAt, IsComponentsText, Is
 
 use crate::fault::SHOWN;
 use os_path::{Component, Components, PathExt, PathStyle, Style};
-use os_quote::escaped_line;
+use os_quote::escape_line;
 use os_str_bytes::{OsStr, Path, Platform};
 use program_frame::lists::lines::push_line;
 use std::alloc::{AllocError, Allocator};
@@ -52,22 +53,45 @@ fn push_lines<'a, E: PathStyle, A: Allocator + Copy>(
 }
 
 /// The escape of a path's component at this index, or nothing if it has no such component.
-pub fn shown_component<E: PathStyle>(path: Path<'_, E>, index: usize) -> InlineText<SHOWN>
-    ensures { IsShownOf ⟦<E as Platform>⟧ E.follows (path_bytes path.entry) index
-        (inline_text result) }
+///
+/// # Errors
+///
+/// `AllocError` if an allocation failed.
+pub fn shown_component<E: PathStyle, A: Allocator>(
+    alloc: A,
+    path: Path<'_, E>,
+    index: usize,
+) -> Result<InlineText<SHOWN>, AllocError>
+    ensures { IfOk result (λ text. IsShownOf ⟦<E as Platform>⟧ E.follows (path_bytes path.entry)
+        index (inline_text text)) }
 {
-    shown_at(path.components(), index)
+    shown_at(alloc, path.components(), index)
 }
 
 /// The escape of the component at this index, or nothing if there is none.
-fn shown_at<'a, E: PathStyle>(components: Components<'a, E>, index: usize) -> InlineText<SHOWN>
-    ensures { IsShown ⟦<E as Platform>⟧ E.follows components.entry.items index
-        (inline_text result) }
+fn shown_at<'a, E: PathStyle, A: Allocator>(
+    alloc: A,
+    components: Components<'a, E>,
+    index: usize,
+) -> Result<InlineText<SHOWN>, AllocError>
+    ensures { IfOk result (λ text. IsShown ⟦<E as Platform>⟧ E.follows components.entry.items
+        index (inline_text text)) }
 {
     match component_at(components, index) {
-        Some(component) => InlineText::of(escaped_line(component_text(component))),
-        None => InlineText::new(),
+        Some(component) => {
+            let line = escape_line(alloc, component_text(component))?;
+            Ok(shown(line.as_str()))
+        }
+        None => Ok(InlineText::new()),
     }
+}
+
+/// A text, which is cut if it is longer than what is printed of one.
+fn shown(text: &str) -> InlineText<SHOWN>
+    ensures { inline_text result ≡ cut_to 200 text.now }
+{
+    let empty = InlineText::new();
+    empty.and_str(text, SHOWN)
 }
 
 /// The component at this index.

@@ -4,7 +4,7 @@ ghost use Rattle.std.specs.Fmt.{WritesStyledOnOk};
 ghost use Rattle.std.specs.Fmt.InlineText.{inline_text};
 ghost use Rattle.paths_commands.specs.Fault.{IsOfMisuse, at_fault_text, from_one, numbered, quoted, result_text, unlike_text};
 
-use os_path::NameError;
+use os_path::{AbsoluteError, NameError};
 use os_str_bytes::{EncodingError, write_number};
 use program_frame::lists::fault::ItemRefusal;
 use program_frame::lists::options::ItemEnd;
@@ -26,6 +26,8 @@ pub enum Refusal {
     NoNormalForm,
     /// No path leads to it from the base.
     NoRelativePath,
+    /// It isn't made absolute, for this reason.
+    NoAbsolutePath(AbsoluteError),
     /// It isn't joined to the base, since it has a NUL.
     NoJoin(NameError),
     /// It isn't joined to the base for this reason, which is a fault of one of its components. The
@@ -94,6 +96,7 @@ impl ItemRefusal for Refusal {
             Refusal::NoString(error) => error.fmt(f),
             Refusal::NoNormalForm => f.write_str("no name before a .."),
             Refusal::NoRelativePath => f.write_str("no path from the base leads there"),
+            Refusal::NoAbsolutePath(error) => error.fmt(f),
             Refusal::NoJoin(error) => error.fmt(f),
             Refusal::NoJoinAt(error, text) => write_at_fault(error, &text, f),
             Refusal::NoComponent(index, text) => write_component(index, &text, f),

@@ -24,6 +24,8 @@ paths join       PLATFORM BASE     writes the path after BASE; one with a root o
 paths join --checked PLATFORM BASE writes the path below BASE, and rejects one that could leave it
 paths relative   PLATFORM BASE     writes the path as it is reached from BASE, which is . for BASE itself, and
                                    rejects one that no path leads to
+paths absolute   PLATFORM DIR      writes the path as an absolute path, below DIR if it is relative, and rejects one
+                                   that can't be made absolute
 paths convert    PLATFORM TO       writes the path of the platform TO with the same components, and rejects one
                                    with a component that TO can't have
 

@@ -1,15 +1,18 @@
 //! What is written for one path.
-ghost use Rattle.std.specs.Prelude.{◌≡◌, ◌≢◌, ◌⊎◌, ◌∷◌, ◌++◌, ◌≤◌, [], ℕ, List, Some, None, OnOk, OnErr, IfErr, drop, length, take};
+ghost use Rattle.std.specs.Prelude.{◌≡◌, ◌≢◌, ◌⊎◌, ◌∷◌, ◌++◌, ◌≤◌, [], ℕ, List, Some, None, OnOk, OnErr, IfOk, IfErr, drop, length, take};
 ghost use Rattle.program_frame.specs.declared.lists.fault.ItemFault.TheVariants.{Refused, Memory};
 ghost use Rattle.path_building.specs.Cleaned.{IsCleaned};
+ghost use Rattle.path_building.specs.FullPath.{IsFullPath, IsAbsoluteFault};
 ghost use Rattle.path_building.specs.Join.{IsJoin};
 ghost use Rattle.path_building.specs.Normalized.{IsNormalized, HasNoNormalForm};
 ghost use Rattle.path_building.specs.Relative.{IsRelativeFrom};
 ghost use Rattle.path_building.specs.Restyled.{IsRestyled};
+ghost use Rattle.path_building.specs.declared.full_paths.AbsoluteError.{AbsoluteError as DeclaredError};
+ghost use Rattle.path_building.specs.declared.full_paths.AbsoluteError.TheVariants as absolute_error;
 ghost use Rattle.path_building.specs.declared.walk.NameError.TheVariants as name_error;
 ghost use Rattle.path_building.specs.BaseViews.{base_path, base_style};
 ghost use Rattle.paths_commands.specs.declared.fault.Refusal as why;
-ghost use Rattle.paths_commands.specs.declared.fault.Refusal.TheVariants.{NoNormalForm, NoRelativePath, ResultHas};
+ghost use Rattle.paths_commands.specs.declared.fault.Refusal.TheVariants.{NoNormalForm, NoRelativePath, NoAbsolutePath, ResultHas};
 ghost use Rattle.program_frame.specs.Items.{Lacks};
 ghost use Rattle.program_frame.specs.ListOptions.{byte_of};
 ghost use Rattle.program_frame.specs.Rules.{IsItemFault};
@@ -22,14 +25,14 @@ use crate::answers::{parent, part};
 use crate::components::{push_components, shown_component};
 use crate::fault::Refusal;
 use crate::task::Task;
-use os_path::{ConvertError, NameError, NormalizeError, PathExt, PathStyle};
+use os_path::{AbsoluteError, ConvertError, NameError, NormalizeError, PathExt, PathStyle};
 use os_str_bytes::{OsStr, Path, Platform, Unix, Wasm, Windows};
 use path_building::Base;
 use program_frame::lists::fault::ItemFault;
 use program_frame::lists::items::split_at_end;
 use program_frame::lists::options::{ItemEnd, ListOptions};
 use program_frame::os::Os;
-use std::alloc::Allocator;
+use std::alloc::{AllocError, Allocator};
 
 /// Appends what is written for a path.
 #[tactic(auto, using(program_frame::proofs::lemmas::lists::Items::has_end))]
@@ -138,6 +141,7 @@ fn write_result<E: PathStyle, A: Allocator + Copy>(
         Task::Join(base) => write_joined::<E, A>(alloc, base, path, output),
         Task::JoinChecked(base) => write_checked::<E, A>(alloc, base, path, output),
         Task::Relative(base) => write_relative::<E, A>(alloc, base, path, output),
+        Task::Absolute(directory) => write_absolute::<E, A>(alloc, directory, path, output),
         Task::Convert(to) => write_on::<E, A>(alloc, to, path, output),
     }
 }
@@ -234,29 +238,41 @@ fn write_checked<E: PathStyle, A: Allocator + Copy>(
 {
     match base.join(alloc, path.as_os_str().as_encoded_bytes()) {
         Ok(joined) => write_answer(&joined, output),
-        Err(error) => Err(unjoined::<E>(path, error)),
+        Err(error) => Err(unjoined::<E, A>(alloc, path, error)),
     }
 }
 
 /// The fault of a path that isn't joined to a base.
-fn unjoined<E: PathStyle>(path: Path<'_, E>, error: NameError) -> ItemFault<Refusal>
+fn unjoined<E: PathStyle, A: Allocator>(
+    alloc: A,
+    path: Path<'_, E>,
+    error: NameError,
+) -> ItemFault<Refusal>
     ensures { (result ≡ Memory) ⊎ ((error ≢ name_error.Memory) × ((why : why.Refusal)
         × ((result ≡ Refused why)
         × IsReasonOf ⟦<E as Platform>⟧ E.follows (path_bytes path.entry) error why))) }
 {
     match error {
         NameError::Memory => ItemFault::Memory,
-        reason => ItemFault::Refused(reason_of::<E>(path, reason)),
+        reason => match reason_of::<E, A>(alloc, path, reason) {
+            Ok(why) => ItemFault::Refused(why),
+            Err(_) => ItemFault::Memory,
+        },
     }
 }
 
 /// The reason for an error, with the component at fault, if it is one.
-fn reason_of<E: PathStyle>(path: Path<'_, E>, error: NameError) -> Refusal
-    ensures { IsReasonOf ⟦<E as Platform>⟧ E.follows (path_bytes path.entry) error result }
+fn reason_of<E: PathStyle, A: Allocator>(
+    alloc: A,
+    path: Path<'_, E>,
+    error: NameError,
+) -> Result<Refusal, AllocError>
+    ensures { IfOk result (λ why.
+        IsReasonOf ⟦<E as Platform>⟧ E.follows (path_bytes path.entry) error why) }
 {
     match component_of(error) {
-        Some(index) => Refusal::NoJoinAt(error, shown_component::<E>(path, index)),
-        None => Refusal::NoJoin(error),
+        Some(index) => Ok(Refusal::NoJoinAt(error, shown_component::<E, A>(alloc, path, index)?)),
+        None => Ok(Refusal::NoJoin(error)),
     }
 }
 
@@ -306,6 +322,38 @@ fn way_text<'a>(way: &'a [u8]) -> &'a [u8]
     }
 }
 
+/// Appends a path as an absolute path, which is below the directory if the path is relative.
+fn write_absolute<E: PathStyle, A: Allocator + Copy>(
+    alloc: A,
+    directory: &str,
+    path: Path<'_, E>,
+    output: &mut Vec<u8, A>,
+) -> Result<(), ItemFault<Refusal>>
+    ensures ok { OnOk result ((full : List ℕ)
+        × (IsFullPath E.follows (path_bytes path.entry) directory.now full
+        × (output.new.items ≡ output.old.items ++ full))) }
+    ensures fault { IfErr result (λ fault. (fault ≡ Memory) ⊎ ((error : DeclaredError)
+        × ((fault ≡ Refused (NoAbsolutePath error)) × ((error ≢ absolute_error.Memory)
+        × IsAbsoluteFault E.follows (path_bytes path.entry) directory.now error)))) }
+    ensures unchanged { OnErr result (output.new.items ≡ output.old.items) }
+{
+    match path.absolute(alloc, Path::new(OsStr::new(directory))) {
+        Ok(full) => write_answer(full.as_os_str().as_encoded_bytes(), output),
+        Err(error) => Err(unplaced(error)),
+    }
+}
+
+/// The fault of a path that isn't made absolute.
+fn unplaced(error: AbsoluteError) -> ItemFault<Refusal>
+    ensures { (result ≡ Memory)
+        ⊎ ((error ≢ absolute_error.Memory) × (result ≡ Refused (NoAbsolutePath error))) }
+{
+    match error {
+        AbsoluteError::Memory => ItemFault::Memory,
+        reason => ItemFault::Refused(Refusal::NoAbsolutePath(reason)),
+    }
+}
+
 /// Appends the path of another platform with a path's components.
 fn write_on<E: PathStyle, A: Allocator + Copy>(
     alloc: A,
@@ -344,10 +392,10 @@ fn write_converted<E: PathStyle, F: PathStyle, A: Allocator + Copy>(
 {
     match path.with_style::<F, A>(alloc) {
         Ok(made) => write_answer(made.as_os_str().as_encoded_bytes(), output),
-        Err(ConvertError::Component(index)) => Err(ItemFault::Refused(Refusal::NoComponent(
-            index,
-            shown_component(path, index),
-        ))),
+        Err(ConvertError::Component(index)) => match shown_component::<E, A>(alloc, path, index) {
+            Ok(text) => Err(ItemFault::Refused(Refusal::NoComponent(index, text))),
+            Err(_) => Err(ItemFault::Memory),
+        },
         Err(ConvertError::Encoding(fault)) => {
             Err(ItemFault::Refused(Refusal::NoStringThere(fault)))
         }

@@ -39,6 +39,9 @@ pub enum Task<'a> {
     /// The path as it is reached from this base, as the crate pathdiff's `diff_paths`, and `.` for the
     /// base itself. One that no path leads to is rejected.
     Relative(&'a str),
+    /// The path as an absolute path, as std's `path::absolute`: below this directory if it is
+    /// relative. One that can't be made absolute is rejected.
+    Absolute(&'a str),
     /// The path of this platform with the same components. One with a component that the platform's
     /// paths can't have is rejected.
     Convert(Os),

@@ -14,7 +14,7 @@ use Rattle.program_frame.specs.declared.lists.fault.ListFault.TheVariants.{Refus
 use Rattle.program_frame.specs.declared.lists.options.ItemEnd.{ItemEnd}
 use Rattle.paths_commands.specs.Task.{rules_of, IsAnswer, IsComponentsText, IsPathText, IsRefusal, IsUnjoined}
 use Rattle.paths_commands.specs.declared.fault.Refusal.{Refusal}
-use Rattle.paths_commands.specs.declared.fault.Refusal.TheVariants.{NoString, NoNormalForm, NoRelativePath, NoJoin, NoJoinAt, NoComponent, NoStringThere, HasNul, ResultHas}
+use Rattle.paths_commands.specs.declared.fault.Refusal.TheVariants.{NoString, NoNormalForm, NoRelativePath, NoAbsolutePath, NoJoin, NoJoinAt, NoComponent, NoStringThere, HasNul, ResultHas}
 use Rattle.paths_commands.specs.declared.task.Task.{Task}
 use Rattle.paths_commands.specs.declared.task.Task.TheVariants.{Components, JoinChecked}
 use Rattle.test_command_uses.specs.OneFile.{lacking}
@@ -25,6 +25,7 @@ abbrev pub IsOfJoin : Refusal → Type 0
 IsOfJoin (NoString error) = ⊥
 IsOfJoin NoNormalForm = ⊥
 IsOfJoin NoRelativePath = ⊥
+IsOfJoin (NoAbsolutePath error) = ⊥
 IsOfJoin (NoJoin error) = Unit {0}
 IsOfJoin (NoJoinAt error text) = Unit {0}
 IsOfJoin (NoComponent index text) = ⊥
@@ -77,6 +78,7 @@ module _ {E : Type 0} (p : Ghosts E) (style : Style) (task : Task) (end : ItemEn
       by (NoString error) of r = absurd of
       by NoNormalForm of r = absurd of
       by NoRelativePath of r = absurd of
+      by (NoAbsolutePath error) of r = absurd of
       by (NoComponent index text) of r = absurd of
       by (NoStringThere error) of r = absurd of
       by HasNul of r = absurd of

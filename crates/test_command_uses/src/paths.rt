@@ -6,6 +6,7 @@ ghost use Rattle.std.specs.declared.fmt.InlineText.{InlineText};
 ghost use Rattle.os_str_bytes.specs.EncodingError.{EncodingError};
 ghost use Rattle.path_building.specs.BaseViews.{base_style};
 ghost use Rattle.path_building.specs.Faults.{IsNameFault};
+ghost use Rattle.path_building.specs.FullPath.{IsFullPath};
 ghost use Rattle.path_building.specs.Join.{IsJoin};
 ghost use Rattle.path_building.specs.declared.walk.NameError.{NameError};
 ghost use Rattle.path_rules.specs.Parent.{IsParent, HasNoParent};
@@ -252,6 +253,24 @@ pub fn from_base<E: PathStyle, A: Allocator, W: Write>(
         (way_text way ++ 0 ∷ [])))) }
 {
     answered::<E, A, W>(alloc, ItemEnd::Nul, Task::Relative(base), path, writer)
+}
+
+/// Writes one path as an absolute path, with NUL: below a directory if it is relative.
+pub fn full_path<E: PathStyle, A: Allocator, W: Write>(
+    alloc: A,
+    directory: &str,
+    path: &[u8],
+    writer: &mut Marked<W>,
+) -> Result<(), ListFault<Refusal>>
+    requires whole { Lacks 0 path.now }
+    requires some { path.now ≢ [] }
+    requires unmarked { has_failed writer.old ≡ false }
+    ensures { OnOk result ((full : List ℕ) × (IsFullPath E.follows path.now directory.now full
+        × (Lacks 0 full
+        × Appends (W.contents (marked_inner writer.old)) (W.contents (marked_inner writer.new))
+        (full ++ 0 ∷ [])))) }
+{
+    answered::<E, A, W>(alloc, ItemEnd::Nul, Task::Absolute(directory), path, writer)
 }
 
 /// Writes the path of another platform with one path's components, with NUL.

@@ -11,16 +11,17 @@ use Rattle.path_building.specs.Faults.{IsBaseFault}
 use Rattle.path_building.specs.declared.base.BaseError.{BaseError}
 use Rattle.path_building.specs.declared.base.BaseError.TheVariants as base_error
 use Rattle.path_building.proofs.lemmas.Bases.{is_base}
+use Rattle.path_rules.specs.Root.{IsAbsolute}
 use Rattle.path_rules.specs.declared.rules.Style.{Style}
 use Rattle.paths_commands.specs.Styles.{style_of}
-use Rattle.paths_commands.specs.Command.{HasOperands, HasStyle, IsInvalid, IsMisplaced, IsMissing, IsMisuse, IsNoBase, IsOfPaths, IsTooMany, Line, Needs, RequestsNothing}
+use Rattle.paths_commands.specs.Command.{HasOperands, HasStyle, IsInvalid, IsMisplaced, IsMissing, IsMisuse, IsNoBase, IsNoDirectory, IsOfPaths, IsTooMany, Line, Needs, RequestsNothing}
 use Rattle.paths_commands.specs.Task.{IsChecked, name_of, operands_of_task}
 use Rattle.paths_commands.specs.declared.command.Command.TheVariants.{Ask, Help, Version}
 use Rattle.paths_commands.specs.declared.command.Name.{Name as DeclaredName}
 use Rattle.paths_commands.specs.declared.command.Name.TheVariants as name
 use Rattle.paths_commands.specs.declared.option.PathsOption.TheVariants as option
 use Rattle.paths_commands.specs.declared.task.Task.{Task}
-use Rattle.paths_commands.specs.declared.task.Task.TheVariants.{Components, Parent, Name, Stem, Extension, Normalize, Clean, Join, JoinChecked, Relative, Convert}
+use Rattle.paths_commands.specs.declared.task.Task.TheVariants.{Components, Parent, Name, Stem, Extension, Normalize, Clean, Join, JoinChecked, Relative, Absolute, Convert}
 use Rattle.paths_commands.proofs.lemmas.Platforms.{same_os}
 use Rattle.paths_commands.proofs.lemmas.TaskNames.{same_name}
 
@@ -45,6 +46,7 @@ needs_none Clean what none needs = needs
 needs_none (Join base) what none needs = none_some (sym none)
 needs_none (JoinChecked base) what none needs = none_some (sym none)
 needs_none (Relative base) what none needs = none_some (sym none)
+needs_none (Absolute directory) what none needs = none_some (sym none)
 needs_none (Convert to) what none needs = none_some (sym none)
 
 -- a task that has an operand needs one
@@ -59,6 +61,7 @@ needs_one Clean word more some none = none_some some
 needs_one (Join base) word more some none = none (codes "BASE") refl
 needs_one (JoinChecked base) word more some none = none (codes "BASE") refl
 needs_one (Relative base) word more some none = none (codes "BASE") refl
+needs_one (Absolute directory) word more some none = none (codes "DIR") refl
 needs_one (Convert to) word more some none = none (codes "platform to convert to") refl
 
 -- no task has two operands
@@ -73,6 +76,7 @@ never_two Clean operand word more two = none_some two
 never_two (Join base) operand word more two = none_some (rest two)
 never_two (JoinChecked base) operand word more two = none_some (rest two)
 never_two (Relative base) operand word more two = none_some (rest two)
+never_two (Absolute directory) operand word more two = none_some (rest two)
 never_two (Convert to) operand word more two = none_some (rest two)
 
 no_join : name.Convert ≡ name.Join → ⊥
@@ -80,6 +84,15 @@ no_join e = cc
 
 no_relative : name.Convert ≡ name.Relative → ⊥
 no_relative e = cc
+
+no_absolute : name.Convert ≡ name.Absolute → ⊥
+no_absolute e = cc
+
+not_join : name.Absolute ≡ name.Join → ⊥
+not_join e = cc
+
+not_relative : name.Absolute ≡ name.Relative → ⊥
+not_relative e = cc
 
 -- the operand of a task that converts is a platform
 converts : (task : Task) (word : List ℕ) (more : List (List ℕ)) → name.Convert ≡ name_of task → operands_of_task task ≡ word ∷ more → (os : Os) × (word ≡ os_word os)
@@ -93,6 +106,7 @@ converts Clean word more is some = absurd (none_some some)
 converts (Join base) word more is some = absurd (no_join is)
 converts (JoinChecked base) word more is some = absurd (no_join is)
 converts (Relative base) word more is some = absurd (no_relative is)
+converts (Absolute directory) word more is some = absurd (no_absolute is)
 converts (Convert to) word more is some = (to, sym (first some))
 
 -- a task that is checked is a join
@@ -107,6 +121,7 @@ checked_joins Clean is = absurd is
 checked_joins (Join base) is = absurd is
 checked_joins (JoinChecked base) is = refl
 checked_joins (Relative base) is = absurd is
+checked_joins (Absolute directory) is = absurd is
 checked_joins (Convert to) is = absurd is
 
 -- a task that is checked has a base
@@ -121,7 +136,23 @@ checked_base w Clean word is of own = absurd is
 checked_base w (Join base) word is of own = absurd is
 checked_base w (JoinChecked base) word is of own = subst (IsBase w) (first own) (subst (λ v. IsBase v (base_path base)) of (is_base (base_style base) (base_path base) base.complete))
 checked_base w (Relative base) word is of own = absurd is
+checked_base w (Absolute directory) word is of own = absurd is
 checked_base w (Convert to) word is of own = absurd is
+
+-- the operand of a task that makes paths absolute is absolute
+absolute_directory : (w : Style) (task : Task) (word : List ℕ) → name.Absolute ≡ name_of task → HasStyle w task → operands_of_task task ≡ word ∷ [] → IsAbsolute w word
+absolute_directory w Components word is of own = absurd (none_some own)
+absolute_directory w Parent word is of own = absurd (none_some own)
+absolute_directory w Name word is of own = absurd (none_some own)
+absolute_directory w Stem word is of own = absurd (none_some own)
+absolute_directory w Extension word is of own = absurd (none_some own)
+absolute_directory w Normalize word is of own = absurd (none_some own)
+absolute_directory w Clean word is of own = absurd (none_some own)
+absolute_directory w (Join base) word is of own = absurd (not_join is)
+absolute_directory w (JoinChecked base) word is of own = absurd (not_join is)
+absolute_directory w (Relative base) word is of own = absurd (not_relative is)
+absolute_directory w (Absolute directory) word is of own = subst (IsAbsolute w) (first own) of
+absolute_directory w (Convert to) word is of own = absurd (no_absolute (sym is))
 
 no_nul_after : (before after : List ℕ) → HasNoNul (before ++ 0 ∷ after) → ⊥
 no_nul_after [] after none = none.0 refl
@@ -156,8 +187,17 @@ module _ (given : Line) (task : Task) (os : Os) (asks : HasOperands given (name_
       let is = checked_base (style_of os) task word (checked none.1.1.0) of (one_rest name.Join other (word ∷ []) has) in
       no_fault (style_of os) word none.0 is (subst (λ o. IsBaseFault (style_of o) word none.0) same none.1.1.1.1.1)
 
+  no_bad_directory : (what word : List ℕ) → HasStyle (style_of os) task → IsNoDirectory given what word → ⊥
+  no_bad_directory what word of none =
+      let other = none.1.0 in
+      let has = none.1.1.0 in
+      let same = same_os other os (first (rest (sym has ∙ asks))) in
+      let is = absolute_directory (style_of os) task word (one_name name.Absolute other (word ∷ []) has) of (one_rest name.Absolute other (word ∷ []) has) in
+      none.1.1.1 (subst (λ o. IsAbsolute (style_of o) word) (sym same) is)
+
   nothing_invalid : (what word : List ℕ) → (HasOption option.Checked given → IsChecked task) → HasStyle (style_of os) task → IsInvalid given what word → ⊥
-  nothing_invalid what word checked of (inr (inr no_base)) = no_bad_base what word checked of no_base
+  nothing_invalid what word checked of (inr (inr (inl no_base))) = no_bad_base what word checked of no_base
+  nothing_invalid what word checked of (inr (inr (inr no_directory))) = no_bad_directory what word of no_directory
   nothing_invalid what word checked of (inl no_command) = no_command.1.0 (name_of task) (first (sym no_command.1.1.1 ∙ asks))
   nothing_invalid what word checked of (inr (inl no_platform)) = ⊎_elim
       (λ second. no_platform.1.0 os (first (rest (sym second.1.1 ∙ asks))))

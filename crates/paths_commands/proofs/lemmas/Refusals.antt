@@ -9,7 +9,7 @@ use Rattle.program_frame.specs.declared.os.Os.{Os}
 use Rattle.paths_commands.specs.Styles.{style_of}
 use Rattle.paths_commands.specs.Task.{IsRefusal, IsUnanswered, IsUnconverted, IsUnjoined}
 use Rattle.paths_commands.specs.declared.fault.Refusal.{Refusal}
-use Rattle.paths_commands.specs.declared.fault.Refusal.TheVariants.{NoString, NoNormalForm, NoRelativePath, NoJoin, NoJoinAt, NoComponent, NoStringThere, HasNul, ResultHas}
+use Rattle.paths_commands.specs.declared.fault.Refusal.TheVariants.{NoString, NoNormalForm, NoRelativePath, NoAbsolutePath, NoJoin, NoJoinAt, NoComponent, NoStringThere, HasNul, ResultHas}
 use Rattle.paths_commands.specs.declared.task.Task.{Task}
 use Rattle.paths_commands.specs.declared.task.Task.TheVariants.{Convert, JoinChecked}
 
@@ -18,6 +18,7 @@ pub unanswered_refused : {E : Type 0} (p : Ghosts E) (style : Style) (end : Item
 unanswered_refused p style end task path (NoString error) none = absurd none
 unanswered_refused p style end task path NoNormalForm none = none
 unanswered_refused p style end task path NoRelativePath none = none
+unanswered_refused p style end task path (NoAbsolutePath error) none = none
 unanswered_refused p style end task path (NoJoin error) none = none
 unanswered_refused p style end task path (NoJoinAt error text) none = none
 unanswered_refused p style end task path (NoComponent index text) none = none
@@ -31,6 +32,7 @@ pub unconverted_unanswered : {E : Type 0} (p : Ghosts E) (style : Style) (task :
 unconverted_unanswered p style task to path (NoString error) is none = none
 unconverted_unanswered p style task to path NoNormalForm is none = absurd none
 unconverted_unanswered p style task to path NoRelativePath is none = absurd none
+unconverted_unanswered p style task to path (NoAbsolutePath error) is none = absurd none
 unconverted_unanswered p style task to path (NoJoin error) is none = absurd none
 unconverted_unanswered p style task to path (NoJoinAt error text) is none = absurd none
 unconverted_unanswered p style task to path (NoComponent index text) is none = (to, (is, none))
@@ -44,6 +46,7 @@ pub unjoined_unanswered : {E : Type 0} (p : Ghosts E) (style : Style) (task : Ta
 unjoined_unanswered p style task base path (NoString error) is none = none.1.1
 unjoined_unanswered p style task base path NoNormalForm is none = absurd none.1.1
 unjoined_unanswered p style task base path NoRelativePath is none = absurd none.1.1
+unjoined_unanswered p style task base path (NoAbsolutePath error) is none = absurd none.1.1
 unjoined_unanswered p style task base path (NoJoin error) is none = (base, (is, none))
 unjoined_unanswered p style task base path (NoJoinAt error text) is none = (base, (is, none))
 unjoined_unanswered p style task base path (NoComponent index text) is none = absurd none.1.1

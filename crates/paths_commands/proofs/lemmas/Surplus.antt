@@ -5,7 +5,7 @@ use Rattle.program_frame.specs.declared.misuse.Misuse.TheVariants.{Argument, Mis
 use Rattle.program_frame.specs.declared.os.Os.{Os}
 use Rattle.paths_commands.specs.Command.{HasOperands, IsMisuse, IsSurplus, IsTooMany, Line, Needs}
 use Rattle.paths_commands.specs.declared.command.Name.{Name as DeclaredName}
-use Rattle.paths_commands.specs.declared.command.Name.TheVariants.{Components, Parent, Name, Stem, Extension, Normalize, Clean, Join, Relative, Convert}
+use Rattle.paths_commands.specs.declared.command.Name.TheVariants.{Components, Parent, Name, Stem, Extension, Normalize, Clean, Join, Relative, Absolute, Convert}
 
 surplus_misuse : (given : Line) (word : List ℕ) (misuse : Misuse) → IsTooMany given word → IsSurplus word misuse → IsMisuse given misuse
 surplus_misuse given word (Argument error) many is = (word, (many, is))
@@ -24,6 +24,7 @@ IsUnneeded Normalize = Unit {0}
 IsUnneeded Clean = Unit {0}
 IsUnneeded Join = ⊥
 IsUnneeded Relative = ⊥
+IsUnneeded Absolute = ⊥
 IsUnneeded Convert = ⊥
 
 needs_nothing : (name : DeclaredName) → IsUnneeded name → (what : List ℕ) → ¬ (Needs name what)
@@ -36,6 +37,7 @@ needs_nothing Normalize is what needs = needs
 needs_nothing Clean is what needs = needs
 needs_nothing Join is what needs = is
 needs_nothing Relative is what needs = is
+needs_nothing Absolute is what needs = is
 needs_nothing Convert is what needs = is
 
 pub surplus_unneeded : (given : Line) (task : DeclaredName) (os : Os) (word : List ℕ) (misuse : Misuse) → HasOperands given task os (word ∷ []) → IsUnneeded task → IsSurplus word misuse → IsMisuse given misuse

@@ -2,7 +2,7 @@
 use Rattle.std.proofs.Common.{◌≡◌, ◌∙◌, ℕ, ◌+◌, get_or, refl, sym, ap, arith}
 use Rattle.paths_commands.specs.Task.{name_word}
 use Rattle.paths_commands.specs.declared.command.Name.{Name as DeclaredName}
-use Rattle.paths_commands.specs.declared.command.Name.TheVariants.{Components, Parent, Name, Stem, Extension, Normalize, Clean, Join, Relative, Convert}
+use Rattle.paths_commands.specs.declared.command.Name.TheVariants.{Components, Parent, Name, Stem, Extension, Normalize, Clean, Join, Relative, Absolute, Convert}
 
 -- the sum of the first letter and the third
 abbrev letters : DeclaredName → ℕ
@@ -15,6 +15,7 @@ letters Normalize = 224
 letters Clean = 200
 letters Join = 211
 letters Relative = 222
+letters Absolute = 212
 letters Convert = 209
 
 letters_are : (name : DeclaredName) → letters name ≡ get_or (name_word name) 0 0 + get_or (name_word name) 2 0
@@ -27,6 +28,7 @@ letters_are Normalize = refl
 letters_are Clean = refl
 letters_are Join = refl
 letters_are Relative = refl
+letters_are Absolute = refl
 letters_are Convert = refl
 
 same_letters : (name other : DeclaredName) → name_word name ≡ name_word other → letters name ≡ letters other
@@ -42,6 +44,7 @@ same_name Normalize Normalize e = refl
 same_name Clean Clean e = refl
 same_name Join Join e = refl
 same_name Relative Relative e = refl
+same_name Absolute Absolute e = refl
 same_name Convert Convert e = refl
 same_name Components other e = let sums = same_letters Components other e in absurd (omega arith)
 same_name Parent other e = let sums = same_letters Parent other e in absurd (omega arith)
@@ -52,4 +55,5 @@ same_name Normalize other e = let sums = same_letters Normalize other e in absur
 same_name Clean other e = let sums = same_letters Clean other e in absurd (omega arith)
 same_name Join other e = let sums = same_letters Join other e in absurd (omega arith)
 same_name Relative other e = let sums = same_letters Relative other e in absurd (omega arith)
+same_name Absolute other e = let sums = same_letters Absolute other e in absurd (omega arith)
 same_name Convert other e = let sums = same_letters Convert other e in absurd (omega arith)

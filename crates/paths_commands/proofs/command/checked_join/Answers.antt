@@ -1,4 +1,4 @@
-use Rattle.std.proofs.Common.{◌≡◌, inr, sym, subst}
+use Rattle.std.proofs.Common.{◌≡◌, inl, inr, subst}
 use Rattle.path_building.specs.Faults.{IsBaseFault}
 use Rattle.paths_commands.specs.Styles.{style_of}
 use Rattle.paths_commands.proofs.command.checked_join.Goals as goal
@@ -9,4 +9,4 @@ returns-in-Err-clause-misuse c =
     let word = c.args.operand.now in
     let raw : c.as_bytes.result.now ≡ word = Prim.search Rattle.std.proofs.Common.rules in
     let fault = subst (λ s. IsBaseFault (style_of c.args.os) s error) raw (subst (λ w. IsBaseFault w c.as_bytes.result.now error) c.style_of.ensures c.in-Err.ensures.err) in
-    inr (inr (error, (c.base_word.ensures, (c.requires.checked, (c.args.os, (c.requires.operands, fault))))))
+    inr (inr (inl (error, (c.base_word.ensures, (c.requires.checked, (c.args.os, (c.requires.operands, fault)))))))

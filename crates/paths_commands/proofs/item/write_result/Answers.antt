@@ -1,4 +1,4 @@
-use Rattle.std.proofs.Common.{◌≡◌, ℕ, List, ◌++◌, ◌∷◌, [], Result, OnOk, ⊎_elim, inl, inr, refl, sym, subst}
+use Rattle.std.proofs.Common.{◌≡◌, ℕ, List, ◌++◌, Result, OnOk, ⊎_elim, inl, inr, refl, sym, subst}
 use Rattle.std.proofs.lemmas.Result.{on_ok_weaker, IfErr-weaker}
 use Rattle.os_str_bytes.specs.Platform.{Ghosts}
 use Rattle.path_rules.specs.Parent.{HasFileName, HasNoFileName}
@@ -6,7 +6,7 @@ use Rattle.path_rules.specs.declared.rules.Style.{Style}
 use Rattle.os_path.specs.Names.{HasFileStem, HasExtension, LacksExtension}
 use Rattle.platform_str.specs.Strings.{bytes, path_bytes}
 use Rattle.paths_commands.specs.Task.{IsAnswer, IsMade, way_text}
-use Rattle.paths_commands.specs.declared.fault.Refusal.TheVariants.{NoNormalForm, NoRelativePath}
+use Rattle.paths_commands.specs.declared.fault.Refusal.TheVariants.{NoNormalForm, NoRelativePath, NoAbsolutePath}
 use Rattle.paths_commands.specs.declared.task.Task.{Task}
 use Rattle.paths_commands.proofs.lemmas.Answers.{part_or_nothing}
 use Rattle.paths_commands.proofs.lemmas.Refusals.{unconverted_unanswered, unjoined_unanswered}
@@ -145,6 +145,19 @@ returns-in-Relative g c =
       fault = IfErr-weaker call.result _ _
           (λ fault. ⊎_elim (λ memory. inl memory)
           (λ none. inr (NoRelativePath, (none.0, (_, (c.in-Relative.is, none.1))))))
+          call.ensures.fault;
+      unchanged = call.ensures.unchanged;
+    }
+
+pub returns-in-Absolute : goal.returns-in-Absolute
+returns-in-Absolute g c =
+    let path = path_bytes c.args.path in
+    let S = g.E.PathStyle.follows in
+    let call = c.write_absolute in record {
+      ok = made g.E.Platform S c.args.task _ path c.in-Absolute.is call.result _ _ call.ensures.ok;
+      fault = IfErr-weaker call.result _ _
+          (λ fault. ⊎_elim (λ memory. inl memory)
+          (λ none. inr (NoAbsolutePath none.0, (none.1.0, (_, (c.in-Absolute.is, none.1.1))))))
           call.ensures.fault;
       unchanged = call.ensures.unchanged;
     }
