@@ -26,7 +26,7 @@ fn main(rt: HostRuntime) -> Ended<Fault> {
     let mut reader = Marked::new(rt.reader());
     let mut writer = Marked::new(rt.stdout());
     let outcome = run(rt.alloc(), &mut reader, &mut writer);
-    Ended::telling_unless(
+    Ended::reporting_unless(
         "example_tar_names",
         writer.closed(),
         outcome,

@@ -12,7 +12,7 @@ use std::io;
 
 /// Why a program isn't started.
 #[derive(Clone, Copy)]
-pub enum Refusal {
+pub enum Rejection {
     /// cmd.exe would read the line, and nothing quotes a `%` there.
     BatchFile,
     /// There is no line.
@@ -24,22 +24,22 @@ pub fn line_for(
     alloc: Global,
     program: OsStr<'_, Windows>,
     arguments: &[OsStr<'_, Windows>],
-) -> Result<Vec<u16>, Refusal>
+) -> Result<Vec<u16>, Rejection>
     ensures { IfOk result (λ line. IsCommandLine line.items
         (⟦<Windows as Platform>⟧.units (bytes program.entry))
         (map (λ a. ⟦<Windows as Platform>⟧.units (bytes a)) arguments.now)) }
 {
     if needs_cmd(program) {
-        return Err(Refusal::BatchFile);
+        return Err(Rejection::BatchFile);
     }
     match command_line(alloc, program, arguments) {
         Ok(line) => Ok(line),
-        Err(fault) => Err(Refusal::Line(fault)),
+        Err(fault) => Err(Rejection::Line(fault)),
     }
 }
 
 /// The line with which a program is started, or why it isn't, as a text.
-fn told(
+fn report(
     alloc: Global,
     program: OsStr<'_, Windows>,
     arguments: &[OsStr<'_, Windows>],
@@ -50,14 +50,14 @@ fn told(
             let shown = line.as_os_str().display();
             format!(in alloc; "{shown}")
         }
-        Err(Refusal::BatchFile) => String::from_str(alloc, "not started: a batch file"),
-        Err(Refusal::Line(CommandLineError::Nul(index))) => {
+        Err(Rejection::BatchFile) => String::from_str(alloc, "not started: a batch file"),
+        Err(Rejection::Line(CommandLineError::Nul(index))) => {
             format!(in alloc; "not started: a NUL at {index}")
         }
-        Err(Refusal::Line(CommandLineError::Quote(index))) => {
+        Err(Rejection::Line(CommandLineError::Quote(index))) => {
             format!(in alloc; "not started: a quotation mark at {index}")
         }
-        Err(Refusal::Line(CommandLineError::Memory)) => Err(AllocError),
+        Err(Rejection::Line(CommandLineError::Memory)) => Err(AllocError),
     }
 }
 
@@ -87,7 +87,7 @@ pub fn show(rt: &HostRuntime) -> io::Result<()> {
         OsStr::new("say \"hi\"\\"),
     ];
     for program in ["C:\\my tools\\run.exe", "C:\\build.cmd", "a\"b"] {
-        let line = told(rt.alloc(), OsStr::new(program), &arguments)?;
+        let line = report(rt.alloc(), OsStr::new(program), &arguments)?;
         println!(rt; "{}", line.as_str())?;
     }
     let line = OsStr::new("pack.exe -t \"my files.zip\" \"a b\" c");

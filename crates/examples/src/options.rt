@@ -2,7 +2,7 @@
 ghost use Rattle.std.specs.Prelude.{◌≡◌, [], OnOk};
 ghost use Rattle.os_args.specs.Joining.{all_left};
 ghost use Rattle.os_args.specs.Views.{reading};
-ghost use Rattle.examples.specs.declared.options.Refusal.TheVariants.{Argument, Memory};
+ghost use Rattle.examples.specs.declared.options.Rejection.TheVariants.{Argument, Memory};
 
 use os_args::{ArgumentError, Arguments, Word, laws};
 use os_str_bytes::{OsStr, Platform, Unix};
@@ -27,34 +27,34 @@ pub struct Options<'a, E: Platform + 'a> {
 
 /// Why nothing is packed, of strings `S`.
 #[derive(Clone, Copy)]
-pub enum Refusal<'a, S> {
+pub enum Rejection<'a, S> {
     /// The arguments are rejected.
     Argument(ArgumentError<'a, S>),
     /// An allocation failed.
     Memory,
 }
 
-impl<'a, S> From<ArgumentError<'a, S>> for Refusal<'a, S> {
-    ghost from_gives = { λ error refusal. refusal ≡ Argument error };
+impl<'a, S> From<ArgumentError<'a, S>> for Rejection<'a, S> {
+    ghost from_gives = { λ error rejection. rejection ≡ Argument error };
 
     fn from(error: ArgumentError<'a, S>) -> Self {
-        Refusal::Argument(error)
+        Rejection::Argument(error)
     }
 }
 
-impl<'a, S, T: Drop> From<AllocFailed<T>> for Refusal<'a, S> {
-    ghost from_gives = { λ _ refusal. refusal ≡ Memory };
+impl<'a, S, T: Drop> From<AllocFailed<T>> for Rejection<'a, S> {
+    ghost from_gives = { λ _ rejection. rejection ≡ Memory };
 
     fn from(_error: AllocFailed<T>) -> Self {
-        Refusal::Memory
+        Rejection::Memory
     }
 }
 
-impl<'a> fmt::Display for Refusal<'a, OsStr<'a, Unix>> {
+impl<'a> fmt::Display for Rejection<'a, OsStr<'a, Unix>> {
     fn fmt<W: fmt::Write>(&self, f: &mut fmt::Formatter<W>) -> fmt::Result {
         match *self {
-            Refusal::Argument(error) => error.fmt(f),
-            Refusal::Memory => f.write_str("out of memory"),
+            Rejection::Argument(error) => error.fmt(f),
+            Rejection::Memory => f.write_str("out of memory"),
         }
     }
 }
@@ -75,7 +75,7 @@ impl<'a, E: Platform> Options<'a, E> {
     pub fn parse(
         alloc: Global,
         arguments: &mut Arguments<'_, 'a, E>,
-    ) -> Result<Self, Refusal<'a, OsStr<'a, E>>>
+    ) -> Result<Self, Rejection<'a, OsStr<'a, E>>>
         ensures { OnOk result (all_left (reading arguments.new) ≡ []) }
     {
         laws::steps_end();
@@ -96,7 +96,7 @@ impl<'a, E: Platform> Options<'a, E> {
 
 impl<'a> Options<'a, Unix> {
     /// Describes the options.
-    fn tell(&self, text: &mut String) -> Result<(), AllocError> {
+    fn describe(&self, text: &mut String) -> Result<(), AllocError> {
         if let Some(archive) = self.to {
             write!(text, "to {}, ", archive.display())?;
         }
@@ -114,18 +114,18 @@ impl<'a> Options<'a, Unix> {
 }
 
 /// The text that describes the options, or states why nothing is packed.
-pub fn told(alloc: Global, words: &[OsStr<'_, Unix>]) -> Result<String, AllocError> {
+pub fn report(alloc: Global, words: &[OsStr<'_, Unix>]) -> Result<String, AllocError> {
     let mut text = String::new(alloc);
     match Options::parse(alloc, &mut Arguments::new(words)) {
-        Ok(options) => options.tell(&mut text)?,
-        Err(refusal) => write!(text, "pack: {refusal}")?,
+        Ok(options) => options.describe(&mut text)?,
+        Err(rejection) => write!(text, "pack: {rejection}")?,
     }
     Ok(text)
 }
 
 /// Prints the options that arguments contain.
 fn pack(rt: &HostRuntime, words: &[OsStr<'_, Unix>]) -> io::Result<()> {
-    println!(rt; "{}", told(rt.alloc(), words)?.as_str())
+    println!(rt; "{}", report(rt.alloc(), words)?.as_str())
 }
 
 /// Prints the options of some command lines.

@@ -4,7 +4,7 @@ ghost use Rattle.os_str_bytes.specs.Strings.{bytes, string_vec_of};
 ghost use Rattle.os_command_line.specs.Shell.{AreWords};
 ghost use Rattle.os_command_line.specs.declared.shell.language.Language.{Language};
 
-use crate::options::told;
+use crate::options::report;
 use os_command_line::shell::{ShellError, Specials, Words, WordsFault, join, quoted_line};
 use os_str_bytes::{OsStr, OsString, Unix};
 use std::alloc::{AllocError, Global};
@@ -69,7 +69,7 @@ fn show_options(rt: &HostRuntime, variable: OsStr<'_, Unix>) -> io::Result<()> {
     for string in &strings {
         words.push(string.as_os_str())?;
     }
-    println!(rt; "{}", told(rt.alloc(), &words)?.as_str())
+    println!(rt; "{}", report(rt.alloc(), &words)?.as_str())
 }
 
 /// Prints two commands that can be pasted, the flags of two variables, and the options of one.

@@ -196,7 +196,7 @@ abbrev pub IsListed : Line → ListOptions → Type 0
 IsListed given list = (max : ℕ) × (IsMax given max × AreStated option.Lines option.Unterminated max given list)
 
 -- all that options and operands state: the command, how the list is written, the patterns, of which the first `plain` come before those of `--name`, the values of `--ignore`, whether the names are picked that don't match, and whether patterns and files match without regard to case
-pub record Asked : Type 0 where
+pub record Requested : Type 0 where
   pub command : Command
   pub list : ListOptions
   pub plain : ℕ
@@ -206,8 +206,8 @@ pub record Asked : Type 0 where
   pub case_insensitive : Bool
 
 -- what a request states
-abbrev pub asked_of : {A : Type 0} → Request A → Asked
-asked_of request = record {
+abbrev pub requested_of : {A : Type 0} → Request A → Requested
+requested_of request = record {
   command = request.command;
   list = request.list;
   plain = request.plain;
@@ -218,12 +218,12 @@ asked_of request = record {
 }
 
 -- these state the patterns, the ignore files, whether the other names are picked, and whether case is disregarded
-abbrev pub StatesPicks : Line → Asked → Type 0
+abbrev pub StatesPicks : Line → Requested → Type 0
 StatesPicks given a = ArePatterns given a.plain a.globs × (AreValues option.Ignore given a.files × ((IsTrue a.inverted ↔ HasOption option.Invert given) × (IsTrue a.case_insensitive ↔ HasOption option.IgnoreCase given)))
 
 -- these make up the request: help, wherever its option is; the version; or a command
-abbrev pub AsksFor : Line → Asked → Type 0
-AsksFor given a =
+abbrev pub IsRequestFor : Line → Requested → Type 0
+IsRequestFor given a =
     (HasOption option.Help given × (a.command ≡ Help))
     ⊎ ((¬ (HasOption option.Help given)) × (
     (HasOption option.Version given × (a.command ≡ Version))
@@ -291,7 +291,7 @@ IsMisuse given (Misplaced word where_to) = IsMisplaced given word.now where_to.n
 
 -- these make up no request, and this is wrong with them
 pub record IsRejected (given : Line) (misuse : Misuse) : Type 0 where
-  pub no_request : (asked : Asked) → ¬ (AsksFor given asked)
+  pub no_request : (requested : Requested) → ¬ (IsRequestFor given requested)
   pub wrong : IsMisuse given misuse
 
 -- why there is no request of these; an allocation may fail

@@ -1,4 +1,4 @@
--- The text of each reason why an item or the words are refused.
+-- The text of each reason why an item or the words are rejected.
 use Rattle.std.specs.Prelude.{ℕ, List, ◌++◌, codes, decimal}
 use Rattle.glob_patterns.specs.ErrorText as glob
 use Rattle.std.specs.Fmt.Cut.{IsTextOrCut}
@@ -10,21 +10,21 @@ use Rattle.os_command_line.specs.ErrorText as words
 use Rattle.os_quote.specs.ErrorText.{error_text}
 use Rattle.os_quote.specs.declared.error.QuoteError.TheVariants as quote
 use Rattle.os_str_bytes.specs.FaultText.{fault_text}
-use Rattle.names_commands.specs.declared.fault.Refusal.{Refusal}
-use Rattle.names_commands.specs.declared.fault.Refusal.TheVariants.{NoString, BadEscape, NotCanonical, HasNul, HasNewline, EndsInReturn, EmptyLine, BadWords}
+use Rattle.names_commands.specs.declared.fault.Rejection.{Rejection}
+use Rattle.names_commands.specs.declared.fault.Rejection.TheVariants.{NoString, BadEscape, NotCanonical, HasNul, HasNewline, EndsInReturn, EmptyLine, BadWords}
 use Rattle.names_commands.specs.declared.fault.CommandFault.{CommandFault}
 use Rattle.names_commands.specs.declared.fault.CommandFault.TheVariants.{Unreadable, Misuse, Pattern, NoFile, Unread}
 
--- what the program prints of the reason why an item is refused
-abbrev pub refusal_text : Refusal → List ℕ
-refusal_text (NoString error) = fault_text error
-refusal_text (BadEscape index) = error_text (quote.BadEscape index)
-refusal_text NotCanonical = error_text quote.NotCanonical
-refusal_text HasNul = codes "the name has a NUL"
-refusal_text HasNewline = codes "the name has a newline"
-refusal_text EndsInReturn = codes "the line ends in a carriage return"
-refusal_text EmptyLine = codes "the line is empty; --empty reads it as an empty name"
-refusal_text (BadWords fault) = words.fault_text fault
+-- what the program prints of the reason why an item is rejected
+abbrev pub rejection_text : Rejection → List ℕ
+rejection_text (NoString error) = fault_text error
+rejection_text (BadEscape index) = error_text (quote.BadEscape index)
+rejection_text NotCanonical = error_text quote.NotCanonical
+rejection_text HasNul = codes "the name has a NUL"
+rejection_text HasNewline = codes "the name has a newline"
+rejection_text EndsInReturn = codes "the line ends in a carriage return"
+rejection_text EmptyLine = codes "the line is empty; --empty reads it as an empty name"
+rejection_text (BadWords fault) = words.fault_text fault
 
 -- what the program prints of the reason why its arguments are rejected
 abbrev pub words_text : CommandFault → List ℕ

@@ -20,11 +20,11 @@ use Rattle.program_frame.specs.ListOptions.{MayLack, byte_of}
 use Rattle.program_frame.specs.Rules.{ListRules}
 use Rattle.program_frame.specs.declared.lists.options.ItemEnd.{ItemEnd}
 use Rattle.program_frame.specs.declared.lists.options.ListOptions.{ListOptions}
-use Rattle.names_commands.specs.declared.fault.Refusal.{Refusal}
+use Rattle.names_commands.specs.declared.fault.Rejection.{Rejection}
 use Rattle.names_commands.specs.declared.matching.Form.{Form}
 use Rattle.names_commands.specs.declared.matching.Form.TheVariants.{Line, Name, Word}
 use Rattle.names_commands.specs.Ignoring.{IsIgnored}
-use Rattle.names_commands.specs.Names.{IsNameRefusal}
+use Rattle.names_commands.specs.Names.{IsNameRejection}
 use Rattle.names_commands.specs.Task.{IsLine}
 use Rattle.names_commands.specs.Words.{IsWordLine}
 
@@ -46,14 +46,14 @@ module _ {E : Type 0} (p : Ghosts E) where
   IsTextOfPicked form end Picked name text = p.well_formed name × (Lacks 0 name × ((Picked name × IsInForm form end name text) ⊎ ((¬ (Picked name)) × (text ≡ []))))
 
   -- what is done with each name of a list that is written so, where some are picked
-  abbrev pub picking : Form → ListOptions → (List ℕ → Type 0) → ListRules Refusal
+  abbrev pub picking : Form → ListOptions → (List ℕ → Type 0) → ListRules Rejection
   picking form list Picked = record {
     end = byte_of list.end;
     takes_unended = MayLack list.last;
     max = list.max;
     longest = list.max;
     is_text = IsTextOfPicked form list.end Picked;
-    refuses = IsNameRefusal p;
+    rejects = IsNameRejection p;
     is_of_long = λ name. ⊥;
   }
 
@@ -108,5 +108,5 @@ module _ {E : Type 0} (p : Ghosts E) where
   abbrev pub IsTextOfMatched : {A : Type 0} → Form → ItemEnd → Bool → Option (Bor (GlobSet E A)) → List (File A) → List ℕ → List ℕ → Type 0
   IsTextOfMatched form end inverted globs files = IsTextOfPicked form end (IsPickedBy inverted globs files)
 
-  abbrev pub matching : {A : Type 0} → Form → ListOptions → Bool → Option (Bor (GlobSet E A)) → List (File A) → ListRules Refusal
+  abbrev pub matching : {A : Type 0} → Form → ListOptions → Bool → Option (Bor (GlobSet E A)) → List (File A) → ListRules Rejection
   matching form list inverted globs files = picking form list (IsPickedBy inverted globs files)

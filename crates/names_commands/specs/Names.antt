@@ -7,8 +7,8 @@ use Rattle.program_frame.specs.declared.lists.fault.ItemFault.{ItemFault}
 use Rattle.program_frame.specs.declared.lists.fault.ItemFault.TheVariants as item_fault
 use Rattle.program_frame.specs.declared.lists.options.ItemEnd.{ItemEnd}
 use Rattle.program_frame.specs.declared.lists.options.ItemEnd.TheVariants.{Newline}
-use Rattle.names_commands.specs.declared.fault.Refusal.{Refusal}
-use Rattle.names_commands.specs.declared.fault.Refusal.TheVariants.{NoString, BadEscape, NotCanonical, HasNul, HasNewline, EndsInReturn as InReturn, EmptyLine, BadWords}
+use Rattle.names_commands.specs.declared.fault.Rejection.{Rejection}
+use Rattle.names_commands.specs.declared.fault.Rejection.TheVariants.{NoString, BadEscape, NotCanonical, HasNul, HasNewline, EndsInReturn as InReturn, EmptyLine, BadWords}
 
 -- a name that can be written with this end: it has neither a NUL nor that end
 pub record IsFit (end : ItemEnd) (name : List ℕ) : Type 0 where
@@ -16,7 +16,7 @@ pub record IsFit (end : ItemEnd) (name : List ℕ) : Type 0 where
   pub one : Lacks (byte_of end) name
 
 -- why a name can't be written with this end
-abbrev pub IsUnfit : ItemEnd → List ℕ → Refusal → Type 0
+abbrev pub IsUnfit : ItemEnd → List ℕ → Rejection → Type 0
 IsUnfit end name (NoString error) = ⊥
 IsUnfit end name (BadEscape index) = ⊥
 IsUnfit end name NotCanonical = ⊥
@@ -33,18 +33,18 @@ EndsInReturn line = (front : List ℕ) × (line ≡ front ++ 0x0D ∷ [])
 -- on a platform that states this of its strings:
 module _ {E : Type 0} (p : Ghosts E) where
   -- why an item isn't a name: it isn't a string, or it has a NUL
-  abbrev pub IsNameRefusal : List ℕ → Refusal → Type 0
-  IsNameRefusal name (NoString error) = p.first_fault name error
-  IsNameRefusal name (BadEscape index) = ⊥
-  IsNameRefusal name NotCanonical = ⊥
-  IsNameRefusal name HasNul = ¬ (Lacks 0 name)
-  IsNameRefusal name HasNewline = ⊥
-  IsNameRefusal name InReturn = ⊥
-  IsNameRefusal name EmptyLine = ⊥
-  IsNameRefusal name (BadWords fault) = ⊥
+  abbrev pub IsNameRejection : List ℕ → Rejection → Type 0
+  IsNameRejection name (NoString error) = p.first_fault name error
+  IsNameRejection name (BadEscape index) = ⊥
+  IsNameRejection name NotCanonical = ⊥
+  IsNameRejection name HasNul = ¬ (Lacks 0 name)
+  IsNameRejection name HasNewline = ⊥
+  IsNameRejection name InReturn = ⊥
+  IsNameRejection name EmptyLine = ⊥
+  IsNameRejection name (BadWords fault) = ⊥
 
   -- why nothing is written for it: that, or an allocation failed
-  abbrev pub IsNoName : List ℕ → ItemFault Refusal → Type 0
-  IsNoName name (item_fault.Refused why) = IsNameRefusal name why
+  abbrev pub IsNoName : List ℕ → ItemFault Rejection → Type 0
+  IsNoName name (item_fault.Rejected why) = IsNameRejection name why
   IsNoName name item_fault.TooLong = ⊥
   IsNoName name item_fault.Memory = Unit {0}

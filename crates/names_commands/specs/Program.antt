@@ -32,7 +32,7 @@ use Rattle.names_commands.specs.declared.command.Work.{Work}
 use Rattle.names_commands.specs.declared.command.Work.TheVariants.{Each, Picked, Why}
 use Rattle.program_frame.specs.declared.lists.program_fault.Fault as program_fault
 use Rattle.program_frame.specs.declared.lists.program_fault.Fault.TheVariants.{List as OfList, Words}
-use Rattle.names_commands.specs.declared.fault.Refusal.{Refusal}
+use Rattle.names_commands.specs.declared.fault.Rejection.{Rejection}
 use Rattle.names_commands.specs.declared.fault.CommandFault.{CommandFault}
 use Rattle.names_commands.specs.declared.fault.CommandFault.TheVariants.{Unreadable, Misuse, Pattern, NoFile, Unread}
 use Rattle.names_commands.specs.declared.matching.Form.{Form}
@@ -41,12 +41,12 @@ use Rattle.names_commands.specs.Ignoring.{AreRead, IsFileIn, IsFirstUnread}
 use Rattle.names_commands.specs.Matching.{picking, AreWrittenOut, IsChosen, IsFirstFault, IsPicked}
 use Rattle.names_commands.specs.Pick.{added_before, typed_fault}
 use Rattle.names_commands.specs.Why.{deciding}
-use Rattle.names_commands.specs.Command.{Asked, AsksFor, IsRejected, Line, options_of}
+use Rattle.names_commands.specs.Command.{Requested, IsRequestFor, IsRejected, Line, options_of}
 use Rattle.names_commands.specs.Task.{rules_of}
 
 -- what keeps the program from its output
 abbrev pub Fault : Type 0
-Fault = program_fault.Fault Refusal CommandFault
+Fault = program_fault.Fault Rejection CommandFault
 
 -- what is done: a relation of the bytes that a reader had left and has left, of what a writer held and holds, as far as they are known, and of the result
 abbrev pub Doing : Type 1
@@ -105,34 +105,34 @@ module _ (known : KnownFiles) (A : Type 0) where
       ⊎ ((files : List (File A)) × AreRead known folds values files × Runs (picking p shape list (IsPicked inverted Chosen files)) OfList input left old new answer)
 
   -- where this is requested, on a platform that states this of its strings:
-  module _ {E : Type 0} (p : Ghosts E) (asked : Asked) where
+  module _ {E : Type 0} (p : Ghosts E) (requested : Requested) where
     -- the run ends with the first ignore file that can't be read. Or it writes the lines of the files that decide names, and these names
     abbrev pub RunsReasons : Doing
     RunsReasons input left old new answer =
-        ((why : CommandFault) × IsFileFault asked.case_insensitive asked.files why × EndsAtOnce (Words why) input left old new answer)
-        ⊎ ((files : List (File A)) × AreRead known asked.case_insensitive asked.files files × Runs (deciding p asked.list asked.files files) OfList input left old new answer)
+        ((why : CommandFault) × IsFileFault requested.case_insensitive requested.files why × EndsAtOnce (Words why) input left old new answer)
+        ⊎ ((files : List (File A)) × AreRead known requested.case_insensitive requested.files files × Runs (deciding p requested.list requested.files files) OfList input left old new answer)
 
     -- the run ends with the first of the patterns that has a fault. Or it writes in this form the names that one of them matches, or all where there are none, but for those that the files ignore; or, inverted, the others
     abbrev pub RunsPicked : Os → Form → Doing
     RunsPicked os shape input left old new answer =
-        ((index : ℕ) × (fault : PatternFault) × (first : IsFirstFault p (options_of os asked.case_insensitive) asked.globs index fault) × (why : Fault) × IsOfPattern (added_before asked.plain index) (index + 1) first.text fault why × EndsAtOnce why input left old new answer)
-        ⊎ ((written : List (List (List Mark))) × AreWrittenOut p (options_of os asked.case_insensitive) asked.globs written × RunsBut p shape asked.list asked.inverted asked.case_insensitive (IsChosen p (options_of os asked.case_insensitive) written) asked.files input left old new answer)
+        ((index : ℕ) × (fault : PatternFault) × (first : IsFirstFault p (options_of os requested.case_insensitive) requested.globs index fault) × (why : Fault) × IsOfPattern (added_before requested.plain index) (index + 1) first.text fault why × EndsAtOnce why input left old new answer)
+        ⊎ ((written : List (List (List Mark))) × AreWrittenOut p (options_of os requested.case_insensitive) requested.globs written × RunsBut p shape requested.list requested.inverted requested.case_insensitive (IsChosen p (options_of os requested.case_insensitive) written) requested.files input left old new answer)
 
     -- what is done with a list
     abbrev pub DoesWork : Os → Work → Doing
-    DoesWork os (Each what) input left old new answer = Runs (rules_of p (record { task = what; list = asked.list })) OfList input left old new answer
+    DoesWork os (Each what) input left old new answer = Runs (rules_of p (record { task = what; list = requested.list })) OfList input left old new answer
     DoesWork os (Picked shape) input left old new answer = UnlessOutOfMemory (RunsPicked os shape) input left old new answer
     DoesWork os Why input left old new answer = UnlessOutOfMemory RunsReasons input left old new answer
 
   -- what a command does
-  abbrev pub DoesCommand : Asked → Command → Doing
-  DoesCommand asked Help input left old new answer = WritesSomeText input left old new answer
-  DoesCommand asked Version input left old new answer = WritesSomeText input left old new answer
-  DoesCommand asked (On os work) input left old new answer = DoesWork (strings os) asked os work input left old new answer
+  abbrev pub DoesCommand : Requested → Command → Doing
+  DoesCommand requested Help input left old new answer = WritesSomeText input left old new answer
+  DoesCommand requested Version input left old new answer = WritesSomeText input left old new answer
+  DoesCommand requested (On os work) input left old new answer = DoesWork (strings os) requested os work input left old new answer
 
   -- what a request does
-  abbrev pub Does : Asked → Doing
-  Does asked input left old new answer = DoesCommand asked asked.command input left old new answer
+  abbrev pub Does : Requested → Doing
+  Does requested input left old new answer = DoesCommand requested requested.command input left old new answer
 
   -- the options and operands make up no request, and the run ends at once with what is wrong
   abbrev pub RejectsLine : Line → Doing
@@ -142,7 +142,7 @@ module _ (known : KnownFiles) (A : Type 0) where
   abbrev pub RunsLine : Line → Doing
   RunsLine given input left old new answer =
       RejectsLine given input left old new answer
-      ⊎ ((asked : Asked) × (AsksFor given asked × Does asked input left old new answer))
+      ⊎ ((requested : Requested) × (IsRequestFor given requested × Does requested input left old new answer))
 
   -- the arguments have a fault, and the run ends at once with the first
   abbrev pub RejectsWords : List (List ℕ) → Doing

@@ -1,4 +1,4 @@
--- What is written for an item, and why it is refused.
+-- What is written for an item, and why it is rejected.
 use Rattle.std.specs.Prelude.{◌≡◌, ◌≢◌, ℕ, ◌+◌, ◌*◌, ◌≤◌, ◌<◌, List, [], ◌∷◌, ◌++◌, length}
 use Rattle.std.specs.Str.{IsUtf8}
 use Rattle.os_str_bytes.specs.EncodingError.{EncodingError}
@@ -12,18 +12,18 @@ use Rattle.program_frame.specs.Items.{Lacks}
 use Rattle.program_frame.specs.ListOptions.{MayLack, byte_of}
 use Rattle.program_frame.specs.Rules.{ListRules}
 use Rattle.program_frame.specs.declared.lists.fault.ItemFault.{ItemFault}
-use Rattle.program_frame.specs.declared.lists.fault.ItemFault.TheVariants.{Refused, TooLong, Memory}
+use Rattle.program_frame.specs.declared.lists.fault.ItemFault.TheVariants.{Rejected, TooLong, Memory}
 use Rattle.program_frame.specs.declared.lists.options.ItemEnd.{ItemEnd}
 use Rattle.program_frame.specs.declared.lists.options.ItemEnd.TheVariants.{Nul, Newline}
 use Rattle.program_frame.specs.declared.lists.options.LastItem.TheVariants.{MustEnd}
 use Rattle.program_frame.specs.declared.lists.options.ListOptions.{ListOptions}
-use Rattle.names_commands.specs.declared.fault.Refusal.{Refusal}
-use Rattle.names_commands.specs.declared.fault.Refusal.TheVariants as refusal
+use Rattle.names_commands.specs.declared.fault.Rejection.{Rejection}
+use Rattle.names_commands.specs.declared.fault.Rejection.TheVariants as rejection
 use Rattle.names_commands.specs.declared.task.Task.{Task}
 use Rattle.names_commands.specs.declared.task.EmptyLine.{EmptyLine}
 use Rattle.names_commands.specs.declared.task.EmptyLine.TheVariants.{IsRejected, IsEmptyName}
 use Rattle.names_commands.specs.declared.task.Task.TheVariants.{ListAll, ListWords, Check, Join, JoinWords}
-use Rattle.names_commands.specs.Names.{EndsInReturn, IsFit, IsNameRefusal, IsUnfit}
+use Rattle.names_commands.specs.Names.{EndsInReturn, IsFit, IsNameRejection, IsUnfit}
 use Rattle.names_commands.specs.Words.{IsWordLine, AreNamesOf, IsLineFault}
 use Rattle.names_commands.specs.declared.task.Settings.{Settings}
 
@@ -49,9 +49,9 @@ abbrev pub IsEmpty : EmptyLine → List ℕ → Type 0
 IsEmpty empty line = (empty ≡ IsRejected) × (line ≡ [])
 
 -- why nothing is written for a line that isn't an escape for this reason; an allocation may fail
-abbrev pub quote_fault : QuoteError → ItemFault Refusal
-quote_fault (quote.BadEscape index) = Refused (refusal.BadEscape index)
-quote_fault quote.NotCanonical = Refused refusal.NotCanonical
+abbrev pub quote_fault : QuoteError → ItemFault Rejection
+quote_fault (quote.BadEscape index) = Rejected (rejection.BadEscape index)
+quote_fault quote.NotCanonical = Rejected rejection.NotCanonical
 quote_fault quote.Memory = Memory
 
 -- how long an item may be where a name may have `max` bytes: for each of them an escape has at most six, and a word four and three more
@@ -81,7 +81,7 @@ module _ {E : Type 0} (p : Ghosts E) where
   abbrev pub IsEscapeOf : ListOptions → List ℕ → List ℕ → Type 0
   IsEscapeOf list line text = (name : List ℕ) × IsNameOf list.max line name × (IsFit list.end name × (text ≡ name ++ byte_of list.end ∷ []))
 
-  -- this is written for an item that isn't refused
+  -- this is written for an item that isn't rejected
   abbrev pub IsText : Task → ListOptions → List ℕ → List ℕ → Type 0
   IsText ListAll list name text = p.well_formed name × (Lacks 0 name × IsLine name text)
   IsText (ListWords form) list name text = p.well_formed name × (Lacks 0 name × IsWordLine form name text)
@@ -97,7 +97,7 @@ module _ {E : Type 0} (p : Ghosts E) where
   HasBadQuote line error = (¬ (EndsInReturn line)) × (IsUtf8 line × escape.IsLineFault p.well_formed p.units line error)
 
   -- a line is the escape of a name that can't be written, for this reason
-  abbrev pub IsOfUnfit : ListOptions → List ℕ → Refusal → Type 0
+  abbrev pub IsOfUnfit : ListOptions → List ℕ → Rejection → Type 0
   IsOfUnfit list line why = (name : List ℕ) × IsNameOf list.max line name × IsUnfit list.end name why
 
   -- a line is the escape of a name of more than `max` bytes
@@ -108,33 +108,33 @@ module _ {E : Type 0} (p : Ghosts E) where
   IsOfLong (Join empty) list line = (name : List ℕ) × p.well_formed name × (IsLineEscape p.units name line × (list.max < length name))
   IsOfLong JoinWords list line = IsLineFault list line TooLong
 
-  -- why a line isn't the escape of a name; one that ends in a carriage return is refused for that
-  abbrev pub IsJoinRefusal : EmptyLine → ListOptions → List ℕ → Refusal → Type 0
-  IsJoinRefusal empty list line (refusal.NoString error) = HasFault line error
-  IsJoinRefusal empty list line (refusal.BadEscape index) = HasBadQuote line (quote.BadEscape index)
-  IsJoinRefusal empty list line refusal.NotCanonical = HasBadQuote line quote.NotCanonical
-  IsJoinRefusal empty list line refusal.HasNul = IsOfUnfit list line refusal.HasNul
-  IsJoinRefusal empty list line refusal.HasNewline = IsOfUnfit list line refusal.HasNewline
-  IsJoinRefusal empty list line refusal.EndsInReturn = EndsInReturn line
-  IsJoinRefusal empty list line refusal.EmptyLine = IsEmpty empty line
-  IsJoinRefusal empty list line (refusal.BadWords fault) = ⊥
+  -- why a line isn't the escape of a name; one that ends in a carriage return is rejected for that
+  abbrev pub IsJoinRejection : EmptyLine → ListOptions → List ℕ → Rejection → Type 0
+  IsJoinRejection empty list line (rejection.NoString error) = HasFault line error
+  IsJoinRejection empty list line (rejection.BadEscape index) = HasBadQuote line (quote.BadEscape index)
+  IsJoinRejection empty list line rejection.NotCanonical = HasBadQuote line quote.NotCanonical
+  IsJoinRejection empty list line rejection.HasNul = IsOfUnfit list line rejection.HasNul
+  IsJoinRejection empty list line rejection.HasNewline = IsOfUnfit list line rejection.HasNewline
+  IsJoinRejection empty list line rejection.EndsInReturn = EndsInReturn line
+  IsJoinRejection empty list line rejection.EmptyLine = IsEmpty empty line
+  IsJoinRejection empty list line (rejection.BadWords fault) = ⊥
 
-  -- why an item is refused
-  abbrev pub IsRefusal : Task → ListOptions → List ℕ → Refusal → Type 0
-  IsRefusal ListAll list name why = IsNameRefusal p name why
-  IsRefusal (ListWords form) list name why = IsNameRefusal p name why
-  IsRefusal Check list name why = IsNameRefusal p name why
-  IsRefusal (Join empty) list line why = IsJoinRefusal empty list line why
-  IsRefusal JoinWords list line why = IsLineFault list line (Refused why)
+  -- why an item is rejected
+  abbrev pub IsRejection : Task → ListOptions → List ℕ → Rejection → Type 0
+  IsRejection ListAll list name why = IsNameRejection p name why
+  IsRejection (ListWords form) list name why = IsNameRejection p name why
+  IsRejection Check list name why = IsNameRejection p name why
+  IsRejection (Join empty) list line why = IsJoinRejection empty list line why
+  IsRejection JoinWords list line why = IsLineFault list line (Rejected why)
 
   -- what is done with each item
-  abbrev pub rules_of : Settings → ListRules Refusal
+  abbrev pub rules_of : Settings → ListRules Rejection
   rules_of s = record {
     end = byte_of (end_of s.task s.list.end);
     takes_unended = MayLack s.list.last;
     max = s.list.max;
     longest = longest_item s;
     is_text = IsText s.task s.list;
-    refuses = IsRefusal s.task s.list;
+    rejects = IsRejection s.task s.list;
     is_of_long = IsOfLong s.task s.list;
   }

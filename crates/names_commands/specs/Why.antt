@@ -13,8 +13,8 @@ use Rattle.program_frame.specs.ListOptions.{MayLack, byte_of}
 use Rattle.program_frame.specs.Rules.{ListRules}
 use Rattle.program_frame.specs.declared.lists.options.ListOptions.{ListOptions}
 use Rattle.names_commands.specs.Ignoring.{IsFileIn, IsPath, without_dot}
-use Rattle.names_commands.specs.Names.{IsNameRefusal}
-use Rattle.names_commands.specs.declared.fault.Refusal.{Refusal}
+use Rattle.names_commands.specs.Names.{IsNameRejection}
+use Rattle.names_commands.specs.declared.fault.Rejection.{Rejection}
 
 -- the file and the line of a verdict, by their numbers
 abbrev pub numbers_of : Verdict → Option (ℕ × ℕ)
@@ -80,13 +80,13 @@ module _ {E : Type 0} (p : Ghosts E) {A : Type 0} where
   IsTextOfDecided values files name text = p.well_formed name × (Lacks 0 name × IsDecidedText values files name text)
 
   -- what is done with each name of a list that is written so, where lines of ignore files decide names
-  abbrev pub deciding : ListOptions → List (List ℕ) → List (File A) → ListRules Refusal
+  abbrev pub deciding : ListOptions → List (List ℕ) → List (File A) → ListRules Rejection
   deciding list values files = record {
     end = byte_of list.end;
     takes_unended = MayLack list.last;
     max = list.max;
     longest = list.max;
     is_text = IsTextOfDecided values files;
-    refuses = IsNameRefusal p;
+    rejects = IsNameRejection p;
     is_of_long = λ name. ⊥;
   }

@@ -7,8 +7,8 @@ use Rattle.program_frame.specs.ListOptions.{byte_of}
 use Rattle.program_frame.specs.declared.lists.options.ListOptions.{ListOptions}
 use Rattle.program_frame.specs.declared.lists.fault.ItemFault.{ItemFault}
 use Rattle.program_frame.specs.declared.lists.fault.ItemFault.TheVariants as item_fault
-use Rattle.names_commands.specs.declared.fault.Refusal.{Refusal}
-use Rattle.names_commands.specs.declared.fault.Refusal.TheVariants.{NoString, BadEscape, NotCanonical, HasNul, HasNewline, EndsInReturn as InReturn, EmptyLine, BadWords}
+use Rattle.names_commands.specs.declared.fault.Rejection.{Rejection}
+use Rattle.names_commands.specs.declared.fault.Rejection.TheVariants.{NoString, BadEscape, NotCanonical, HasNul, HasNewline, EndsInReturn as InReturn, EmptyLine, BadWords}
 use Rattle.names_commands.specs.Names.{EndsInReturn, IsFit, IsUnfit}
 use Rattle.names_commands.specs.declared.task.WordForm.{WordForm}
 use Rattle.names_commands.specs.declared.task.WordForm.TheVariants.{Posix, OneLine}
@@ -50,28 +50,28 @@ module _ (list : ListOptions) where
   IsAfterNames line item = (¬ (EndsInReturn line)) × ((items : List (Result (List ℕ) WordsFault)) × IsRead (language true true) line items × Comes items item)
 
   -- a word can't be written, for this reason
-  abbrev pub HasUnfitWord : List ℕ → Refusal → Type 0
+  abbrev pub HasUnfitWord : List ℕ → Rejection → Type 0
   HasUnfitWord line why = (word : List ℕ) × IsAfterNames line (Ok word) × IsUnfit list.end word why
 
   -- why a line isn't words that are names: it ends in a carriage return, a word can't be written, or the words have a fault
-  abbrev pub IsWordsRefusal : List ℕ → Refusal → Type 0
-  IsWordsRefusal line (NoString error) = ⊥
-  IsWordsRefusal line (BadEscape index) = ⊥
-  IsWordsRefusal line NotCanonical = ⊥
-  IsWordsRefusal line HasNul = HasUnfitWord line HasNul
-  IsWordsRefusal line HasNewline = HasUnfitWord line HasNewline
-  IsWordsRefusal line InReturn = EndsInReturn line
-  IsWordsRefusal line EmptyLine = ⊥
-  IsWordsRefusal line (BadWords fault) = IsAfterNames line (Err fault)
+  abbrev pub IsWordsRejection : List ℕ → Rejection → Type 0
+  IsWordsRejection line (NoString error) = ⊥
+  IsWordsRejection line (BadEscape index) = ⊥
+  IsWordsRejection line NotCanonical = ⊥
+  IsWordsRejection line HasNul = HasUnfitWord line HasNul
+  IsWordsRejection line HasNewline = HasUnfitWord line HasNewline
+  IsWordsRejection line InReturn = EndsInReturn line
+  IsWordsRejection line EmptyLine = ⊥
+  IsWordsRejection line (BadWords fault) = IsAfterNames line (Err fault)
 
   -- why nothing is written for a line of words; an allocation may fail
-  abbrev pub IsLineFault : List ℕ → ItemFault Refusal → Type 0
-  IsLineFault line (item_fault.Refused why) = IsWordsRefusal line why
+  abbrev pub IsLineFault : List ℕ → ItemFault Rejection → Type 0
+  IsLineFault line (item_fault.Rejected why) = IsWordsRejection line why
   IsLineFault line item_fault.TooLong = (word : List ℕ) × IsAfterNames line (Ok word) × (list.max < length word)
   IsLineFault line item_fault.Memory = Unit {0}
 
   -- why a word of a line isn't a name
-  abbrev pub IsWordFault : List ℕ → ItemFault Refusal → Type 0
-  IsWordFault word (item_fault.Refused why) = IsUnfit list.end word why
+  abbrev pub IsWordFault : List ℕ → ItemFault Rejection → Type 0
+  IsWordFault word (item_fault.Rejected why) = IsUnfit list.end word why
   IsWordFault word item_fault.TooLong = list.max < length word
   IsWordFault word item_fault.Memory = Unit {0}

@@ -1,7 +1,7 @@
 //! Commands, and the requests that options and operands make up.
 ghost use Rattle.std.specs.Prelude.{◌≡◌, ◌≢◌, ◌↔◌, IfOk, IfErr, IsTrue, MatchOption};
 ghost use Rattle.program_frame.specs.Arguments.{operands_of};
-ghost use Rattle.names_commands.specs.Command.{AsksFor, Fits, HasOperands, IsMisuse, IsRequestError, MakesUp, TakesOption, asked_of, listing, name_word};
+ghost use Rattle.names_commands.specs.Command.{IsRequestFor, Fits, HasOperands, IsMisuse, IsRequestError, MakesUp, TakesOption, requested_of, listing, name_word};
 ghost use Rattle.names_commands.specs.declared.command.Name.{Name as DeclaredName};
 ghost use Rattle.names_commands.specs.declared.command.Name.TheVariants.{Filter as FilterName, Join as JoinName, List as ListName, Why as WhyName};
 
@@ -93,7 +93,7 @@ impl<'a, A: Allocator + Copy> Request<'a, A> {
     /// assert_eq!(rt; format!(in alloc; "{misuse}")?.as_str(), text);
     /// ```
     pub fn parse(alloc: A, given: Line<'_, 'a>) -> Result<Request<'a, A>, RequestError<'a>>
-        ensures request { IfOk result (λ request. AsksFor given.entry.now (asked_of request)) }
+        ensures request { IfOk result (λ request. IsRequestFor given.entry.now (requested_of request)) }
         ensures error { IfErr result (λ error. IsRequestError given.entry.now error) }
     {
         if has(given, NamesOption::Help) {

@@ -8,16 +8,16 @@ use glob_patterns::{GlobSetError, PatternFault};
 use os_command_line::shell::WordsFault;
 use os_quote::QuoteError;
 use os_str_bytes::{EncodingError, write_number};
-use program_frame::lists::fault::ItemRefusal;
+use program_frame::lists::fault::ItemRejection;
 use program_frame::lists::program_fault;
-use program_frame::lists::program_fault::WordsRefusal;
+use program_frame::lists::program_fault::WordsRejection;
 use program_frame::misuse::Misuse;
 use std::fmt;
 use std::fmt::{Display as _, InlineText};
 
 /// Why an item is rejected.
 #[derive(Clone, Copy, PartialEq, Eq)]
-pub enum Refusal {
+pub enum Rejection {
     /// The name isn't a string of the platform, or the line isn't UTF-8: the first fault of its
     /// bytes.
     NoString(EncodingError),
@@ -75,15 +75,15 @@ impl CommandFault {
 }
 
 /// The reason why a run of the program ended before its input did.
-pub type Fault = program_fault::Fault<Refusal, CommandFault>;
+pub type Fault = program_fault::Fault<Rejection, CommandFault>;
 
-impl ItemRefusal for Refusal {
+impl ItemRejection for Rejection {
     ghost use Rattle.std.specs.Prelude.{codes};
-    ghost use Rattle.names_commands.specs.Fault.{refusal_text};
+    ghost use Rattle.names_commands.specs.Fault.{rejection_text};
 
     ghost item = { codes "name" };
 
-    ghost text_of = { refusal_text };
+    ghost text_of = { rejection_text };
 
     fn item() -> &'static str {
         "name"
@@ -91,21 +91,21 @@ impl ItemRefusal for Refusal {
 
     fn write<W: fmt::Write>(&self, f: &mut fmt::Formatter<W>) -> fmt::Result {
         match *self {
-            Refusal::NoString(error) => error.fmt(f),
-            Refusal::BadEscape(index) => QuoteError::BadEscape(index).fmt(f),
-            Refusal::NotCanonical => QuoteError::NotCanonical.fmt(f),
-            Refusal::HasNul => f.write_str("the name has a NUL"),
-            Refusal::HasNewline => f.write_str("the name has a newline"),
-            Refusal::EndsInReturn => f.write_str("the line ends in a carriage return"),
-            Refusal::EmptyLine => f.write_str(
+            Rejection::NoString(error) => error.fmt(f),
+            Rejection::BadEscape(index) => QuoteError::BadEscape(index).fmt(f),
+            Rejection::NotCanonical => QuoteError::NotCanonical.fmt(f),
+            Rejection::HasNul => f.write_str("the name has a NUL"),
+            Rejection::HasNewline => f.write_str("the name has a newline"),
+            Rejection::EndsInReturn => f.write_str("the line ends in a carriage return"),
+            Rejection::EmptyLine => f.write_str(
                 "the line is empty; --empty reads it as an empty name",
             ),
-            Refusal::BadWords(fault) => fault.fmt(f),
+            Rejection::BadWords(fault) => fault.fmt(f),
         }
     }
 }
 
-impl WordsRefusal for CommandFault {
+impl WordsRejection for CommandFault {
     ghost use Rattle.names_commands.specs.Fault.{words_status, words_text};
     ghost use Rattle.names_commands.specs.declared.fault.CommandFault.{CommandFault};
 

@@ -5,14 +5,14 @@ ghost use Rattle.os_str_bytes.specs.Strings.{bytes};
 ghost use Rattle.program_frame.specs.Items.{Lacks};
 ghost use Rattle.program_frame.specs.ListOptions.{byte_of};
 ghost use Rattle.program_frame.specs.Rules.{IsItemFault};
-ghost use Rattle.program_frame.specs.declared.lists.fault.ItemFault.TheVariants.{Refused, Memory};
+ghost use Rattle.program_frame.specs.declared.lists.fault.ItemFault.TheVariants.{Rejected, Memory};
 ghost use Rattle.names_commands.specs.declared.task.EmptyLine.{EmptyLine as DeclaredEmptyLine};
 ghost use Rattle.names_commands.specs.declared.task.Task.TheVariants.{Join};
-ghost use Rattle.names_commands.specs.Names.{EndsInReturn, IsFit, IsNameRefusal, IsUnfit};
-ghost use Rattle.names_commands.specs.declared.fault.Refusal.{Refusal as RefusalOf};
+ghost use Rattle.names_commands.specs.Names.{EndsInReturn, IsFit, IsNameRejection, IsUnfit};
+ghost use Rattle.names_commands.specs.declared.fault.Rejection.{Rejection as RejectionOf};
 ghost use Rattle.names_commands.specs.Task.{longest_item, rules_of, IsEmpty, IsEscapeOf, IsTaken, IsText, quote_fault};
 
-use crate::fault::Refusal;
+use crate::fault::Rejection;
 use crate::task::{EmptyLine, Settings, Task};
 use crate::words::{write_names, write_word};
 use os_quote::{QuoteError, unescape_line};
@@ -29,7 +29,7 @@ pub fn write_item<E: Platform, A: Allocator + Copy>(
     settings: Settings,
     item: &[u8],
     output: &mut Vec<u8, A>,
-) -> Result<(), ItemFault<Refusal>>
+) -> Result<(), ItemFault<Rejection>>
     requires { length item.now ≤ longest_item settings }
     ensures ok { OnOk result ((text : List ℕ)
         × (IsText ⟦<E as Platform>⟧ settings.task settings.list item.now text
@@ -58,35 +58,35 @@ pub fn write_item<E: Platform, A: Allocator + Copy>(
 
 /// The name that an item is.
 #[tactic(auto, using(program_frame::proofs::lemmas::lists::Items::has_end))]
-pub(crate) fn named<'a, E: Platform>(item: &'a [u8]) -> Result<OsStr<'a, E>, ItemFault<Refusal>>
+pub(crate) fn named<'a, E: Platform>(item: &'a [u8]) -> Result<OsStr<'a, E>, ItemFault<Rejection>>
     ensures bytes { IfOk result (λ name. bytes name ≡ item.now) }
     ensures formed { OnOk result (E.well_formed item.now) }
     ensures whole { OnOk result (Lacks 0 item.now) }
-    ensures fault { IfErr result (λ fault. (why : RefusalOf)
-        × ((fault ≡ Refused why) × IsNameRefusal ⟦<E as Platform>⟧ item.now why)) }
+    ensures fault { IfErr result (λ fault. (why : RejectionOf)
+        × ((fault ≡ Rejected why) × IsNameRejection ⟦<E as Platform>⟧ item.now why)) }
 {
     let name = match OsStr::checked(item) {
         Ok(name) => name,
-        Err(error) => return Err(ItemFault::Refused(Refusal::NoString(error))),
+        Err(error) => return Err(ItemFault::Rejected(Rejection::NoString(error))),
     };
     match split_at_end(0, item) {
         None => Ok(name),
-        Some(_) => Err(ItemFault::Refused(Refusal::HasNul)),
+        Some(_) => Err(ItemFault::Rejected(Rejection::HasNul)),
     }
 }
 
 /// Why a name can't be written with this end: it has a NUL, or the newline that ends it.
 #[tactic(auto, using(program_frame::proofs::lemmas::lists::Items::has_end))]
-pub(crate) fn unfit(name: &[u8], end: ItemEnd) -> Option<Refusal>
+pub(crate) fn unfit(name: &[u8], end: ItemEnd) -> Option<Rejection>
     ensures { MatchOption result (IsFit end name.now) (λ why. IsUnfit end name.now why) }
 {
     if let Some(_) = split_at_end(0, name) {
-        return Some(Refusal::HasNul);
+        return Some(Rejection::HasNul);
     }
     match end {
         ItemEnd::Nul => None,
         ItemEnd::Newline => match split_at_end(b'\n', name) {
-            Some(_) => Some(Refusal::HasNewline),
+            Some(_) => Some(Rejection::HasNewline),
             None => None,
         },
     }
@@ -104,7 +104,7 @@ pub(crate) fn write_line<E: Platform, A: Allocator>(
     alloc: A,
     name: OsStr<'_, E>,
     output: &mut Vec<u8, A>,
-) -> Result<(), ItemFault<Refusal>>
+) -> Result<(), ItemFault<Rejection>>
     ensures line { OnOk result ((line : List ℕ) × (IsLineEscape E.units (bytes name.entry) line
         × (output.new.items ≡ output.old.items ++ (line ++ 0x0A ∷ [])))) }
     ensures fault { IfErr result (λ fault. fault ≡ Memory) }
@@ -121,7 +121,7 @@ pub(crate) fn push_name<A: Allocator>(
     name: &[u8],
     end: ItemEnd,
     output: &mut Vec<u8, A>,
-) -> Result<(), ItemFault<Refusal>>
+) -> Result<(), ItemFault<Rejection>>
     ensures ok { OnOk result
         (output.new.items ≡ output.old.items ++ (name.now ++ byte_of end ∷ [])) }
     ensures fault { IfErr result (λ fault. fault ≡ Memory) }
@@ -140,7 +140,7 @@ fn write_name<E: Platform, A: Allocator + Copy>(
     list: ListOptions,
     line: &[u8],
     output: &mut Vec<u8, A>,
-) -> Result<(), ItemFault<Refusal>>
+) -> Result<(), ItemFault<Rejection>>
     requires { length line.now ≤ 6 * list.max }
     ensures ok { OnOk result ((text : List ℕ)
         × (IsText ⟦<E as Platform>⟧ (Join empty) list line.now text
@@ -150,13 +150,13 @@ fn write_name<E: Platform, A: Allocator + Copy>(
     ensures unchanged { OnErr result (output.new.items ≡ output.old.items) }
 {
     if is_rejected(line, empty) {
-        return Err(ItemFault::Refused(Refusal::EmptyLine));
+        return Err(ItemFault::Rejected(Rejection::EmptyLine));
     }
     if line.len() <= list.max && is_plain(line) {
         return push_name(line, list.end, output);
     }
     if ends_in_return(line) {
-        return Err(ItemFault::Refused(Refusal::EndsInReturn));
+        return Err(ItemFault::Rejected(Rejection::EndsInReturn));
     }
     write_escaped::<E, A>(alloc, list, line, output)
 }
@@ -178,7 +178,7 @@ fn write_escaped<E: Platform, A: Allocator + Copy>(
     list: ListOptions,
     line: &[u8],
     output: &mut Vec<u8, A>,
-) -> Result<(), ItemFault<Refusal>>
+) -> Result<(), ItemFault<Rejection>>
     requires { ¬ (EndsInReturn line.now) }
     ensures ok { OnOk result ((text : List ℕ)
         × (IsEscapeOf ⟦<E as Platform>⟧ list line.now text
@@ -188,7 +188,7 @@ fn write_escaped<E: Platform, A: Allocator + Copy>(
     ensures unchanged { OnErr result (output.new.items ≡ output.old.items) }
 {
     if let Err(error) = Wasm::check(line) {
-        return Err(ItemFault::Refused(Refusal::NoString(error)));
+        return Err(ItemFault::Rejected(Rejection::NoString(error)));
     }
     let text = unsafe { str::from_utf8_unchecked(line) };
     let name = match unescape_line::<E, A>(alloc, text) {
@@ -199,18 +199,18 @@ fn write_escaped<E: Platform, A: Allocator + Copy>(
         return Err(ItemFault::TooLong);
     }
     if let Some(why) = unfit(&name, list.end) {
-        return Err(ItemFault::Refused(why));
+        return Err(ItemFault::Rejected(why));
     }
     push_name(&name, list.end, output)
 }
 
 /// Why nothing is written for a line that isn't an escape for this reason.
-fn quote_fault_of(error: QuoteError) -> ItemFault<Refusal>
+fn quote_fault_of(error: QuoteError) -> ItemFault<Rejection>
     ensures { result ≡ quote_fault error }
 {
     match error {
-        QuoteError::BadEscape(index) => ItemFault::Refused(Refusal::BadEscape(index)),
-        QuoteError::NotCanonical => ItemFault::Refused(Refusal::NotCanonical),
+        QuoteError::BadEscape(index) => ItemFault::Rejected(Rejection::BadEscape(index)),
+        QuoteError::NotCanonical => ItemFault::Rejected(Rejection::NotCanonical),
         QuoteError::Memory => ItemFault::Memory,
     }
 }

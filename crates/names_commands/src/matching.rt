@@ -6,7 +6,7 @@ ghost use Rattle.os_str_bytes.specs.Strings.{bytes};
 ghost use Rattle.names_commands.specs.Names.{IsNoName};
 ghost use Rattle.names_commands.specs.Matching.{IsChosenBy, IsPickedBy, IsTextOfMatched, matching};
 
-use crate::fault::Refusal;
+use crate::fault::Rejection;
 use crate::ignoring::is_shown;
 use crate::item::{named, push_name, write_line};
 use crate::task::WordForm;
@@ -121,7 +121,7 @@ fn is_chosen<E: Platform, A: Allocator>(globs: Option<&GlobSet<E, A>>, name: OsS
 }
 
 impl<'g, E: Platform, B: Allocator + Copy> ListTask for Matching<'g, E, B> {
-    type Refusal = Refusal;
+    type Rejection = Rejection;
 
     type Memory = Walk<'g, B>;
 
@@ -156,7 +156,7 @@ impl<'g, E: Platform, B: Allocator + Copy> ListTask for Matching<'g, E, B> {
         memory: &mut Walk<'g, B>,
         item: &[u8],
         output: &mut Vec<u8, A>,
-    ) -> Result<(), ItemFault<Refusal>> {
+    ) -> Result<(), ItemFault<Rejection>> {
         write_matching::<E, A, B>(alloc, self, memory, item, output)
     }
 }
@@ -168,7 +168,7 @@ fn write_matching<E: Platform, A: Allocator, B: Allocator + Copy>(
     walk: &mut Walk<'_, B>,
     item: &[u8],
     output: &mut Vec<u8, A>,
-) -> Result<(), ItemFault<Refusal>>
+) -> Result<(), ItemFault<Rejection>>
     requires { files_of_walk walk.old ≡ files_of names.now.ignore.now }
     ensures ok { OnOk result ((text : List ℕ)
         × (IsTextOfMatched ⟦<E as Platform>⟧ names.now.form names.now.list.end names.now.inverted

@@ -5,7 +5,7 @@ ghost use Rattle.program_frame.specs.ProgramFault.{BlamesEnds};
 ghost use Rattle.program_frame.specs.declared.fault.Failure.TheVariants.{Memory};
 ghost use Rattle.program_frame.specs.declared.lists.fault.ListFault.TheVariants.{Run};
 ghost use Rattle.program_frame.specs.declared.lists.program_fault.Fault.TheVariants.{List as OfList};
-ghost use Rattle.names_commands.specs.Command.{asked_of};
+ghost use Rattle.names_commands.specs.Command.{requested_of};
 ghost use Rattle.names_commands.specs.Matching.{IsSetOf};
 ghost use Rattle.names_commands.specs.Program.{Did, IsOfPattern, IsOfPatterns, RunsPicked, UnlessOutOfMemory};
 
@@ -42,7 +42,7 @@ pub(crate) fn run_picked<E: Platform, F: Files, A: Allocator + Copy, R: Read, W:
     requires reader_unmarked { has_failed reader.old ≡ false }
     requires writer_unmarked { has_failed writer.old ≡ false }
     ensures run { Did R.remaining W.contents (UnlessOutOfMemory
-        (RunsPicked (F.known files.now) A ⟦<E as Platform>⟧ (asked_of request.now) os form))
+        (RunsPicked (F.known files.now) A ⟦<E as Platform>⟧ (requested_of request.now) os form))
         reader.old reader.new writer.old writer.new result }
     ensures ends { BlamesEnds result (has_failed reader.new) (has_failed writer.new) }
 {

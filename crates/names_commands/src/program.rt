@@ -2,11 +2,11 @@
 ghost use Rattle.std.specs.Prelude.{◌≡◌, false};
 ghost use Rattle.program_frame.specs.Marked.{has_failed};
 ghost use Rattle.program_frame.specs.ProgramFault.{BlamesEnds};
-ghost use Rattle.names_commands.specs.Command.{asked_of};
+ghost use Rattle.names_commands.specs.Command.{requested_of};
 ghost use Rattle.names_commands.specs.Program.{Did, Does, DoesWork, RunsLine, UnlessOutOfMemory};
 
 use crate::command::{Command, Line, Request, RequestError, Work};
-use crate::fault::{CommandFault, Fault, Refusal};
+use crate::fault::{CommandFault, Fault, Rejection};
 use crate::help::{HELP, VERSION};
 use crate::option::NamesOption;
 use crate::patterns::run_picked;
@@ -57,7 +57,7 @@ impl<F: Files> Names<F> {
 }
 
 impl<F: Files> ListProgram for Names<F> {
-    type Refusal = Refusal;
+    type Rejection = Rejection;
 
     type Words = CommandFault;
 
@@ -121,7 +121,7 @@ fn run_request<F: Files, A: Allocator + Copy, R: Read, W: Write>(
 ) -> Result<(), Fault>
     requires reader_unmarked { has_failed reader.old ≡ false }
     requires writer_unmarked { has_failed writer.old ≡ false }
-    ensures run { Did R.remaining W.contents (Does (F.known files.now) A (asked_of request.now))
+    ensures run { Did R.remaining W.contents (Does (F.known files.now) A (requested_of request.now))
         reader.old reader.new writer.old writer.new result }
     ensures ends { BlamesEnds result (has_failed reader.new) (has_failed writer.new) }
 {
@@ -151,7 +151,7 @@ fn run_on<E: Platform, F: Files, A: Allocator + Copy, R: Read, W: Write>(
     requires reader_unmarked { has_failed reader.old ≡ false }
     requires writer_unmarked { has_failed writer.old ≡ false }
     ensures run { Did R.remaining W.contents
-        (DoesWork (F.known files.now) A ⟦<E as Platform>⟧ (asked_of request.now) os work)
+        (DoesWork (F.known files.now) A ⟦<E as Platform>⟧ (requested_of request.now) os work)
         reader.old reader.new writer.old writer.new result }
     ensures ends { BlamesEnds result (has_failed reader.new) (has_failed writer.new) }
 {

@@ -2,7 +2,7 @@
 ghost use Rattle.std.specs.Prelude.{◌≡◌, false};
 ghost use Rattle.program_frame.specs.Marked.{has_failed};
 ghost use Rattle.program_frame.specs.ProgramFault.{BlamesEnds};
-ghost use Rattle.names_commands.specs.Command.{asked_of};
+ghost use Rattle.names_commands.specs.Command.{requested_of};
 ghost use Rattle.names_commands.specs.Program.{Did, RunsReasons, UnlessOutOfMemory};
 
 use crate::command::Request;
@@ -30,7 +30,7 @@ pub(crate) fn run_why<E: Platform, F: Files, A: Allocator + Copy, R: Read, W: Wr
     requires reader_unmarked { has_failed reader.old ≡ false }
     requires writer_unmarked { has_failed writer.old ≡ false }
     ensures run { Did R.remaining W.contents (UnlessOutOfMemory
-        (RunsReasons (F.known files.now) A ⟦<E as Platform>⟧ (asked_of request.now)))
+        (RunsReasons (F.known files.now) A ⟦<E as Platform>⟧ (requested_of request.now)))
         reader.old reader.new writer.old writer.new result }
     ensures ends { BlamesEnds result (has_failed reader.new) (has_failed writer.new) }
 {

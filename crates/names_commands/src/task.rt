@@ -2,7 +2,7 @@
 ghost use Rattle.std.specs.Prelude.{◌≡◌, ◌-◌, ◌^◌, min};
 ghost use Rattle.names_commands.specs.Task.{end_of, longest_item, rules_of, with_limit};
 
-use crate::fault::Refusal;
+use crate::fault::Rejection;
 use crate::item::write_item;
 use os_str_bytes::Platform;
 use program_frame::lists::fault::ItemFault;
@@ -147,7 +147,7 @@ impl<E> OnPlatform<E> {
 }
 
 impl<E: Platform> ListTask for OnPlatform<E> {
-    type Refusal = Refusal;
+    type Rejection = Rejection;
 
     type Memory = ();
 
@@ -179,7 +179,7 @@ impl<E: Platform> ListTask for OnPlatform<E> {
         _memory: &mut (),
         item: &[u8],
         output: &mut Vec<u8, A>,
-    ) -> Result<(), ItemFault<Refusal>> {
+    ) -> Result<(), ItemFault<Rejection>> {
         write_item::<E, A>(alloc, self.settings, item, output)
     }
 }

@@ -8,7 +8,7 @@ ghost use Rattle.names_commands.specs.Ignoring.{text_of};
 ghost use Rattle.names_commands.specs.Names.{IsNoName};
 ghost use Rattle.names_commands.specs.Why.{IsDecidedText, IsNameAt, IsReason, IsTextOfDecided, LinesAreKnown, deciding, place_text};
 
-use crate::fault::Refusal;
+use crate::fault::Rejection;
 use crate::ignoring::{decider, file_in, value_of};
 use crate::item::named;
 use os_ignore::Ignore;
@@ -36,7 +36,7 @@ pub struct Reasons<'g, E, A: Allocator = Global> {
 }
 
 impl<'g, E: Platform, B: Allocator + Copy> ListTask for Reasons<'g, E, B> {
-    type Refusal = Refusal;
+    type Rejection = Rejection;
 
     type Memory = ();
 
@@ -69,7 +69,7 @@ impl<'g, E: Platform, B: Allocator + Copy> ListTask for Reasons<'g, E, B> {
         _memory: &mut (),
         item: &[u8],
         output: &mut Vec<u8, A>,
-    ) -> Result<(), ItemFault<Refusal>> {
+    ) -> Result<(), ItemFault<Rejection>> {
         write_decided::<E, A, B>(alloc, self.values, self.ignore, item, output)
     }
 }
@@ -81,7 +81,7 @@ fn write_decided<E: Platform, A: Allocator + Copy, B: Allocator + Copy>(
     ignore: &Ignore<B>,
     item: &[u8],
     output: &mut Vec<u8, A>,
-) -> Result<(), ItemFault<Refusal>>
+) -> Result<(), ItemFault<Rejection>>
     requires { LinesAreKnown (length values.now) (files_of ignore.now) }
     ensures ok { OnOk result ((text : List ℕ)
         × (IsTextOfDecided ⟦<E as Platform>⟧ (map text_of values.now) (files_of ignore.now) item.now

@@ -9,7 +9,7 @@ ghost use Rattle.program_frame.specs.declared.lists.fault.ItemFault.TheVariants.
 ghost use Rattle.names_commands.specs.Names.{EndsInReturn};
 ghost use Rattle.names_commands.specs.Words.{IsWord, IsWordLine, IsName, AreNamesOf, IsWordFault, IsLineFault};
 
-use crate::fault::Refusal;
+use crate::fault::Rejection;
 use crate::item::{ends_in_return, push_name, unfit};
 use crate::task::WordForm;
 use os_command_line::shell::{ShellError, Specials, Word, Words, quote, quote_line};
@@ -26,7 +26,7 @@ pub(crate) fn write_word<A: Allocator>(
     form: WordForm,
     name: &[u8],
     output: &mut Vec<u8, A>,
-) -> Result<(), ItemFault<Refusal>>
+) -> Result<(), ItemFault<Rejection>>
     requires { Lacks 0 name.now }
     ensures line { OnOk result ((text : List ℕ) × (IsWordLine form name.now text
         × (output.new.items ≡ output.old.items ++ text))) }
@@ -65,14 +65,14 @@ pub(crate) fn write_names<A: Allocator + Copy>(
     list: ListOptions,
     line: &[u8],
     output: &mut Vec<u8, A>,
-) -> Result<(), ItemFault<Refusal>>
+) -> Result<(), ItemFault<Rejection>>
     ensures ok { OnOk result ((text : List ℕ) × (AreNamesOf list line.now text
         × (output.new.items ≡ output.old.items ++ text))) }
     ensures fault { IfErr result (λ fault. IsLineFault list line.now fault) }
     ensures unchanged { OnErr result (output.new.items ≡ output.old.items) }
 {
     if ends_in_return(line) {
-        return Err(ItemFault::Refused(Refusal::EndsInReturn));
+        return Err(ItemFault::Rejected(Rejection::EndsInReturn));
     }
     let mut names = Vec::new(alloc);
     push_names(alloc, list, line, &mut names)?;
@@ -89,7 +89,7 @@ fn push_names<A: Allocator + Copy>(
     list: ListOptions,
     line: &[u8],
     names: &mut Vec<u8, A>,
-) -> Result<(), ItemFault<Refusal>>
+) -> Result<(), ItemFault<Rejection>>
     requires { ¬ (EndsInReturn line.now) }
     ensures ok { OnOk result ((text : List ℕ) × (AreNamesOf list line.now text
         × (names.new.items ≡ names.old.items ++ text))) }
@@ -102,7 +102,7 @@ fn push_names<A: Allocator + Copy>(
                 Ok(()) => {}
                 Err(fault) => return Err(fault),
             },
-            Err(fault) => return Err(ItemFault::Refused(Refusal::BadWords(fault))),
+            Err(fault) => return Err(ItemFault::Rejected(Rejection::BadWords(fault))),
         }
     }
     Ok(())
@@ -114,7 +114,7 @@ fn push_word<A: Allocator + Copy>(
     list: ListOptions,
     word: Word<'_>,
     names: &mut Vec<u8, A>,
-) -> Result<(), ItemFault<Refusal>>
+) -> Result<(), ItemFault<Rejection>>
     ensures name { OnOk result (IsName list (word_bytes word.entry)) }
     ensures ok { OnOk result (names.new.items
         ≡ names.old.items ++ (word_bytes word.entry ++ byte_of list.end ∷ [])) }
@@ -128,7 +128,7 @@ fn push_word<A: Allocator + Copy>(
         return Err(ItemFault::TooLong);
     }
     if let Some(why) = unfit(&name, list.end) {
-        return Err(ItemFault::Refused(why));
+        return Err(ItemFault::Rejected(why));
     }
     push_name(&name, list.end, names)
 }

@@ -5,11 +5,11 @@ use Rattle.std.specs.declared.alloc.Global.{Global}
 use Rattle.wildcards.specs.declared.options.Options.{Options}
 use Rattle.wildcards.specs.declared.set.Pattern.{Pattern}
 use Rattle.glob_patterns.specs.declared.options.GlobOptions.{GlobOptions}
-use Rattle.osbytes_c.specs.declared.globs.Refusal.{Refusal}
+use Rattle.osbytes_c.specs.declared.globs.Rejection.{Rejection}
 use Rattle.osbytes_c.specs.declared.globs.sets.Globs.{Globs}
 use Rattle.osbytes_c.specs.declared.globs.sets.PlatformGlobs.{PlatformGlobs}
 use Rattle.osbytes_c.specs.declared.globs.sets.PlatformGlobs.TheVariants.{Unix, Windows, Wasm}
-use Rattle.osbytes_c.specs.Globs.{AreCompiled, AreNamesTold, IsListRefusal, IsMatched}
+use Rattle.osbytes_c.specs.Globs.{AreCompiled, AreNamesReported, IsListRejection, IsMatched}
 use Rattle.osbytes_c.specs.ItemLists.{Views, HasOther}
 use Rattle.osbytes_c.specs.Platforms.{formed_on, units_on}
 use Rattle.osbytes_c.specs.Statuses.{done, faulty, none, empty}
@@ -55,21 +55,21 @@ IsAnswer path None answer = answer ≡ empty
 IsAnswer path (Some globs) answer = IsAnswerOf path (arc_value globs.set) answer
 
 -- the status for a path is that of a set compiled from the patterns of the list
-abbrev pub IsAsked : ℕ → GlobOptions → Views → List ℕ → ℕ → Type 0
-IsAsked platform o patterns path answer =
+abbrev pub IsMatchedBy : ℕ → GlobOptions → Views → List ℕ → ℕ → Type 0
+IsMatchedBy platform o patterns path answer =
     (matching : Options) × ((compiled : List (Pattern Global))
     × (AreCompiled (formed_on platform) (units_on platform) o patterns matching compiled × IsAnswerOn (formed_on platform) (units_on platform) matching compiled path answer))
 
 -- each path of a list has a byte that records whether a pattern of the set matches it
-abbrev pub AreToldOn : PlatformGlobs → Views → List ℕ → Type 0
-AreToldOn (Unix globs) paths answers = AreNamesTold (formed_on 0) (units_on 0) globs.set.options globs.set.patterns.items paths answers
-AreToldOn (Windows globs) paths answers = AreNamesTold (formed_on 1) (units_on 1) globs.set.options globs.set.patterns.items paths answers
-AreToldOn (Wasm globs) paths answers = AreNamesTold (formed_on 2) (units_on 2) globs.set.options globs.set.patterns.items paths answers
+abbrev pub AreReportedOn : PlatformGlobs → Views → List ℕ → Type 0
+AreReportedOn (Unix globs) paths answers = AreNamesReported (formed_on 0) (units_on 0) globs.set.options globs.set.patterns.items paths answers
+AreReportedOn (Windows globs) paths answers = AreNamesReported (formed_on 1) (units_on 1) globs.set.options globs.set.patterns.items paths answers
+AreReportedOn (Wasm globs) paths answers = AreNamesReported (formed_on 2) (units_on 2) globs.set.options globs.set.patterns.items paths answers
 
 -- the same of what is kept
-abbrev pub AreToldBy : Option Globs → Views → List ℕ → Type 0
-AreToldBy None paths answers = ⊥
-AreToldBy (Some globs) paths answers = AreToldOn (arc_value globs.set) paths answers
+abbrev pub AreReportedBy : Option Globs → Views → List ℕ → Type 0
+AreReportedBy None paths answers = ⊥
+AreReportedBy (Some globs) paths answers = AreReportedOn (arc_value globs.set) paths answers
 
 -- an item of a list isn't a string of the set's platform
 abbrev pub HasOtherOn : PlatformGlobs → Views → Type 0
@@ -83,7 +83,7 @@ HasOtherBy None list = ⊥
 HasOtherBy (Some globs) list = HasOtherOn (arc_value globs.set) list
 
 -- why a set reports nothing for a list of paths
-abbrev pub IsToldRefusal : PlatformGlobs → Views → Refusal → Type 0
-IsToldRefusal (Unix globs) list refusal = IsListRefusal (formed_on 0) list refusal
-IsToldRefusal (Windows globs) list refusal = IsListRefusal (formed_on 1) list refusal
-IsToldRefusal (Wasm globs) list refusal = IsListRefusal (formed_on 2) list refusal
+abbrev pub IsReportedRejection : PlatformGlobs → Views → Rejection → Type 0
+IsReportedRejection (Unix globs) list rejection = IsListRejection (formed_on 0) list rejection
+IsReportedRejection (Windows globs) list rejection = IsListRejection (formed_on 1) list rejection
+IsReportedRejection (Wasm globs) list rejection = IsListRejection (formed_on 2) list rejection

@@ -15,8 +15,8 @@ use Rattle.glob_patterns.specs.Letters.{letters_of}
 use Rattle.glob_patterns.specs.Options.{options_of, syntax_of}
 use Rattle.glob_patterns.specs.declared.options.GlobOptions.{GlobOptions}
 use Rattle.osbytes_c.specs.declared.globs.GlobFault.{GlobFault}
-use Rattle.osbytes_c.specs.declared.globs.Refusal.{Refusal}
-use Rattle.osbytes_c.specs.declared.globs.Refusal.TheVariants.{Memory, Faulty, Fault}
+use Rattle.osbytes_c.specs.declared.globs.Rejection.{Rejection}
+use Rattle.osbytes_c.specs.declared.globs.Rejection.TheVariants.{Memory, Faulty, Fault}
 use Rattle.osbytes_c.specs.ItemLists.{Views, AreItems, HasOther}
 
 -- the separators with this number: 0 none, 1 `/`, 3 `/` and `\`
@@ -50,26 +50,26 @@ fault_number UnopenedAlternatives = 6
 fault_number TooManyChoices = 7
 
 -- the byte that records whether something holds: 1 it does, 0 it doesn't
-abbrev pub IsTold : Type 0 → ℕ → Type 0
-IsTold Is answer = (Is × (answer ≡ 1)) ⊎ ((¬ Is) × (answer ≡ 0))
+abbrev pub IsReported : Type 0 → ℕ → Type 0
+IsReported Is answer = (Is × (answer ≡ 1)) ⊎ ((¬ Is) × (answer ≡ 0))
 
 -- the same of each item
-abbrev pub AreTold : (List ℕ → Type 0) → List (List ℕ) → List ℕ → Type 0
-AreTold Is [] [] = Unit {0}
-AreTold Is [] (answer ∷ answers) = ⊥
-AreTold Is (item ∷ items) [] = ⊥
-AreTold Is (item ∷ items) (answer ∷ answers) = IsTold (Is item) answer × AreTold Is items answers
+abbrev pub AreEachReported : (List ℕ → Type 0) → List (List ℕ) → List ℕ → Type 0
+AreEachReported Is [] [] = Unit {0}
+AreEachReported Is [] (answer ∷ answers) = ⊥
+AreEachReported Is (item ∷ items) [] = ⊥
+AreEachReported Is (item ∷ items) (answer ∷ answers) = IsReported (Is item) answer × AreEachReported Is items answers
 
 -- a path is matched by one of the compiled patterns
 abbrev pub IsMatched : (List ℕ → List ℕ) → Options → List (Pattern Global) → List ℕ → Type 0
 IsMatched units matching compiled path = (i : ℕ) × IsHit matching compiled (letters_of units path) i
 
 -- each path of the list is a string, and its byte records whether one of the compiled patterns matches it
-pub record AreNamesTold (formed : List ℕ → Type 0) (units : List ℕ → List ℕ) (matching : Options) (compiled : List (Pattern Global)) (paths : Views) (answers : List ℕ) : Type 0 where
+pub record AreNamesReported (formed : List ℕ → Type 0) (units : List ℕ → List ℕ) (matching : Options) (compiled : List (Pattern Global)) (paths : Views) (answers : List ℕ) : Type 0 where
   pub names : List (List ℕ)
   pub are_names : AreItems paths names
   pub strings : AllByRecursion formed names
-  pub told : AreTold (IsMatched units matching compiled) names answers
+  pub reported : AreEachReported (IsMatched units matching compiled) names answers
 
 module _ (formed : List ℕ → Type 0) (units : List ℕ → List ℕ) (o : GlobOptions) (patterns : Views) where
   -- the patterns of the list, each a string, compiled with these options
@@ -81,11 +81,11 @@ module _ (formed : List ℕ → Type 0) (units : List ℕ → List ℕ) (o : Glo
     pub meanings : AreMeanings formed (letters_of units) (syntax_of o) Global texts compiled
 
   -- each path of the list is a string, and its byte records whether one of the patterns of the other list matches it
-  pub record AreMatchesTold (paths : Views) (answers : List ℕ) : Type 0 where
+  pub record AreMatchesReported (paths : Views) (answers : List ℕ) : Type 0 where
     pub matching : Options
     pub compiled : List (Pattern Global)
     pub are_compiled : AreCompiled matching compiled
-    pub are_told : AreNamesTold formed units matching compiled paths answers
+    pub are_reported : AreNamesReported formed units matching compiled paths answers
 
   -- the first pattern of the list, each a string, that has a fault, by its number, and its first fault
   pub record IsGlobFault (fault : GlobFault) : Type 0 where
@@ -106,19 +106,19 @@ module _ (formed : List ℕ → Type 0) (units : List ℕ → List ℕ) (o : Glo
   HasUnstring paths = HasOther formed patterns ⊎ (CanBeCompiled × HasOther formed paths)
 
   -- why nothing is reported: an allocation failed, an item isn't a string, or a pattern has a fault
-  abbrev pub IsRefusal : Views → Refusal → Type 0
-  IsRefusal paths Memory = Unit {0}
-  IsRefusal paths Faulty = HasUnstring paths
-  IsRefusal paths (Fault fault) = IsGlobFault fault
+  abbrev pub IsRejection : Views → Rejection → Type 0
+  IsRejection paths Memory = Unit {0}
+  IsRejection paths Faulty = HasUnstring paths
+  IsRejection paths (Fault fault) = IsGlobFault fault
 
   -- why the patterns aren't compiled: an allocation failed, a pattern isn't a string, or one has a fault
-  abbrev pub IsNoSet : Refusal → Type 0
+  abbrev pub IsNoSet : Rejection → Type 0
   IsNoSet Memory = Unit {0}
   IsNoSet Faulty = HasOther formed patterns
   IsNoSet (Fault fault) = IsGlobFault fault
 
 -- why a list isn't read: an allocation failed, or an item isn't a string
-abbrev pub IsListRefusal : (List ℕ → Type 0) → Views → Refusal → Type 0
-IsListRefusal formed list Memory = Unit {0}
-IsListRefusal formed list Faulty = HasOther formed list
-IsListRefusal formed list (Fault fault) = ⊥
+abbrev pub IsListRejection : (List ℕ → Type 0) → Views → Rejection → Type 0
+IsListRejection formed list Memory = Unit {0}
+IsListRejection formed list Faulty = HasOther formed list
+IsListRejection formed list (Fault fault) = ⊥

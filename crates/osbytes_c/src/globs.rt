@@ -5,7 +5,7 @@ ghost use Rattle.std.specs.Prelude.{◌≡◌, ◌<◌, ◌↔◌, ◌∷◌, []
 ghost use Rattle.std.specs.List.{AllByRecursion};
 ghost use Rattle.platform_str.specs.Strings.{bytes};
 ghost use Rattle.osbytes_c.specs.Answers.{IsOneOf, IsWritten};
-ghost use Rattle.osbytes_c.specs.Globs.{AreCompiled, AreMatchesTold, AreNamesTold, AreNoOptions, HasUnstring, IsGlobFault, IsListRefusal, IsMatched, IsNoSet, IsRefusal, IsTold, fault_number, glob_options};
+ghost use Rattle.osbytes_c.specs.Globs.{AreCompiled, AreMatchesReported, AreNamesReported, AreNoOptions, HasUnstring, IsGlobFault, IsListRejection, IsMatched, IsNoSet, IsRejection, IsReported, fault_number, glob_options};
 ghost use Rattle.osbytes_c.specs.ItemLists.{AreItems};
 ghost use Rattle.osbytes_c.specs.Platforms.{formed_on, units_on};
 ghost use Rattle.osbytes_c.specs.Statuses.{done, faulty, no_memory, no_option, no_pattern, no_platform, no_room};
@@ -36,7 +36,7 @@ pub struct GlobFault {
 
 /// Why there is no result.
 #[derive(Drop)]
-pub(crate) enum Refusal {
+pub(crate) enum Rejection {
     /// An allocation failed.
     Memory,
     /// A pattern or a path isn't a string of the platform.
@@ -58,7 +58,7 @@ pub extern "C" fn osb_core_glob_matches(
     count: &mut usize,
     fault: &mut GlobFault,
 ) -> u32
-    ensures written { IsWritten result (AreMatchesTold (formed_on platform) (units_on platform)
+    ensures written { IsWritten result (AreMatchesReported (formed_on platform) (units_on platform)
         (glob_options options) patterns.now paths.now) matched.old matched.new count.new }
     ensures strings { result ≡ faulty → HasUnstring (formed_on platform) (units_on platform)
         (glob_options options) patterns.now paths.now }
@@ -112,7 +112,7 @@ fn matches_on<E: Platform>(
     count: &mut usize,
     fault: &mut GlobFault,
 ) -> u32
-    ensures written { IsWritten result (AreMatchesTold E.well_formed E.units options patterns.now
+    ensures written { IsWritten result (AreMatchesReported E.well_formed E.units options patterns.now
         paths.now) matched.old matched.new count.new }
     ensures strings { result ≡ faulty → HasUnstring E.well_formed E.units options patterns.now
         paths.now }
@@ -120,11 +120,11 @@ fn matches_on<E: Platform>(
         fault.new }
     ensures answers { IsOneOf (done ∷ no_room ∷ faulty ∷ no_memory ∷ no_pattern ∷ []) result }
 {
-    match told_on::<E>(alloc, options, patterns, paths) {
+    match reported_on::<E>(alloc, options, patterns, paths) {
         Ok(answers) => write_list(&answers, matched, count),
-        Err(Refusal::Memory) => NO_MEMORY,
-        Err(Refusal::Faulty) => FAULTY,
-        Err(Refusal::Fault(found)) => {
+        Err(Rejection::Memory) => NO_MEMORY,
+        Err(Rejection::Faulty) => FAULTY,
+        Err(Rejection::Fault(found)) => {
             *fault = found;
             NO_PATTERN
         }
@@ -132,19 +132,19 @@ fn matches_on<E: Platform>(
 }
 
 /// Returns a byte for each path: whether a pattern matches it.
-fn told_on<E: Platform>(
+fn reported_on<E: Platform>(
     alloc: Global,
     options: GlobOptions,
     patterns: &[&[u8]],
     paths: &[&[u8]],
-) -> Result<Vec<u8>, Refusal>
+) -> Result<Vec<u8>, Rejection>
     ensures { MatchResult result
-        (λ answers. AreMatchesTold E.well_formed E.units options patterns.now paths.now
+        (λ answers. AreMatchesReported E.well_formed E.units options patterns.now paths.now
         answers.items)
-        (λ refusal. IsRefusal E.well_formed E.units options patterns.now paths.now refusal) }
+        (λ rejection. IsRejection E.well_formed E.units options patterns.now paths.now rejection) }
 {
     let set = made_on::<E>(alloc, options, patterns)?;
-    told_of(alloc, &set, paths)
+    reported_of(alloc, &set, paths)
 }
 
 /// Compiles the patterns of a list.
@@ -152,17 +152,17 @@ pub(crate) fn made_on<E: Platform>(
     alloc: Global,
     options: GlobOptions,
     patterns: &[&[u8]],
-) -> Result<GlobSet<E>, Refusal>
+) -> Result<GlobSet<E>, Rejection>
     ensures { MatchResult result
         (λ made. AreCompiled E.well_formed E.units options patterns.now made.set.options
         made.set.patterns.items)
-        (λ refusal. IsNoSet E.well_formed E.units options patterns.now refusal) }
+        (λ rejection. IsNoSet E.well_formed E.units options patterns.now rejection) }
 {
     let texts = strings_of::<E>(alloc, patterns)?;
     match GlobSet::new(alloc, options, &texts) {
         Ok(set) => Ok(set),
-        Err(GlobSetError::Memory) => Err(Refusal::Memory),
-        Err(GlobSetError::Pattern(which, fault)) => Err(Refusal::Fault(GlobFault {
+        Err(GlobSetError::Memory) => Err(Rejection::Memory),
+        Err(GlobSetError::Pattern(which, fault)) => Err(Rejection::Fault(GlobFault {
             which,
             index: fault.index,
             kind: number_of(fault.kind),
@@ -174,41 +174,41 @@ pub(crate) fn made_on<E: Platform>(
 fn strings_of<'a, E: Platform>(
     alloc: Global,
     list: &'a [&'a [u8]],
-) -> Result<Vec<OsStr<'a, E>>, Refusal>
+) -> Result<Vec<OsStr<'a, E>>, Rejection>
     ensures { MatchResult result (λ strings. AreItems list.now (map bytes strings.items)
         × AllByRecursion E.well_formed (map bytes strings.items))
-        (λ refusal. IsListRefusal E.well_formed list.now refusal) }
+        (λ rejection. IsListRejection E.well_formed list.now rejection) }
 {
     let mut strings = Vec::new(alloc);
     for item in list {
         let Ok(string) = OsStr::<E>::checked(item) else {
-            return Err(Refusal::Faulty);
+            return Err(Rejection::Faulty);
         };
         let Ok(()) = strings.push(string) else {
-            return Err(Refusal::Memory);
+            return Err(Rejection::Memory);
         };
     }
     Ok(strings)
 }
 
 /// Returns a byte for each path of a list: whether a pattern of the set matches it.
-pub(crate) fn told_of<E: Platform>(
+pub(crate) fn reported_of<E: Platform>(
     alloc: Global,
     set: &GlobSet<E>,
     paths: &[&[u8]],
-) -> Result<Vec<u8>, Refusal>
+) -> Result<Vec<u8>, Rejection>
     ensures { MatchResult result
-        (λ answers. AreNamesTold E.well_formed E.units set.now.set.options
+        (λ answers. AreNamesReported E.well_formed E.units set.now.set.options
         set.now.set.patterns.items paths.now answers.items)
-        (λ refusal. IsListRefusal E.well_formed paths.now refusal) }
+        (λ rejection. IsListRejection E.well_formed paths.now rejection) }
 {
     let mut answers = Vec::new(alloc);
     for item in paths {
         let Ok(path) = OsStr::<E>::checked(item) else {
-            return Err(Refusal::Faulty);
+            return Err(Rejection::Faulty);
         };
         let Ok(()) = answers.push(answer_of(set, path)) else {
-            return Err(Refusal::Memory);
+            return Err(Rejection::Memory);
         };
     }
     Ok(answers)
@@ -216,7 +216,7 @@ pub(crate) fn told_of<E: Platform>(
 
 /// The byte of a set for a path: 1 a pattern matches it, 0 none does.
 fn answer_of<E: Platform>(set: &GlobSet<E>, path: OsStr<'_, E>) -> u8
-    ensures { IsTold (IsMatched E.units set.now.set.options set.now.set.patterns.items
+    ensures { IsReported (IsMatched E.units set.now.set.options set.now.set.patterns.items
         (bytes path.entry)) result }
 {
     if set.is_match(path) { 1 } else { 0 }

@@ -4,7 +4,7 @@
 ghost use Rattle.std.specs.Prelude.{◌≡◌, ◌≢◌, ◌↔◌, ◌+◌, ◌<◌, ◌^◌, ◌∷◌, [], length, true, get_or};
 ghost use Rattle.os_ignore.specs.Ignores.{files_of};
 ghost use Rattle.osbytes_c.specs.Answers.{IsDone, IsOneOf};
-ghost use Rattle.osbytes_c.specs.Ignores.{AreToldIn, IsIgnoreTold, PushesTold, Tells};
+ghost use Rattle.osbytes_c.specs.Ignores.{AreReportedIn, IsIgnoreReported, PushesReports, IsReportOf};
 ghost use Rattle.osbytes_c.specs.Statuses.{done, no_memory, no_room};
 
 pub mod places;
@@ -17,7 +17,7 @@ use std::alloc::Global;
 /// The verdict of an ignore file on a path.
 #[repr(C)]
 #[derive(Clone, Copy)]
-pub struct Told {
+pub struct Report {
     /// 0 nothing, 1 it is ignored, 2 it is taken in.
     pub kind: u32,
     /// The line that decides it, from 1; 0 if none does.
@@ -32,29 +32,29 @@ pub extern "C" fn osb_core_ignore_matches(
     file: &[u8],
     paths: &[&[u8]],
     flags: &[u8],
-    out: &mut [Told],
+    out: &mut [Report],
     count: &mut usize,
 ) -> u32
-    ensures written { IsDone result (IsIgnoreTold file.now flags.now paths.now out.old out.new
+    ensures written { IsDone result (IsIgnoreReported file.now flags.now paths.now out.old out.new
         count.new) (length out.old) count.new }
     ensures answers { IsOneOf (done ∷ no_room ∷ no_memory ∷ []) result }
 {
     let Ok(ignore) = Ignore::new(alloc, file) else {
         return NO_MEMORY;
     };
-    let told = tell(&ignore, paths, flags, out);
-    *count = told;
-    fits(told, out.len())
+    let reported = report(&ignore, paths, flags, out);
+    *count = reported;
+    fits(reported, out.len())
 }
 
 /// Writes the verdict of the files on each path, as far as there is room, and counts the paths.
-fn tell(ignore: &Ignore, paths: &[&[u8]], flags: &[u8], out: &mut [Told]) -> usize
-    ensures { AreToldIn (files_of ignore.now) flags.now paths.now out.old out.new result }
+fn report(ignore: &Ignore, paths: &[&[u8]], flags: &[u8], out: &mut [Report]) -> usize
+    ensures { AreReportedIn (files_of ignore.now) flags.now paths.now out.old out.new result }
 {
     let mut count = 0;
     for path in paths {
-        let told = told_of(ignore.matched(path, flag_at(flags, count)));
-        count = push(out, count, told);
+        let reported = reported_of(ignore.matched(path, flag_at(flags, count)));
+        count = push(out, count, reported);
     }
     count
 }
@@ -67,24 +67,24 @@ fn flag_at(flags: &[u8], number: usize) -> bool
 }
 
 /// The report of a verdict.
-fn told_of(verdict: Verdict) -> Told
-    ensures { Tells verdict result }
+fn reported_of(verdict: Verdict) -> Report
+    ensures { IsReportOf verdict result }
 {
     match verdict {
-        Verdict::Neither => Told { kind: 0, line: 0 },
-        Verdict::Ignored { file: _, line } => Told { kind: 1, line },
-        Verdict::TakenIn { file: _, line } => Told { kind: 2, line },
+        Verdict::Neither => Report { kind: 0, line: 0 },
+        Verdict::Ignored { file: _, line } => Report { kind: 1, line },
+        Verdict::TakenIn { file: _, line } => Report { kind: 2, line },
     }
 }
 
 /// Appends to an array that has `count` items, as far as there is room.
-fn push(out: &mut [Told], count: usize, told: Told) -> usize
+fn push(out: &mut [Report], count: usize, reported: Report) -> usize
     requires { count + 1 < 2 ^ 64 }
-    ensures pushes { PushesTold (told ∷ []) out.old count out.new result }
+    ensures pushes { PushesReports (reported ∷ []) out.old count out.new result }
     ensures count { result ≡ count + 1 }
 {
     if count < out.len() {
-        out[count] = told;
+        out[count] = reported;
     }
     count + 1
 }

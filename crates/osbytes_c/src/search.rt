@@ -13,7 +13,7 @@ pub mod boundary;
 pub mod compare;
 pub mod prefix;
 
-use crate::status::{DONE, NO_PATTERN, NONE, told};
+use crate::status::{DONE, NO_PATTERN, NONE, reported};
 use crate::strings::{text, unix};
 use os_str_ext::OsStrBytesExt;
 
@@ -69,7 +69,7 @@ pub extern "C" fn osb_core_contains(bytes: &[u8], pattern: &[u8]) -> u32
     let Some(pattern) = text(pattern) else {
         return NO_PATTERN;
     };
-    told(unix(bytes).contains(pattern))
+    reported(unix(bytes).contains(pattern))
 }
 
 /// Whether the string starts with the pattern.
@@ -83,7 +83,7 @@ pub extern "C" fn osb_core_starts_with(bytes: &[u8], pattern: &[u8]) -> u32
     let Some(pattern) = text(pattern) else {
         return NO_PATTERN;
     };
-    told(unix(bytes).starts_with(pattern))
+    reported(unix(bytes).starts_with(pattern))
 }
 
 /// Whether the string ends with the pattern.
@@ -97,5 +97,5 @@ pub extern "C" fn osb_core_ends_with(bytes: &[u8], pattern: &[u8]) -> u32
     let Some(pattern) = text(pattern) else {
         return NO_PATTERN;
     };
-    told(unix(bytes).ends_with(pattern))
+    reported(unix(bytes).ends_with(pattern))
 }

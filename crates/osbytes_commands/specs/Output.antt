@@ -70,30 +70,30 @@ module _ {E : Type 0} (p : Ghosts E) where
   HasBadQuoteOn (Unquote os) input error = IsUtf8 input × (error ≢ quote.Memory) × IsQuoteFault p.well_formed p.units input error
 
   -- what the command rejects the input with
-  abbrev pub IsRefusalOn : Command → List ℕ → Fault → Type 0
-  IsRefusalOn command input (Refused error) = HasFaultOn command input error
-  IsRefusalOn command input (BadLine number) = HasBadLine command input number
-  IsRefusalOn command input (BadQuote error) = HasBadQuoteOn command input error
-  IsRefusalOn command input Usage = ⊥
-  IsRefusalOn command input Memory = ⊥
-  IsRefusalOn command input Read = ⊥
-  IsRefusalOn command input Write = ⊥
+  abbrev pub IsRejectionOn : Command → List ℕ → Fault → Type 0
+  IsRejectionOn command input (Refused error) = HasFaultOn command input error
+  IsRejectionOn command input (BadLine number) = HasBadLine command input number
+  IsRejectionOn command input (BadQuote error) = HasBadQuoteOn command input error
+  IsRejectionOn command input Usage = ⊥
+  IsRejectionOn command input Memory = ⊥
+  IsRejectionOn command input Read = ⊥
+  IsRejectionOn command input Write = ⊥
 
   -- the faults that the command may end with: that of an invalid input, and out of memory
   abbrev pub IsFaultOn : Command → List ℕ → Fault → Type 0
-  IsFaultOn command input fault = (fault ≡ Memory) ⊎ IsRefusalOn command input fault
+  IsFaultOn command input fault = (fault ≡ Memory) ⊎ IsRejectionOn command input fault
 
   -- r is the first fault of bytes that aren't a string; it is found before any memory is allocated
-  abbrev pub RefusesNoString : {T : Type 0} → List ℕ → Result T Fault → Type 0
-  RefusesNoString input r = (error : EncodingError) → p.first_fault input error → r ≡ Err (Refused error)
+  abbrev pub RejectsNoString : {T : Type 0} → List ℕ → Result T Fault → Type 0
+  RejectsNoString input r = (error : EncodingError) → p.first_fault input error → r ≡ Err (Refused error)
 
 -- the command's output for the input, on its platform
 abbrev pub IsOutput : Command → List ℕ → List ℕ → Type 0
 IsOutput command = IsOutputOn (strings (os_of command)) command
 
 -- what the command rejects the input with, on its platform
-abbrev pub IsRefusal : Command → List ℕ → Fault → Type 0
-IsRefusal command = IsRefusalOn (strings (os_of command)) command
+abbrev pub IsRejection : Command → List ℕ → Fault → Type 0
+IsRejection command = IsRejectionOn (strings (os_of command)) command
 
 -- the faults that the command may end with, on its platform
 abbrev pub IsFault : Command → List ℕ → Fault → Type 0

@@ -1,7 +1,7 @@
 //! The command `chunks`: the bytes of a string to its chunks.
 ghost use Rattle.std.specs.Prelude.{◌≡◌, IfOk, IfErr};
 ghost use Rattle.osbytes_commands.specs.Lines.{chunk_lines};
-ghost use Rattle.osbytes_commands.specs.Output.{IsOutputOn, IsFaultOn, RefusesNoString};
+ghost use Rattle.osbytes_commands.specs.Output.{IsOutputOn, IsFaultOn, RejectsNoString};
 ghost use Rattle.osbytes_commands.specs.declared.command.Command.TheVariants.{Chunks};
 
 use crate::fault::Fault;
@@ -20,7 +20,7 @@ pub fn chunks<E: Target, A: Allocator>(alloc: A, input: &[u8]) -> Result<Vec<u8,
         output.items) }
     ensures fault { IfErr result (λ fault. IsFaultOn ⟦<E as Platform>⟧ (Chunks E.os) input.now
         fault) }
-    ensures refused { RefusesNoString ⟦<E as Platform>⟧ input.now result }
+    ensures rejected { RejectsNoString ⟦<E as Platform>⟧ input.now result }
 {
     let string = string::<E>(input)?;
     Ok(chunk_lines(alloc, string.utf8_chunks())?)

@@ -1,7 +1,7 @@
 //! The command `find`: where a pattern first occurs in a string.
 ghost use Rattle.std.specs.Prelude.{◌≡◌, IfOk, IfErr};
 ghost use Rattle.osbytes_commands.specs.Lines.{index_line};
-ghost use Rattle.osbytes_commands.specs.Output.{IsOutputOn, IsFaultOn, RefusesNoString};
+ghost use Rattle.osbytes_commands.specs.Output.{IsOutputOn, IsFaultOn, RejectsNoString};
 ghost use Rattle.osbytes_commands.specs.declared.command.Command.TheVariants.{Find};
 
 use crate::fault::Fault;
@@ -23,7 +23,7 @@ pub fn find<E: Target, A: Allocator>(
         input.now output.items) }
     ensures fault { IfErr result (λ fault. IsFaultOn ⟦<E as Platform>⟧ (Find E.os pattern.entry)
         input.now fault) }
-    ensures refused { RefusesNoString ⟦<E as Platform>⟧ input.now result }
+    ensures rejected { RejectsNoString ⟦<E as Platform>⟧ input.now result }
 {
     let index = string::<E>(input)?.find(pattern);
     Ok(index_line(alloc, index)?)

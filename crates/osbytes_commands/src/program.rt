@@ -2,7 +2,7 @@
 ghost use Rattle.std.specs.Prelude.{◌≡◌, ◌≢◌, ◌⊎◌, ◌↔◌, true, false, codes, map, string_bytes, IfOk, IfErr, OnOk, IsOk};
 ghost use Rattle.std.specs.Io.KnownBytes.{Appends, IsAtEnd};
 ghost use Rattle.std.specs.IoError.{error_kind};
-ghost use Rattle.program_frame.specs.Ended.{message, outcome_of, was_told};
+ghost use Rattle.program_frame.specs.Ended.{message, outcome_of, was_reported};
 ghost use Rattle.osbytes_commands.specs.Fault.{text_of};
 ghost use Rattle.program_frame.specs.Marked.{marked_inner, has_failed, is_closed};
 ghost use Rattle.program_frame.specs.Words.{words_after_name};
@@ -84,7 +84,7 @@ pub fn execute<A: Allocator, R: Read, W: Output, E: Messages>(
     // The message.
     ensures closed { is_closed writer.new ≡ true → errors.new ≡ errors.old }
     ensures quiet { OnOk (outcome_of result) (errors.new ≡ errors.old) }
-    ensures told { was_told result ≡ true → IfErr (outcome_of result) (λ fault.
+    ensures reported { was_reported result ≡ true → IfErr (outcome_of result) (λ fault.
         Appends (E.contents errors.old) (E.contents errors.new)
         (message (codes "osbytes") (text_of fault))) }
     ensures beginning { IfErr (outcome_of result) (λ fault.
@@ -94,10 +94,10 @@ pub fn execute<A: Allocator, R: Read, W: Output, E: Messages>(
     match words(&alloc, args) {
         Ok(words) => {
             let outcome = run_words(&alloc, &words, reader, writer);
-            Ended::telling_unless("osbytes", writer.closed(), outcome, errors)
+            Ended::reporting_unless("osbytes", writer.closed(), outcome, errors)
         }
-        Err(NoWords::Memory) => Ended::telling("osbytes", Err(Fault::Memory), errors),
-        Err(NoWords::Unreadable) => Ended::telling("osbytes", Err(Fault::Usage), errors),
+        Err(NoWords::Memory) => Ended::reporting("osbytes", Err(Fault::Memory), errors),
+        Err(NoWords::Unreadable) => Ended::reporting("osbytes", Err(Fault::Usage), errors),
     }
 }
 

@@ -1,6 +1,6 @@
 //! The commands `quote` and `unquote`: the bytes of a string to its escape, and back.
 ghost use Rattle.std.specs.Prelude.{IfOk, IfErr};
-ghost use Rattle.osbytes_commands.specs.Output.{IsOutputOn, IsFaultOn, RefusesNoString};
+ghost use Rattle.osbytes_commands.specs.Output.{IsOutputOn, IsFaultOn, RejectsNoString};
 ghost use Rattle.osbytes_commands.specs.declared.command.Command.TheVariants.{Quote, Unquote};
 
 use crate::fault::Fault;
@@ -19,7 +19,7 @@ pub fn quote<E: Target, A: Allocator>(alloc: A, input: &[u8]) -> Result<Vec<u8, 
         output.items) }
     ensures fault { IfErr result (λ fault. IsFaultOn ⟦<E as Platform>⟧ (Quote E.os) input.now
         fault) }
-    ensures refused { RefusesNoString ⟦<E as Platform>⟧ input.now result }
+    ensures rejected { RejectsNoString ⟦<E as Platform>⟧ input.now result }
 {
     let string = string::<E>(input)?;
     Ok(escape(alloc, string)?.into_bytes())

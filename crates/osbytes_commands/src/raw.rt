@@ -51,7 +51,7 @@ fn encode<E: Target, A: Allocator>(alloc: A, units: &[E::Unit]) -> Result<Vec<u8
         ⊎ ((error : EncodingError) × (fault ≡ Fault.Refused error)
         × (¬ (E.is_unit_list (map E.number units.now)))
         × E.first_fault (map E.number units.now) error)) }
-    ensures refused { ¬ (E.is_unit_list (map E.number units.now))
+    ensures rejected { ¬ (E.is_unit_list (map E.number units.now))
         → (error : EncodingError) → E.first_fault (map E.number units.now) error
         → result ≡ Err (Fault.Refused error) }
 {

@@ -5,7 +5,7 @@ ghost use Rattle.osbytes_commands.specs.Command.{IsUnusable};
 ghost use Rattle.program_frame.specs.Marked.{marked_inner, has_failed};
 ghost use Rattle.osbytes_commands.specs.Output.{IsOfInput};
 ghost use Rattle.program_frame.specs.Written.{AppendsBeginning};
-ghost use Rattle.osbytes_commands.specs.Run.{WritesOutput, WritesBeginning, RefusesInput, AnswersRefusal};
+ghost use Rattle.osbytes_commands.specs.Run.{WritesOutput, WritesBeginning, RejectsInput, AnswersRejection};
 
 use crate::answer::answer;
 use crate::command::Command;
@@ -59,8 +59,8 @@ pub fn run<A: Allocator, R: Read, W: Write>(
 
     // When each fault comes.
     ensures of_input { IfErr result (λ fault. IsOfInput fault
-        → RefusesInput command.entry (R.remaining (marked_inner reader.old)) fault) }
-    ensures refusal { AnswersRefusal command.entry (R.remaining (marked_inner reader.old)) result }
+        → RejectsInput command.entry (R.remaining (marked_inner reader.old)) fault) }
+    ensures rejection { AnswersRejection command.entry (R.remaining (marked_inner reader.old)) result }
     ensures usage { (result ≡ Err Fault.Usage) ↔ IsUnusable command.entry }
     ensures nothing_read { result ≡ Err Fault.Usage → reader.new ≡ reader.old }
     ensures read { (result ≡ Err Fault.Read) ↔ (has_failed reader.new ≡ true) }

@@ -1,7 +1,7 @@
 //! The command `split`: the pieces of a string.
 ghost use Rattle.std.specs.Prelude.{◌≡◌, ◌<◌, length, IfOk, IfErr};
 ghost use Rattle.osbytes_commands.specs.Lines.{piece_lines};
-ghost use Rattle.osbytes_commands.specs.Output.{IsOutputOn, IsFaultOn, RefusesNoString};
+ghost use Rattle.osbytes_commands.specs.Output.{IsOutputOn, IsFaultOn, RejectsNoString};
 ghost use Rattle.osbytes_commands.specs.declared.command.Command.TheVariants.{Split as SplitAt};
 
 use crate::fault::Fault;
@@ -26,7 +26,7 @@ pub fn split<E: Target, A: Allocator>(
         (SplitAt E.os pattern.entry) input.now output.items) }
     ensures fault { IfErr result (λ fault. IsFaultOn ⟦<E as Platform>⟧ (SplitAt E.os pattern.entry)
         input.now fault) }
-    ensures refused { RefusesNoString ⟦<E as Platform>⟧ input.now result }
+    ensures rejected { RejectsNoString ⟦<E as Platform>⟧ input.now result }
 {
     let pieces = string::<E>(input)?.split(pattern);
     Ok(piece_lines(alloc, pieces)?)

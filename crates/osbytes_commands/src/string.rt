@@ -2,7 +2,7 @@
 ghost use Rattle.std.specs.Prelude.{◌≡◌, IfOk, IfErr};
 ghost use Rattle.os_str_bytes.specs.EncodingError.{EncodingError};
 ghost use Rattle.os_str_bytes.specs.Strings.{bytes};
-ghost use Rattle.osbytes_commands.specs.Output.{RefusesNoString};
+ghost use Rattle.osbytes_commands.specs.Output.{RejectsNoString};
 
 use crate::fault::Fault;
 use os_str_bytes::{OsStr, Platform, laws};
@@ -17,7 +17,7 @@ pub fn string<'a, E: Platform>(input: &'a [u8]) -> Result<OsStr<'a, E>, Fault>
     ensures formed { IfOk result (λ _. E.well_formed input.now) }
     ensures fault { IfErr result (λ fault. (error : EncodingError) × (fault ≡ Fault.Refused error)
         × E.first_fault input.now error) }
-    ensures refused { RefusesNoString ⟦<E as Platform>⟧ input.now result }
+    ensures rejected { RejectsNoString ⟦<E as Platform>⟧ input.now result }
 {
     laws::faults::<E>();
     Ok(OsStr::checked(input)?)

@@ -1,6 +1,6 @@
 //! The command `units`: the bytes of a string to its units.
 ghost use Rattle.std.specs.Prelude.{IfOk, IfErr};
-ghost use Rattle.osbytes_commands.specs.Output.{IsOutputOn, IsFaultOn, RefusesNoString};
+ghost use Rattle.osbytes_commands.specs.Output.{IsOutputOn, IsFaultOn, RejectsNoString};
 ghost use Rattle.osbytes_commands.specs.declared.command.Command.TheVariants.{Units};
 
 use crate::fault::Fault;
@@ -18,7 +18,7 @@ pub fn units<E: Target, A: Allocator>(alloc: A, input: &[u8]) -> Result<Vec<u8, 
         output.items) }
     ensures fault { IfErr result (λ fault. IsFaultOn ⟦<E as Platform>⟧ (Units E.os) input.now
         fault) }
-    ensures refused { RefusesNoString ⟦<E as Platform>⟧ input.now result }
+    ensures rejected { RejectsNoString ⟦<E as Platform>⟧ input.now result }
 {
     let string = string::<E>(input)?;
     Ok(E::lines(alloc, string.as_encoded_bytes())?)

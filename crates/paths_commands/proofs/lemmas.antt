@@ -5,7 +5,7 @@ pub mod Lines
 pub mod NeverBoth
 pub mod Platforms
 pub mod ReadOnce
-pub mod Refusals
+pub mod Rejections
 pub mod Requests
 pub mod Shown
 pub mod Surplus

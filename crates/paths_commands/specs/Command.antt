@@ -136,20 +136,20 @@ abbrev pub longest_path : ℕ
 longest_path = 1048576
 
 -- these request the command: help, at any position; the version; or a task. The operands are then the task's name, a platform and what the task needs, and options state how the list of paths is written
-abbrev pub AsksFor : Line → Command → Type 0
-AsksFor given (Ask task os list keeps_going) =
+abbrev pub IsRequestFor : Line → Command → Type 0
+IsRequestFor given (Ask task os list keeps_going) =
     IsOfPaths given
     × (HasOperands given (name_of task) os (operands_of_task task)
     × ((IsChecked task ↔ HasOption option.Checked given)
     × (HasStyle (style_of os) task
     × (((keeps_going ≡ true) ↔ HasOption option.KeepGoing given)
     × AreStated option.Lines option.Unterminated longest_path given list))))
-AsksFor given Help = HasOption option.Help given
-AsksFor given Version = (¬ (HasOption option.Help given)) × HasOption option.Version given
+IsRequestFor given Help = HasOption option.Help given
+IsRequestFor given Version = (¬ (HasOption option.Help given)) × HasOption option.Version given
 
 -- these request no command
 abbrev pub RequestsNothing : Line → Type 0
-RequestsNothing given = (command : Command) → ¬ (AsksFor given command)
+RequestsNothing given = (command : Command) → ¬ (IsRequestFor given command)
 
 -- the arguments are no options and operands that request a command
 abbrev pub RequestNothing : List (List ℕ) → Type 0

@@ -6,8 +6,8 @@ use Rattle.os_str_bytes.specs.FaultText.{fault_text}
 use Rattle.path_building.specs.ErrorText.{absolute_error_text, name_error_text}
 use Rattle.path_building.specs.declared.walk.NameError.{NameError}
 use Rattle.path_building.specs.declared.walk.NameError.TheVariants as name
-use Rattle.paths_commands.specs.declared.fault.Refusal.{Refusal}
-use Rattle.paths_commands.specs.declared.fault.Refusal.TheVariants.{NoString, NoNormalForm, NoRelativePath, NoAbsolutePath, NoJoin, NoJoinAt, NoComponent, NoStringThere, HasNul, ResultHas}
+use Rattle.paths_commands.specs.declared.fault.Rejection.{Rejection}
+use Rattle.paths_commands.specs.declared.fault.Rejection.TheVariants.{NoString, NoNormalForm, NoRelativePath, NoAbsolutePath, NoJoin, NoJoinAt, NoComponent, NoStringThere, HasNul, ResultHas}
 use Rattle.paths_commands.specs.declared.fault.CommandFault.{CommandFault}
 use Rattle.paths_commands.specs.declared.fault.CommandFault.TheVariants.{Unreadable, Misuse, PassedOver}
 use Rattle.program_frame.specs.Misuse.{misuse_text}
@@ -51,17 +51,17 @@ result_text Nul = codes "the result has a NUL"
 result_text Newline = codes "the result has a newline"
 
 -- what the program prints of the reason why a path is rejected
-abbrev pub refusal_text : Refusal → List ℕ
-refusal_text (NoString error) = fault_text error
-refusal_text NoNormalForm = codes "no name before a .."
-refusal_text NoRelativePath = codes "no path from the base leads there"
-refusal_text (NoAbsolutePath error) = absolute_error_text error
-refusal_text (NoJoin error) = name_error_text error
-refusal_text (NoJoinAt error text) = at_fault_text error (inline_text text)
-refusal_text (NoComponent index text) = unlike_text index (inline_text text)
-refusal_text (NoStringThere error) = codes "no path there: " ++ fault_text error
-refusal_text HasNul = codes "the path has a NUL"
-refusal_text (ResultHas end) = result_text end
+abbrev pub rejection_text : Rejection → List ℕ
+rejection_text (NoString error) = fault_text error
+rejection_text NoNormalForm = codes "no name before a .."
+rejection_text NoRelativePath = codes "no path from the base leads there"
+rejection_text (NoAbsolutePath error) = absolute_error_text error
+rejection_text (NoJoin error) = name_error_text error
+rejection_text (NoJoinAt error text) = at_fault_text error (inline_text text)
+rejection_text (NoComponent index text) = unlike_text index (inline_text text)
+rejection_text (NoStringThere error) = codes "no path there: " ++ fault_text error
+rejection_text HasNul = codes "the path has a NUL"
+rejection_text (ResultHas end) = result_text end
 
 -- what the program prints of why it ends, beside faults of lists
 abbrev pub words_text : CommandFault → List ℕ

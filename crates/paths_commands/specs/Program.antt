@@ -19,7 +19,7 @@ use Rattle.program_frame.specs.declared.lists.program_fault.Fault.TheVariants.{L
 use Rattle.program_frame.specs.declared.misuse.Misuse as misuse
 use Rattle.program_frame.specs.declared.misuse.Misuse.TheVariants.{Argument}
 use Rattle.program_frame.specs.declared.os.Os.{Os}
-use Rattle.paths_commands.specs.Command.{AsksFor, IsMisuse, Line, RequestNothing, RequestsNothing}
+use Rattle.paths_commands.specs.Command.{IsRequestFor, IsMisuse, Line, RequestNothing, RequestsNothing}
 use Rattle.paths_commands.specs.Fault.{IsOfMisuse}
 use Rattle.paths_commands.specs.Options.{has_value, spelled}
 use Rattle.paths_commands.specs.Styles.{style_of}
@@ -28,12 +28,12 @@ use Rattle.paths_commands.specs.declared.command.Command.{Command}
 use Rattle.paths_commands.specs.declared.command.Command.TheVariants.{Ask, Help, Version}
 use Rattle.paths_commands.specs.declared.fault.CommandFault.{CommandFault}
 use Rattle.paths_commands.specs.declared.fault.CommandFault.TheVariants.{PassedOver}
-use Rattle.paths_commands.specs.declared.fault.Refusal.{Refusal}
+use Rattle.paths_commands.specs.declared.fault.Rejection.{Rejection}
 use Rattle.paths_commands.specs.declared.task.Task.{Task}
 
 -- what keeps the program from its output
 abbrev pub Fault : Type 0
-Fault = program_fault.Fault Refusal CommandFault
+Fault = program_fault.Fault Rejection CommandFault
 
 -- what is done: a relation of the bytes that a reader had left and has left, of what a writer held and holds, as far as they are known, and of the result
 abbrev pub Doing : Type 1
@@ -44,7 +44,7 @@ abbrev pub EndsAtOnce : Fault → Doing
 EndsAtOnce fault input left old new answer = (answer ≡ Err fault) × ((left ≡ input) × (new ≡ old))
 
 -- what is done with each path of the platform, in a list that is written so
-abbrev pub rules_on : Os → Task → ListOptions → ListRules Refusal
+abbrev pub rules_on : Os → Task → ListOptions → ListRules Rejection
 rules_on os task list = rules_of (strings os) (style_of os) task list
 
 -- the result of a run that passed over this number of paths: if it passed over some, that is its fault
@@ -53,7 +53,7 @@ IsAfter count (Ok done) answer = ((count ≡ 0) × IsOk answer) ⊎ ((0 < count)
 IsAfter count (Err fault) answer = answer ≡ Err fault
 
 -- the run passes over the paths that are rejected, and writes the results of the others, in order. No such path ends it
-pub record RunsPast (list : ListRules Refusal) (input left old new : Option (List ℕ)) (answer : Result ⊤ Fault) : Type 0 where
+pub record RunsPast (list : ListRules Rejection) (input left old new : Option (List ℕ)) (answer : Result ⊤ Fault) : Type 0 where
   pub count : ℕ
   pub ran : Result ⊤ Fault
   pub run : Runs (passing count list) OfList input left old new ran
@@ -83,7 +83,7 @@ RejectsLine given input left old new answer =
 
 -- the options and operands request a command, with this result
 abbrev pub RunsCommand : Line → Doing
-RunsCommand given input left old new answer = (command : Command) × (AsksFor given command × Does command input left old new answer)
+RunsCommand given input left old new answer = (command : Command) × (IsRequestFor given command × Does command input left old new answer)
 
 -- the options and operands request a command, which has this result, or none
 abbrev pub RunsLine : Line → Doing

@@ -36,8 +36,8 @@ use Rattle.program_frame.specs.declared.lists.options.ListOptions.{ListOptions}
 use Rattle.program_frame.specs.declared.os.Os.{Os}
 use Rattle.program_frame.specs.Rules.{ListRules}
 use Rattle.paths_commands.specs.Styles.{style_of}
-use Rattle.paths_commands.specs.declared.fault.Refusal.{Refusal}
-use Rattle.paths_commands.specs.declared.fault.Refusal.TheVariants as refusal
+use Rattle.paths_commands.specs.declared.fault.Rejection.{Rejection}
+use Rattle.paths_commands.specs.declared.fault.Rejection.TheVariants as rejection
 use Rattle.paths_commands.specs.declared.command.Name.{Name as DeclaredName}
 use Rattle.paths_commands.specs.declared.command.Name.TheVariants as name
 use Rattle.paths_commands.specs.declared.task.Task.{Task}
@@ -190,73 +190,73 @@ module _ {E : Type 0} (p : Ghosts E) (style : Style) where
   IsShownOf path index text = (items : List Item) × (AreComponents style path items × IsShown items index text)
 
   -- the reason for an error: it has what is shown of the component at fault, if it is one
-  abbrev pub IsReasonOf : List ℕ → NameError → Refusal → Type 0
-  IsReasonOf path error (refusal.NoString other) = ⊥
-  IsReasonOf path error refusal.NoNormalForm = ⊥
-  IsReasonOf path error refusal.NoRelativePath = ⊥
-  IsReasonOf path error (refusal.NoAbsolutePath other) = ⊥
-  IsReasonOf path error (refusal.NoJoin other) = (other ≡ error) × (component_of error ≡ None)
-  IsReasonOf path error (refusal.NoJoinAt other text) = (other ≡ error) × ((index : ℕ) × ((component_of error ≡ Some index) × IsShownOf path index (inline_text text)))
-  IsReasonOf path error (refusal.NoComponent index text) = ⊥
-  IsReasonOf path error (refusal.NoStringThere other) = ⊥
-  IsReasonOf path error refusal.HasNul = ⊥
-  IsReasonOf path error (refusal.ResultHas end) = ⊥
+  abbrev pub IsReasonOf : List ℕ → NameError → Rejection → Type 0
+  IsReasonOf path error (rejection.NoString other) = ⊥
+  IsReasonOf path error rejection.NoNormalForm = ⊥
+  IsReasonOf path error rejection.NoRelativePath = ⊥
+  IsReasonOf path error (rejection.NoAbsolutePath other) = ⊥
+  IsReasonOf path error (rejection.NoJoin other) = (other ≡ error) × (component_of error ≡ None)
+  IsReasonOf path error (rejection.NoJoinAt other text) = (other ≡ error) × ((index : ℕ) × ((component_of error ≡ Some index) × IsShownOf path index (inline_text text)))
+  IsReasonOf path error (rejection.NoComponent index text) = ⊥
+  IsReasonOf path error (rejection.NoStringThere other) = ⊥
+  IsReasonOf path error rejection.HasNul = ⊥
+  IsReasonOf path error (rejection.ResultHas end) = ⊥
 
   -- why a path isn't joined to the base, other than that an allocation failed
-  abbrev pub IsUnjoined : Base → List ℕ → Refusal → Type 0
+  abbrev pub IsUnjoined : Base → List ℕ → Rejection → Type 0
   IsUnjoined base path why = (error : NameError) × (((error ≢ name_error.Memory) × IsNameFault (base_style base) path error) × IsReasonOf path error why)
 
   -- why there is no path of another platform with the path's components: it can't have one of them, or the bytes aren't a string of it
-  abbrev pub IsUnconverted : Style → (List ℕ → EncodingError → Type 0) → List ℕ → Refusal → Type 0
-  IsUnconverted to is_fault path (refusal.NoString error) = ⊥
-  IsUnconverted to is_fault path refusal.NoNormalForm = ⊥
-  IsUnconverted to is_fault path refusal.NoRelativePath = ⊥
-  IsUnconverted to is_fault path (refusal.NoAbsolutePath error) = ⊥
-  IsUnconverted to is_fault path (refusal.NoJoin error) = ⊥
-  IsUnconverted to is_fault path (refusal.NoJoinAt error text) = ⊥
-  IsUnconverted to is_fault path (refusal.NoComponent index text) = IsConvertFault style to is_fault path (convert.Component index) × IsShownOf path index (inline_text text)
-  IsUnconverted to is_fault path (refusal.NoStringThere error) = IsConvertFault style to is_fault path (convert.Encoding error)
-  IsUnconverted to is_fault path refusal.HasNul = ⊥
-  IsUnconverted to is_fault path (refusal.ResultHas end) = ⊥
+  abbrev pub IsUnconverted : Style → (List ℕ → EncodingError → Type 0) → List ℕ → Rejection → Type 0
+  IsUnconverted to is_fault path (rejection.NoString error) = ⊥
+  IsUnconverted to is_fault path rejection.NoNormalForm = ⊥
+  IsUnconverted to is_fault path rejection.NoRelativePath = ⊥
+  IsUnconverted to is_fault path (rejection.NoAbsolutePath error) = ⊥
+  IsUnconverted to is_fault path (rejection.NoJoin error) = ⊥
+  IsUnconverted to is_fault path (rejection.NoJoinAt error text) = ⊥
+  IsUnconverted to is_fault path (rejection.NoComponent index text) = IsConvertFault style to is_fault path (convert.Component index) × IsShownOf path index (inline_text text)
+  IsUnconverted to is_fault path (rejection.NoStringThere error) = IsConvertFault style to is_fault path (convert.Encoding error)
+  IsUnconverted to is_fault path rejection.HasNul = ⊥
+  IsUnconverted to is_fault path (rejection.ResultHas end) = ⊥
 
   -- why there is no result for a string of the platform
-  abbrev pub IsUnanswered : Task → List ℕ → Refusal → Type 0
-  IsUnanswered task path (refusal.NoString error) = ⊥
-  IsUnanswered task path refusal.NoNormalForm = (task ≡ Normalize) × HasNoNormalForm style path
-  IsUnanswered task path refusal.NoRelativePath = (base : Bor (List ℕ)) × ((task ≡ Relative base) × IsRelativeFrom style path base.now None)
-  IsUnanswered task path (refusal.NoAbsolutePath error) = (directory : Bor (List ℕ)) × ((task ≡ Absolute directory) × ((error ≢ absolute_error.Memory) × IsAbsoluteFault style path directory.now error))
-  IsUnanswered task path (refusal.NoJoin error) = (base : Base) × ((task ≡ JoinChecked base) × IsUnjoined base path (refusal.NoJoin error))
-  IsUnanswered task path (refusal.NoJoinAt error text) = (base : Base) × ((task ≡ JoinChecked base) × IsUnjoined base path (refusal.NoJoinAt error text))
-  IsUnanswered task path (refusal.NoComponent index text) = (to : Os) × ((task ≡ Convert to) × IsUnconverted (style_of to) (strings to).first_fault path (refusal.NoComponent index text))
-  IsUnanswered task path (refusal.NoStringThere error) = (to : Os) × ((task ≡ Convert to) × IsUnconverted (style_of to) (strings to).first_fault path (refusal.NoStringThere error))
-  IsUnanswered task path refusal.HasNul = ⊥
-  IsUnanswered task path (refusal.ResultHas end) = ⊥
+  abbrev pub IsUnanswered : Task → List ℕ → Rejection → Type 0
+  IsUnanswered task path (rejection.NoString error) = ⊥
+  IsUnanswered task path rejection.NoNormalForm = (task ≡ Normalize) × HasNoNormalForm style path
+  IsUnanswered task path rejection.NoRelativePath = (base : Bor (List ℕ)) × ((task ≡ Relative base) × IsRelativeFrom style path base.now None)
+  IsUnanswered task path (rejection.NoAbsolutePath error) = (directory : Bor (List ℕ)) × ((task ≡ Absolute directory) × ((error ≢ absolute_error.Memory) × IsAbsoluteFault style path directory.now error))
+  IsUnanswered task path (rejection.NoJoin error) = (base : Base) × ((task ≡ JoinChecked base) × IsUnjoined base path (rejection.NoJoin error))
+  IsUnanswered task path (rejection.NoJoinAt error text) = (base : Base) × ((task ≡ JoinChecked base) × IsUnjoined base path (rejection.NoJoinAt error text))
+  IsUnanswered task path (rejection.NoComponent index text) = (to : Os) × ((task ≡ Convert to) × IsUnconverted (style_of to) (strings to).first_fault path (rejection.NoComponent index text))
+  IsUnanswered task path (rejection.NoStringThere error) = (to : Os) × ((task ≡ Convert to) × IsUnconverted (style_of to) (strings to).first_fault path (rejection.NoStringThere error))
+  IsUnanswered task path rejection.HasNul = ⊥
+  IsUnanswered task path (rejection.ResultHas end) = ⊥
 
   -- the path has a result with the byte that would end it
   abbrev pub IsCutShort : ItemEnd → Task → List ℕ → Type 0
   IsCutShort end task path = (answer : List ℕ) × (IsAnswer style task path answer × (¬ (Lacks (byte_of end) answer)))
 
   -- why a path is rejected: the first fault of bytes that aren't a string, a NUL, why there is no result, or that the result has its end
-  abbrev pub IsRefusal : ItemEnd → Task → List ℕ → Refusal → Type 0
-  IsRefusal end task path (refusal.NoString error) = p.first_fault path error
-  IsRefusal end task path refusal.NoNormalForm = IsUnanswered task path refusal.NoNormalForm
-  IsRefusal end task path refusal.NoRelativePath = IsUnanswered task path refusal.NoRelativePath
-  IsRefusal end task path (refusal.NoAbsolutePath error) = IsUnanswered task path (refusal.NoAbsolutePath error)
-  IsRefusal end task path (refusal.NoJoin error) = IsUnanswered task path (refusal.NoJoin error)
-  IsRefusal end task path (refusal.NoJoinAt error text) = IsUnanswered task path (refusal.NoJoinAt error text)
-  IsRefusal end task path (refusal.NoComponent index text) = IsUnanswered task path (refusal.NoComponent index text)
-  IsRefusal end task path (refusal.NoStringThere error) = IsUnanswered task path (refusal.NoStringThere error)
-  IsRefusal end task path refusal.HasNul = ¬ (Lacks 0 path)
-  IsRefusal end task path (refusal.ResultHas byte) = (byte ≡ end) × IsCutShort end task path
+  abbrev pub IsRejection : ItemEnd → Task → List ℕ → Rejection → Type 0
+  IsRejection end task path (rejection.NoString error) = p.first_fault path error
+  IsRejection end task path rejection.NoNormalForm = IsUnanswered task path rejection.NoNormalForm
+  IsRejection end task path rejection.NoRelativePath = IsUnanswered task path rejection.NoRelativePath
+  IsRejection end task path (rejection.NoAbsolutePath error) = IsUnanswered task path (rejection.NoAbsolutePath error)
+  IsRejection end task path (rejection.NoJoin error) = IsUnanswered task path (rejection.NoJoin error)
+  IsRejection end task path (rejection.NoJoinAt error text) = IsUnanswered task path (rejection.NoJoinAt error text)
+  IsRejection end task path (rejection.NoComponent index text) = IsUnanswered task path (rejection.NoComponent index text)
+  IsRejection end task path (rejection.NoStringThere error) = IsUnanswered task path (rejection.NoStringThere error)
+  IsRejection end task path rejection.HasNul = ¬ (Lacks 0 path)
+  IsRejection end task path (rejection.ResultHas byte) = (byte ≡ end) × IsCutShort end task path
 
   -- what is done with each path of a list that is written so
-  abbrev pub rules_of : Task → ListOptions → ListRules Refusal
+  abbrev pub rules_of : Task → ListOptions → ListRules Rejection
   rules_of task list = record {
     end = byte_of list.end;
     takes_unended = MayLack list.last;
     max = list.max;
     longest = list.max;
     is_text = IsText list.end task;
-    refuses = IsRefusal list.end task;
+    rejects = IsRejection list.end task;
     is_of_long = λ path. ⊥;
   }

@@ -2,7 +2,7 @@
 ghost use Rattle.std.specs.Prelude.{◌≡◌, ◌≢◌, ◌↔◌, ◌∷◌, [], true, false, IfErr, IfOk, MatchOption, OnErr};
 ghost use Rattle.program_frame.specs.Arguments.{HasOption, operands_of};
 ghost use Rattle.program_frame.specs.ListOptions.{AreStated};
-ghost use Rattle.paths_commands.specs.Command.{AsksFor, HasOperands, HasStyle, base_word, IsMisuse, IsOfPaths, IsSurplus, IsTaskOf, RequestsNothing, longest_path};
+ghost use Rattle.paths_commands.specs.Command.{IsRequestFor, HasOperands, HasStyle, base_word, IsMisuse, IsOfPaths, IsSurplus, IsTaskOf, RequestsNothing, longest_path};
 ghost use Rattle.path_rules.specs.Root.{IsAbsolute};
 ghost use Rattle.paths_commands.specs.Styles.{style_of};
 ghost use Rattle.paths_commands.specs.Task.{IsChecked, name_of, name_word, operands_of_task};
@@ -74,7 +74,7 @@ impl<'a> Command<'a> {
     /// ```
     #[tactic(auto, using(crate::proofs::lemmas::NeverBoth::never_both))]
     pub fn parse(given: Line<'_, 'a>) -> Result<Command<'a>, Misuse<'a>>
-        ensures command { IfOk result (λ command. AsksFor given.entry.now command) }
+        ensures command { IfOk result (λ command. IsRequestFor given.entry.now command) }
         ensures misuse { IfErr result (λ misuse. IsMisuse given.entry.now misuse) }
         ensures no_command { OnErr result (RequestsNothing given.entry.now) }
     {
@@ -95,7 +95,7 @@ impl<'a> Command<'a> {
 /// requested.
 fn question<'a>(given: Line<'_, 'a>) -> Result<Command<'a>, Misuse<'a>>
     requires { IsOfPaths given.now }
-    ensures command { IfOk result (λ command. AsksFor given.entry.now command) }
+    ensures command { IfOk result (λ command. IsRequestFor given.entry.now command) }
     ensures misuse { IfErr result (λ misuse. IsMisuse given.entry.now misuse) }
 {
     let Some((word, after)) = next_operand(given) else {

@@ -6,10 +6,10 @@ ghost use Rattle.paths_commands.specs.Fault.{IsOfMisuse, at_fault_text, from_one
 
 use os_path::{AbsoluteError, NameError};
 use os_str_bytes::{EncodingError, write_number};
-use program_frame::lists::fault::ItemRefusal;
+use program_frame::lists::fault::ItemRejection;
 use program_frame::lists::options::ItemEnd;
 use program_frame::lists::program_fault;
-use program_frame::lists::program_fault::WordsRefusal;
+use program_frame::lists::program_fault::WordsRejection;
 use program_frame::misuse::Misuse;
 use std::fmt;
 use std::fmt::{Display as _, InlineText};
@@ -19,7 +19,7 @@ pub const SHOWN: usize = 200;
 
 /// Why a path is rejected.
 #[derive(Clone, Copy)]
-pub enum Refusal {
+pub enum Rejection {
     /// It isn't a string of the platform: the first fault of its bytes.
     NoString(EncodingError),
     /// It has no normal form: a `..` has no name before it to take away.
@@ -77,15 +77,15 @@ impl CommandFault {
 }
 
 /// The reason why a run of the program ended before its input did, or that paths were passed over.
-pub type Fault = program_fault::Fault<Refusal, CommandFault>;
+pub type Fault = program_fault::Fault<Rejection, CommandFault>;
 
-impl ItemRefusal for Refusal {
+impl ItemRejection for Rejection {
     ghost use Rattle.std.specs.Prelude.{codes};
-    ghost use Rattle.paths_commands.specs.Fault.{refusal_text};
+    ghost use Rattle.paths_commands.specs.Fault.{rejection_text};
 
     ghost item = { codes "path" };
 
-    ghost text_of = { refusal_text };
+    ghost text_of = { rejection_text };
 
     fn item() -> &'static str {
         "path"
@@ -93,19 +93,19 @@ impl ItemRefusal for Refusal {
 
     fn write<W: fmt::Write>(&self, f: &mut fmt::Formatter<W>) -> fmt::Result {
         match *self {
-            Refusal::NoString(error) => error.fmt(f),
-            Refusal::NoNormalForm => f.write_str("no name before a .."),
-            Refusal::NoRelativePath => f.write_str("no path from the base leads there"),
-            Refusal::NoAbsolutePath(error) => error.fmt(f),
-            Refusal::NoJoin(error) => error.fmt(f),
-            Refusal::NoJoinAt(error, text) => write_at_fault(error, &text, f),
-            Refusal::NoComponent(index, text) => write_component(index, &text, f),
-            Refusal::NoStringThere(error) => {
+            Rejection::NoString(error) => error.fmt(f),
+            Rejection::NoNormalForm => f.write_str("no name before a .."),
+            Rejection::NoRelativePath => f.write_str("no path from the base leads there"),
+            Rejection::NoAbsolutePath(error) => error.fmt(f),
+            Rejection::NoJoin(error) => error.fmt(f),
+            Rejection::NoJoinAt(error, text) => write_at_fault(error, &text, f),
+            Rejection::NoComponent(index, text) => write_component(index, &text, f),
+            Rejection::NoStringThere(error) => {
                 f.write_str("no path there: ")?;
                 error.fmt(f)
             }
-            Refusal::HasNul => f.write_str("the path has a NUL"),
-            Refusal::ResultHas(end) => f.write_str(result_text(end)),
+            Rejection::HasNul => f.write_str("the path has a NUL"),
+            Rejection::ResultHas(end) => f.write_str(result_text(end)),
         }
     }
 }
@@ -184,7 +184,7 @@ fn write_quoted<W: fmt::Write>(text: &str, f: &mut fmt::Formatter<W>) -> fmt::Re
     f.write_str("'")
 }
 
-impl WordsRefusal for CommandFault {
+impl WordsRejection for CommandFault {
     ghost use Rattle.paths_commands.specs.Fault.{words_status, words_text};
     ghost use Rattle.paths_commands.specs.declared.fault.CommandFault.{CommandFault};
 

@@ -1,6 +1,6 @@
 //! What is written for one path.
 ghost use Rattle.std.specs.Prelude.{◌≡◌, ◌≢◌, ◌⊎◌, ◌∷◌, ◌++◌, ◌≤◌, [], ℕ, List, Some, None, OnOk, OnErr, IfOk, IfErr, drop, length, take};
-ghost use Rattle.program_frame.specs.declared.lists.fault.ItemFault.TheVariants.{Refused, Memory};
+ghost use Rattle.program_frame.specs.declared.lists.fault.ItemFault.TheVariants.{Rejected, Memory};
 ghost use Rattle.path_building.specs.Cleaned.{IsCleaned};
 ghost use Rattle.path_building.specs.FullPath.{IsFullPath, IsAbsoluteFault};
 ghost use Rattle.path_building.specs.Join.{IsJoin};
@@ -11,19 +11,19 @@ ghost use Rattle.path_building.specs.declared.full_paths.AbsoluteError.{Absolute
 ghost use Rattle.path_building.specs.declared.full_paths.AbsoluteError.TheVariants as absolute_error;
 ghost use Rattle.path_building.specs.declared.walk.NameError.TheVariants as name_error;
 ghost use Rattle.path_building.specs.BaseViews.{base_path, base_style};
-ghost use Rattle.paths_commands.specs.declared.fault.Refusal as why;
-ghost use Rattle.paths_commands.specs.declared.fault.Refusal.TheVariants.{NoNormalForm, NoRelativePath, NoAbsolutePath, ResultHas};
+ghost use Rattle.paths_commands.specs.declared.fault.Rejection as why;
+ghost use Rattle.paths_commands.specs.declared.fault.Rejection.TheVariants.{NoNormalForm, NoRelativePath, NoAbsolutePath, ResultHas};
 ghost use Rattle.program_frame.specs.Items.{Lacks};
 ghost use Rattle.program_frame.specs.ListOptions.{byte_of};
 ghost use Rattle.program_frame.specs.Rules.{IsItemFault};
 ghost use Rattle.program_frame.specs.Strings.{strings};
 ghost use Rattle.paths_commands.specs.Styles.{style_of};
-ghost use Rattle.paths_commands.specs.Task.{component_of, rules_of, IsText, IsPathText, IsComponentsText, IsJoinedBelow, IsMade, IsReasonOf, IsRefusal, IsUnanswered, IsUnconverted, IsUnjoined, way_text};
+ghost use Rattle.paths_commands.specs.Task.{component_of, rules_of, IsText, IsPathText, IsComponentsText, IsJoinedBelow, IsMade, IsReasonOf, IsRejection, IsUnanswered, IsUnconverted, IsUnjoined, way_text};
 ghost use Rattle.platform_str.specs.Strings.{path_bytes};
 
 use crate::answers::{parent, part};
 use crate::components::{push_components, shown_component};
-use crate::fault::Refusal;
+use crate::fault::Rejection;
 use crate::task::Task;
 use os_path::{AbsoluteError, ConvertError, NameError, NormalizeError, PathExt, PathStyle};
 use os_str_bytes::{OsStr, Path, Platform, Unix, Wasm, Windows};
@@ -42,7 +42,7 @@ pub fn write_item<E: PathStyle, A: Allocator + Copy>(
     list: ListOptions,
     item: &[u8],
     output: &mut Vec<u8, A>,
-) -> Result<(), ItemFault<Refusal>>
+) -> Result<(), ItemFault<Rejection>>
     ensures ok { OnOk result ((text : List ℕ)
         × (IsText ⟦<E as Platform>⟧ E.follows list.end task.entry item.now text
         × (output.new.items ≡ output.old.items ++ text))) }
@@ -52,10 +52,10 @@ pub fn write_item<E: PathStyle, A: Allocator + Copy>(
 {
     match OsStr::<E>::checked(item) {
         Ok(string) => match split_at_end(0, item) {
-            Some(_) => Err(ItemFault::Refused(Refusal::HasNul)),
+            Some(_) => Err(ItemFault::Rejected(Rejection::HasNul)),
             None => write_path::<E, A>(alloc, task, list.end, Path::new(string), output),
         },
-        Err(error) => Err(ItemFault::Refused(Refusal::NoString(error))),
+        Err(error) => Err(ItemFault::Rejected(Rejection::NoString(error))),
     }
 }
 
@@ -67,12 +67,12 @@ fn write_path<E: PathStyle, A: Allocator + Copy>(
     end: ItemEnd,
     path: Path<'_, E>,
     output: &mut Vec<u8, A>,
-) -> Result<(), ItemFault<Refusal>>
+) -> Result<(), ItemFault<Rejection>>
     ensures ok { OnOk result ((text : List ℕ)
         × (IsPathText ⟦<E as Platform>⟧ E.follows end task.entry (path_bytes path.entry) text
         × (output.new.items ≡ output.old.items ++ text))) }
-    ensures fault { IfErr result (λ fault. (fault ≡ Memory) ⊎ ((why : why.Refusal)
-        × ((fault ≡ Refused why) × IsRefusal ⟦<E as Platform>⟧ E.follows end task.entry
+    ensures fault { IfErr result (λ fault. (fault ≡ Memory) ⊎ ((why : why.Rejection)
+        × ((fault ≡ Rejected why) × IsRejection ⟦<E as Platform>⟧ E.follows end task.entry
         (path_bytes path.entry) why))) }
     ensures unchanged { OnErr result (output.new.items ≡ output.old.items) }
 {
@@ -93,18 +93,18 @@ fn end_result<A: Allocator>(
     start: usize,
     end: ItemEnd,
     output: &mut Vec<u8, A>,
-) -> Result<(), ItemFault<Refusal>>
+) -> Result<(), ItemFault<Rejection>>
     requires { start ≤ length output.old.items }
     ensures lacks { OnOk result (Lacks (byte_of end) (drop start output.old.items)) }
     ensures ok { OnOk result (output.new.items ≡ output.old.items ++ byte_of end ∷ []) }
-    ensures fault { IfErr result (λ fault. (fault ≡ Memory) ⊎ ((fault ≡ Refused (ResultHas end))
+    ensures fault { IfErr result (λ fault. (fault ≡ Memory) ⊎ ((fault ≡ Rejected (ResultHas end))
         × (¬ (Lacks (byte_of end) (drop start output.old.items))))) }
     ensures taken { OnErr result (output.new.items ≡ take start output.old.items) }
 {
     let (_, answer) = output.as_slice().split_at(start);
     if let Some(_) = split_at_end(end.byte(), answer) {
         output.truncate(start);
-        return Err(ItemFault::Refused(Refusal::ResultHas(end)));
+        return Err(ItemFault::Rejected(Rejection::ResultHas(end)));
     }
     match output.push(end.byte()) {
         Ok(()) => Ok(()),
@@ -121,12 +121,12 @@ fn write_result<E: PathStyle, A: Allocator + Copy>(
     task: Task<'_>,
     path: Path<'_, E>,
     output: &mut Vec<u8, A>,
-) -> Result<(), ItemFault<Refusal>>
+) -> Result<(), ItemFault<Rejection>>
     ensures ok { OnOk result ((made : List ℕ)
         × (IsMade ⟦<E as Platform>⟧ E.follows task.entry (path_bytes path.entry) made
         × (output.new.items ≡ output.old.items ++ made))) }
-    ensures fault { IfErr result (λ fault. (fault ≡ Memory) ⊎ ((why : why.Refusal)
-        × ((fault ≡ Refused why) × IsUnanswered ⟦<E as Platform>⟧ E.follows task.entry
+    ensures fault { IfErr result (λ fault. (fault ≡ Memory) ⊎ ((why : why.Rejection)
+        × ((fault ≡ Rejected why) × IsUnanswered ⟦<E as Platform>⟧ E.follows task.entry
         (path_bytes path.entry) why))) }
     ensures unchanged { OnErr result (output.new.items ≡ output.old.items) }
 {
@@ -151,7 +151,7 @@ fn write_components<E: PathStyle, A: Allocator + Copy>(
     alloc: A,
     path: Path<'_, E>,
     output: &mut Vec<u8, A>,
-) -> Result<(), ItemFault<Refusal>>
+) -> Result<(), ItemFault<Rejection>>
     ensures ok { OnOk result ((text : List ℕ)
         × (IsComponentsText ⟦<E as Platform>⟧ E.follows (path_bytes path.entry) text
         × (output.new.items ≡ output.old.items ++ text))) }
@@ -169,17 +169,17 @@ fn write_normal<E: PathStyle, A: Allocator + Copy>(
     alloc: A,
     path: Path<'_, E>,
     output: &mut Vec<u8, A>,
-) -> Result<(), ItemFault<Refusal>>
+) -> Result<(), ItemFault<Rejection>>
     ensures ok { OnOk result ((normal : List ℕ)
         × (IsNormalized E.follows (path_bytes path.entry) normal
         × (output.new.items ≡ output.old.items ++ normal))) }
-    ensures fault { IfErr result (λ fault. (fault ≡ Memory) ⊎ ((fault ≡ Refused NoNormalForm)
+    ensures fault { IfErr result (λ fault. (fault ≡ Memory) ⊎ ((fault ≡ Rejected NoNormalForm)
         × HasNoNormalForm E.follows (path_bytes path.entry))) }
     ensures unchanged { OnErr result (output.new.items ≡ output.old.items) }
 {
     match path.normalize(alloc) {
         Ok(normal) => write_answer(normal.as_os_str().as_encoded_bytes(), output),
-        Err(NormalizeError::NoName) => Err(ItemFault::Refused(Refusal::NoNormalForm)),
+        Err(NormalizeError::NoName) => Err(ItemFault::Rejected(Rejection::NoNormalForm)),
         Err(NormalizeError::Memory) => Err(ItemFault::Memory),
     }
 }
@@ -189,7 +189,7 @@ fn write_clean<E: PathStyle, A: Allocator + Copy>(
     alloc: A,
     path: Path<'_, E>,
     output: &mut Vec<u8, A>,
-) -> Result<(), ItemFault<Refusal>>
+) -> Result<(), ItemFault<Rejection>>
     ensures ok { OnOk result ((clean : List ℕ)
         × (IsCleaned E.follows (path_bytes path.entry) clean
         × (output.new.items ≡ output.old.items ++ clean))) }
@@ -208,7 +208,7 @@ fn write_joined<E: PathStyle, A: Allocator + Copy>(
     base: &str,
     path: Path<'_, E>,
     output: &mut Vec<u8, A>,
-) -> Result<(), ItemFault<Refusal>>
+) -> Result<(), ItemFault<Rejection>>
     ensures ok { OnOk result ((joined : List ℕ)
         × (IsJoin E.follows base.now (path_bytes path.entry) joined
         × (output.new.items ≡ output.old.items ++ joined))) }
@@ -227,12 +227,12 @@ fn write_checked<E: PathStyle, A: Allocator + Copy>(
     base: Base<'_>,
     path: Path<'_, E>,
     output: &mut Vec<u8, A>,
-) -> Result<(), ItemFault<Refusal>>
+) -> Result<(), ItemFault<Rejection>>
     ensures ok { OnOk result ((joined : List ℕ)
         × (IsJoinedBelow base.entry (path_bytes path.entry) joined
         × (output.new.items ≡ output.old.items ++ joined))) }
-    ensures fault { IfErr result (λ fault. (fault ≡ Memory) ⊎ ((why : why.Refusal)
-        × ((fault ≡ Refused why) × IsUnjoined ⟦<E as Platform>⟧ E.follows base.entry
+    ensures fault { IfErr result (λ fault. (fault ≡ Memory) ⊎ ((why : why.Rejection)
+        × ((fault ≡ Rejected why) × IsUnjoined ⟦<E as Platform>⟧ E.follows base.entry
         (path_bytes path.entry) why))) }
     ensures unchanged { OnErr result (output.new.items ≡ output.old.items) }
 {
@@ -247,15 +247,15 @@ fn unjoined<E: PathStyle, A: Allocator>(
     alloc: A,
     path: Path<'_, E>,
     error: NameError,
-) -> ItemFault<Refusal>
-    ensures { (result ≡ Memory) ⊎ ((error ≢ name_error.Memory) × ((why : why.Refusal)
-        × ((result ≡ Refused why)
+) -> ItemFault<Rejection>
+    ensures { (result ≡ Memory) ⊎ ((error ≢ name_error.Memory) × ((why : why.Rejection)
+        × ((result ≡ Rejected why)
         × IsReasonOf ⟦<E as Platform>⟧ E.follows (path_bytes path.entry) error why))) }
 {
     match error {
         NameError::Memory => ItemFault::Memory,
         reason => match reason_of::<E, A>(alloc, path, reason) {
-            Ok(why) => ItemFault::Refused(why),
+            Ok(why) => ItemFault::Rejected(why),
             Err(_) => ItemFault::Memory,
         },
     }
@@ -266,13 +266,13 @@ fn reason_of<E: PathStyle, A: Allocator>(
     alloc: A,
     path: Path<'_, E>,
     error: NameError,
-) -> Result<Refusal, AllocError>
+) -> Result<Rejection, AllocError>
     ensures { IfOk result (λ why.
         IsReasonOf ⟦<E as Platform>⟧ E.follows (path_bytes path.entry) error why) }
 {
     match component_of(error) {
-        Some(index) => Ok(Refusal::NoJoinAt(error, shown_component::<E, A>(alloc, path, index)?)),
-        None => Ok(Refusal::NoJoin(error)),
+        Some(index) => Ok(Rejection::NoJoinAt(error, shown_component::<E, A>(alloc, path, index)?)),
+        None => Ok(Rejection::NoJoin(error)),
     }
 }
 
@@ -297,17 +297,17 @@ fn write_relative<E: PathStyle, A: Allocator + Copy>(
     base: &str,
     path: Path<'_, E>,
     output: &mut Vec<u8, A>,
-) -> Result<(), ItemFault<Refusal>>
+) -> Result<(), ItemFault<Rejection>>
     ensures ok { OnOk result ((way : List ℕ)
         × (IsRelativeFrom E.follows (path_bytes path.entry) base.now (Some way)
         × (output.new.items ≡ output.old.items ++ way_text way))) }
-    ensures fault { IfErr result (λ fault. (fault ≡ Memory) ⊎ ((fault ≡ Refused NoRelativePath)
+    ensures fault { IfErr result (λ fault. (fault ≡ Memory) ⊎ ((fault ≡ Rejected NoRelativePath)
         × IsRelativeFrom E.follows (path_bytes path.entry) base.now None)) }
     ensures unchanged { OnErr result (output.new.items ≡ output.old.items) }
 {
     match path.relative_from(alloc, Path::new(OsStr::new(base))) {
         Ok(Some(way)) => write_answer(way_text(way.as_os_str().as_encoded_bytes()), output),
-        Ok(None) => Err(ItemFault::Refused(Refusal::NoRelativePath)),
+        Ok(None) => Err(ItemFault::Rejected(Rejection::NoRelativePath)),
         Err(_) => Err(ItemFault::Memory),
     }
 }
@@ -328,12 +328,12 @@ fn write_absolute<E: PathStyle, A: Allocator + Copy>(
     directory: &str,
     path: Path<'_, E>,
     output: &mut Vec<u8, A>,
-) -> Result<(), ItemFault<Refusal>>
+) -> Result<(), ItemFault<Rejection>>
     ensures ok { OnOk result ((full : List ℕ)
         × (IsFullPath E.follows (path_bytes path.entry) directory.now full
         × (output.new.items ≡ output.old.items ++ full))) }
     ensures fault { IfErr result (λ fault. (fault ≡ Memory) ⊎ ((error : DeclaredError)
-        × ((fault ≡ Refused (NoAbsolutePath error)) × ((error ≢ absolute_error.Memory)
+        × ((fault ≡ Rejected (NoAbsolutePath error)) × ((error ≢ absolute_error.Memory)
         × IsAbsoluteFault E.follows (path_bytes path.entry) directory.now error)))) }
     ensures unchanged { OnErr result (output.new.items ≡ output.old.items) }
 {
@@ -344,13 +344,13 @@ fn write_absolute<E: PathStyle, A: Allocator + Copy>(
 }
 
 /// The fault of a path that isn't made absolute.
-fn unplaced(error: AbsoluteError) -> ItemFault<Refusal>
+fn unplaced(error: AbsoluteError) -> ItemFault<Rejection>
     ensures { (result ≡ Memory)
-        ⊎ ((error ≢ absolute_error.Memory) × (result ≡ Refused (NoAbsolutePath error))) }
+        ⊎ ((error ≢ absolute_error.Memory) × (result ≡ Rejected (NoAbsolutePath error))) }
 {
     match error {
         AbsoluteError::Memory => ItemFault::Memory,
-        reason => ItemFault::Refused(Refusal::NoAbsolutePath(reason)),
+        reason => ItemFault::Rejected(Rejection::NoAbsolutePath(reason)),
     }
 }
 
@@ -360,12 +360,12 @@ fn write_on<E: PathStyle, A: Allocator + Copy>(
     to: Os,
     path: Path<'_, E>,
     output: &mut Vec<u8, A>,
-) -> Result<(), ItemFault<Refusal>>
+) -> Result<(), ItemFault<Rejection>>
     ensures ok { OnOk result ((made : List ℕ) × (((strings to).well_formed made
         × IsRestyled E.follows (style_of to) (path_bytes path.entry) made)
         × (output.new.items ≡ output.old.items ++ made))) }
-    ensures fault { IfErr result (λ fault. (fault ≡ Memory) ⊎ ((why : why.Refusal)
-        × ((fault ≡ Refused why) × IsUnconverted ⟦<E as Platform>⟧ E.follows (style_of to)
+    ensures fault { IfErr result (λ fault. (fault ≡ Memory) ⊎ ((why : why.Rejection)
+        × ((fault ≡ Rejected why) × IsUnconverted ⟦<E as Platform>⟧ E.follows (style_of to)
         (strings to).first_fault (path_bytes path.entry) why))) }
     ensures unchanged { OnErr result (output.new.items ≡ output.old.items) }
 {
@@ -381,23 +381,23 @@ fn write_converted<E: PathStyle, F: PathStyle, A: Allocator + Copy>(
     alloc: A,
     path: Path<'_, E>,
     output: &mut Vec<u8, A>,
-) -> Result<(), ItemFault<Refusal>>
+) -> Result<(), ItemFault<Rejection>>
     ensures ok { OnOk result ((made : List ℕ) × ((F.well_formed made
         × IsRestyled E.follows F.follows (path_bytes path.entry) made)
         × (output.new.items ≡ output.old.items ++ made))) }
-    ensures fault { IfErr result (λ fault. (fault ≡ Memory) ⊎ ((why : why.Refusal)
-        × ((fault ≡ Refused why) × IsUnconverted ⟦<E as Platform>⟧ E.follows F.follows
+    ensures fault { IfErr result (λ fault. (fault ≡ Memory) ⊎ ((why : why.Rejection)
+        × ((fault ≡ Rejected why) × IsUnconverted ⟦<E as Platform>⟧ E.follows F.follows
         F.first_fault (path_bytes path.entry) why))) }
     ensures unchanged { OnErr result (output.new.items ≡ output.old.items) }
 {
     match path.with_style::<F, A>(alloc) {
         Ok(made) => write_answer(made.as_os_str().as_encoded_bytes(), output),
         Err(ConvertError::Component(index)) => match shown_component::<E, A>(alloc, path, index) {
-            Ok(text) => Err(ItemFault::Refused(Refusal::NoComponent(index, text))),
+            Ok(text) => Err(ItemFault::Rejected(Rejection::NoComponent(index, text))),
             Err(_) => Err(ItemFault::Memory),
         },
         Err(ConvertError::Encoding(fault)) => {
-            Err(ItemFault::Refused(Refusal::NoStringThere(fault)))
+            Err(ItemFault::Rejected(Rejection::NoStringThere(fault)))
         }
         Err(ConvertError::Memory) => Err(ItemFault::Memory),
     }
@@ -407,7 +407,7 @@ fn write_converted<E: PathStyle, F: PathStyle, A: Allocator + Copy>(
 fn write_answer<A: Allocator>(
     answer: &[u8],
     output: &mut Vec<u8, A>,
-) -> Result<(), ItemFault<Refusal>>
+) -> Result<(), ItemFault<Rejection>>
     ensures ok { OnOk result (output.new.items ≡ output.old.items ++ answer.now) }
     ensures fault { IfErr result (λ fault. fault ≡ Memory) }
     ensures unchanged { OnErr result (output.new.items ≡ output.old.items) }

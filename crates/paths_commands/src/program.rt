@@ -8,7 +8,7 @@ ghost use Rattle.program_frame.specs.declared.lists.program_fault.Fault.TheVaria
 ghost use Rattle.paths_commands.specs.Program.{Does, IsAfter, RunsLine, RunsPast, rules_on};
 
 use crate::command::Command;
-use crate::fault::{CommandFault, Fault, Refusal};
+use crate::fault::{CommandFault, Fault, Rejection};
 use crate::help::{HELP, VERSION};
 use crate::option::PathsOption;
 use crate::task::{OnPlatform, Task};
@@ -19,7 +19,7 @@ use program_frame::lists::answers::{run_list_with, write_help};
 use program_frame::lists::fault::ListFault;
 use program_frame::lists::options::ListOptions;
 use program_frame::lists::program::ListProgram;
-use program_frame::lists::refusals::{KeepGoing, Refusals, Stop};
+use program_frame::lists::rejections::{KeepGoing, Rejections, Stop};
 use program_frame::marked::Marked;
 use program_frame::misuse::Misuse;
 use program_frame::os::Os;
@@ -53,7 +53,7 @@ impl<'a, P: Eprint> Paths<'a, P> {
 }
 
 impl<'a, P: Eprint> ListProgram for Paths<'a, P> {
-    type Refusal = Refusal;
+    type Rejection = Rejection;
 
     type Words = CommandFault;
 
@@ -125,7 +125,7 @@ fn run_command<P: Eprint, A: Allocator, R: Read, W: Write>(
         Command::Ask(task, os, list, true) => run_past(
             alloc, errors, os, task, list, reader, writer,
         ),
-        Command::Ask(task, os, list, false) => run_to_refusal(
+        Command::Ask(task, os, list, false) => run_to_rejection(
             alloc, os, task, list, reader, writer,
         ),
         Command::Help => write_help(HELP, writer),
@@ -134,7 +134,7 @@ fn run_command<P: Eprint, A: Allocator, R: Read, W: Write>(
 }
 
 /// Returns the result of the run that ends at the first path that is rejected.
-fn run_to_refusal<A: Allocator, R: Read, W: Write>(
+fn run_to_rejection<A: Allocator, R: Read, W: Write>(
     alloc: A,
     os: Os,
     task: Task<'_>,
@@ -169,9 +169,9 @@ fn run_past<P: Eprint, A: Allocator, R: Read, W: Write>(
         (W.contents (marked_inner writer.old)) (W.contents (marked_inner writer.new)) result }
     ensures ends { BlamesEnds result (has_failed reader.new) (has_failed writer.new) }
 {
-    let mut refusals = KeepGoing::new("paths", errors);
-    let ran = run_on(alloc, os, task, list, &mut refusals, reader, writer);
-    after(refusals.count(), ran)
+    let mut rejections = KeepGoing::new("paths", errors);
+    let ran = run_on(alloc, os, task, list, &mut rejections, reader, writer);
+    after(rejections.count(), ran)
 }
 
 /// The result of a run that has passed over this number of paths.
@@ -190,18 +190,18 @@ fn after(count: u64, ran: Result<(), Fault>) -> Result<(), Fault>
 }
 
 /// Returns the result of the run on a platform.
-fn run_on<N: Refusals<Refusal>, A: Allocator, R: Read, W: Write>(
+fn run_on<N: Rejections<Rejection>, A: Allocator, R: Read, W: Write>(
     alloc: A,
     os: Os,
     task: Task<'_>,
     list: ListOptions,
-    refusals: &mut N,
+    rejections: &mut N,
     reader: &mut Marked<R>,
     writer: &mut Marked<W>,
 ) -> Result<(), Fault>
     requires reader_unmarked { has_failed reader.old ≡ false }
     requires writer_unmarked { has_failed writer.old ≡ false }
-    ensures run { Runs (passing (N.passed refusals.new) (rules_on os task.entry list)) OfList
+    ensures run { Runs (passing (N.passed rejections.new) (rules_on os task.entry list)) OfList
         (R.remaining (marked_inner reader.old)) (R.remaining (marked_inner reader.new))
         (W.contents (marked_inner writer.old)) (W.contents (marked_inner writer.new)) result }
     ensures stops { IfErr result (λ fault. EndsRunOf N.stops fault) }
@@ -211,21 +211,21 @@ fn run_on<N: Refusals<Refusal>, A: Allocator, R: Read, W: Write>(
         Os::Unix => run_list_with(
             alloc,
             &OnPlatform::<Unix>::new(task, list),
-            refusals,
+            rejections,
             reader,
             writer,
         ),
         Os::Windows => run_list_with(
             alloc,
             &OnPlatform::<Windows>::new(task, list),
-            refusals,
+            rejections,
             reader,
             writer,
         ),
         Os::Wasm => run_list_with(
             alloc,
             &OnPlatform::<Wasm>::new(task, list),
-            refusals,
+            rejections,
             reader,
             writer,
         ),

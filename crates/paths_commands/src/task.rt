@@ -2,7 +2,7 @@
 ghost use Rattle.std.specs.Prelude.{◌≡◌};
 ghost use Rattle.paths_commands.specs.Task.{rules_of};
 
-use crate::fault::Refusal;
+use crate::fault::Rejection;
 use crate::item::write_item;
 use os_path::PathStyle;
 use os_str_bytes::Platform;
@@ -82,7 +82,7 @@ impl<'a, E> OnPlatform<'a, E> {
 }
 
 impl<'a, E: PathStyle> ListTask for OnPlatform<'a, E> {
-    type Refusal = Refusal;
+    type Rejection = Rejection;
 
     type Memory = ();
 
@@ -114,7 +114,7 @@ impl<'a, E: PathStyle> ListTask for OnPlatform<'a, E> {
         _memory: &mut (),
         item: &[u8],
         output: &mut Vec<u8, A>,
-    ) -> Result<(), ItemFault<Refusal>> {
+    ) -> Result<(), ItemFault<Rejection>> {
         write_item::<E, A>(alloc, self.task, self.list, item, output)
     }
 }

@@ -7,8 +7,8 @@ abbrev pub outcome_of : {F : Type 0} → Ended F → Result ⊤ F
 outcome_of ended = ended.outcome
 
 -- whether the whole message was taken, where there was one
-abbrev pub was_told : {F : Type 0} → Ended F → Bool
-was_told ended = ended.told
+abbrev pub was_reported : {F : Type 0} → Ended F → Bool
+was_reported ended = ended.reported
 
 -- what the program of this name prints of a fault with this text
 abbrev pub message : List ℕ → List ℕ → List ℕ

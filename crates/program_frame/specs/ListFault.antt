@@ -4,7 +4,7 @@ use Rattle.program_frame.specs.Fault as failure
 use Rattle.program_frame.specs.declared.lists.options.ItemEnd.{ItemEnd}
 use Rattle.program_frame.specs.declared.lists.options.ItemEnd.TheVariants.{Nul, Newline}
 use Rattle.program_frame.specs.declared.lists.fault.ListFault.{ListFault}
-use Rattle.program_frame.specs.declared.lists.fault.ListFault.TheVariants.{Refused, TooLong, Unended, TooMuch, Run}
+use Rattle.program_frame.specs.declared.lists.fault.ListFault.TheVariants.{Rejected, TooLong, Unended, TooMuch, Run}
 
 -- what comes before the reason why an item is rejected
 abbrev pub index_text : List ℕ → ℕ → List ℕ
@@ -17,7 +17,7 @@ unended_text item number Newline = index_text item number ++ codes "no newline e
 
 -- what a program prints of the fault, where items are called this and reasons have these texts
 abbrev pub text_of : {F : Type 0} → List ℕ → (F → List ℕ) → ListFault F → List ℕ
-text_of item reason (Refused number why) = index_text item number ++ reason why
+text_of item reason (Rejected number why) = index_text item number ++ reason why
 text_of item reason (TooLong number most) = index_text item number ++ (codes "longer than " ++ (decimal most ++ codes " bytes"))
 text_of item reason (Unended number end) = unended_text item number end
 text_of item reason TooMuch = codes "2^64 bytes of input or more"
@@ -25,7 +25,7 @@ text_of item reason (Run why) = failure.text_of why
 
 -- the status that a program ends with
 abbrev pub status_of : {F : Type 0} → ListFault F → ℕ
-status_of (Refused number why) = 1
+status_of (Rejected number why) = 1
 status_of (TooLong number most) = 1
 status_of (Unended number end) = 1
 status_of TooMuch = 1

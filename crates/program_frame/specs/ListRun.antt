@@ -5,7 +5,7 @@ use Rattle.std.specs.Io.KnownBytes.{Appends, Consumes, IsAtEnd}
 use Rattle.program_frame.specs.Written.{AppendsBeginning}
 use Rattle.program_frame.specs.declared.fault.Failure.TheVariants.{Write}
 use Rattle.program_frame.specs.declared.lists.fault.ListFault.{ListFault}
-use Rattle.program_frame.specs.declared.lists.fault.ListFault.TheVariants.{Refused, TooLong, Unended, TooMuch, Run}
+use Rattle.program_frame.specs.declared.lists.fault.ListFault.TheVariants.{Rejected, TooLong, Unended, TooMuch, Run}
 use Rattle.program_frame.specs.Items.{Entry, items_of, texts_of}
 use Rattle.program_frame.specs.Rules.{ListRules, AreIn, IsEntry}
 use Rattle.program_frame.specs.Reading.{State, Reads, Stops}
@@ -32,7 +32,7 @@ module _ {F : Type 0} (list : ListRules F) where
 
   -- the output where the run ends with this fault: that for the items before the one that is rejected, or else that for some of the first items
   abbrev pub StopsOn : List ℕ → List ℕ → ListFault F → Type 0
-  StopsOn input output (Refused n why) = Stops list start input output (Refused n why)
+  StopsOn input output (Rejected n why) = Stops list start input output (Rejected n why)
   StopsOn input output (TooLong n most) = Stops list start input output (TooLong n most)
   StopsOn input output (Unended n end) = Stops list start input output (Unended n end)
   StopsOn input output TooMuch = (2 ^ 64 ≤ length input + 1) × IsBegun input output

@@ -17,7 +17,7 @@ abbrev pub EndsRunOf : {F U : Type 0} → Type 0 → Fault F U → Type 0
 EndsRunOf stops (OfList fault) = EndsRun stops fault
 EndsRunOf stops (Words why) = Unit {0}
 
--- the status that the program ends with, where refusals of arguments have these
+-- the status that the program ends with, where rejections of arguments have these
 abbrev pub status_of : {F U : Type 0} → (U → ℕ) → Fault F U → ℕ
 status_of words (OfList fault) = list_fault.status_of fault
 status_of words (Words why) = words why

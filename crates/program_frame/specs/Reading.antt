@@ -3,9 +3,9 @@ use Rattle.std.specs.Prelude.{◌≡◌, ◌⊎◌, ℕ, ◌+◌, ◌^◌, ◌�
 use Rattle.std.specs.List.{AllByRecursion}
 use Rattle.program_frame.specs.declared.fault.Failure.TheVariants.{Memory}
 use Rattle.program_frame.specs.declared.lists.fault.ListFault.{ListFault}
-use Rattle.program_frame.specs.declared.lists.fault.ListFault.TheVariants.{Refused, TooLong, Unended, TooMuch, Run}
+use Rattle.program_frame.specs.declared.lists.fault.ListFault.TheVariants.{Rejected, TooLong, Unended, TooMuch, Run}
 use Rattle.program_frame.specs.Items.{Entry, Lacks, items_of, texts_of}
-use Rattle.program_frame.specs.Rules.{ListRules, IsRefused, IsEntry}
+use Rattle.program_frame.specs.Rules.{ListRules, IsRejected, IsEntry}
 
 -- the bytes of the item that has begun, how many items have ended, and what was written for them
 pub record State : Type 0 where
@@ -33,7 +33,7 @@ IsWhole list rest = ((rest ≡ []) × list.takes_unended) ⊎ ((more : List ℕ)
 
 -- what comes after an item that is rejected with this fault: one that is too long, or that has no memory, is rejected before its end is known
 abbrev pub IsEnded : {F : Type 0} → ListRules F → ListFault F → List ℕ → Type 0
-IsEnded list (Refused n why) rest = IsWhole list rest
+IsEnded list (Rejected n why) rest = IsWhole list rest
 IsEnded list (TooLong n most) rest = Unit {0}
 IsEnded list (Unended n end) rest = rest ≡ []
 IsEnded list TooMuch rest = Unit {0}
@@ -48,7 +48,7 @@ pub record Stops {F : Type 0} (list : ListRules F) (old : State) (bytes output :
   pub joined : old.begun ++ bytes ≡ items_of list.end entries ++ (item ++ rest)
   pub whole : Lacks list.end item
   pub ended : IsEnded list fault rest
-  pub because : IsRefused list (old.count + length entries + 1) item fault
+  pub because : IsRejected list (old.count + length entries + 1) item fault
   pub written : output ≡ old.output ++ texts_of entries
 
 -- an item is too long, or the allocation for it failed

@@ -1,10 +1,10 @@
 //! How a program ends: with an outcome, a message and a status.
 ghost use Rattle.std.specs.Prelude.{◌≡◌, ℕ, List, true, Some, IfErr, OnOk};
 ghost use Rattle.std.specs.Io.KnownBytes.{Appends};
-ghost use Rattle.program_frame.specs.Ended.{message, outcome_of, was_told};
+ghost use Rattle.program_frame.specs.Ended.{message, outcome_of, was_reported};
 ghost use Rattle.program_frame.specs.Written.{AppendsBeginning};
 
-use crate::telling::tell;
+use crate::reporting::report;
 use std::fmt::Display;
 use std::io::Write;
 use std::process::{ExitCode, Termination};
@@ -34,7 +34,7 @@ pub trait ProgramFault: Display + Copy {
 #[derive(Drop)]
 pub struct Ended<F> {
     outcome: Result<(), F>,
-    told: bool,
+    reported: bool,
 }
 
 impl<F: ProgramFault> Ended<F> {
@@ -46,28 +46,28 @@ impl<F: ProgramFault> Ended<F> {
     /// use program_frame::fault::Failure;
     ///
     /// let mut errors: Vec<u8> = Vec::new(alloc);
-    /// let ended = Ended::telling("cat", Err(Failure::Read), &mut errors);
-    /// assert!(rt; ended.told());
+    /// let ended = Ended::reporting("cat", Err(Failure::Read), &mut errors);
+    /// assert!(rt; ended.reported());
     /// assert_eq!(rt; errors.as_slice(), b"cat: read failed\n".as_slice());
     /// ```
-    pub fn telling<E: Write>(program: &str, outcome: Result<(), F>, errors: &mut E) -> Ended<F>
+    pub fn reporting<E: Write>(program: &str, outcome: Result<(), F>, errors: &mut E) -> Ended<F>
         ensures outcome { outcome_of result ≡ outcome }
         ensures quiet { OnOk outcome (errors.new ≡ errors.old) }
-        ensures told { was_told result ≡ true → IfErr outcome (λ fault.
+        ensures reported { was_reported result ≡ true → IfErr outcome (λ fault.
             Appends (E.contents errors.old) (E.contents errors.new)
             (message program.now (F.text_of fault))) }
         ensures beginning { IfErr outcome (λ fault.
             AppendsBeginning (E.contents errors.old) (E.contents errors.new)
             (message program.now (F.text_of fault))) }
     {
-        let told = match &outcome {
+        let reported = match &outcome {
             Ok(()) => true,
-            Err(fault) => tell(program, fault, errors),
+            Err(fault) => report(program, fault, errors),
         };
-        Ended { outcome, told }
+        Ended { outcome, reported }
     }
 
-    /// Makes the end of a run with this outcome, as [`Ended::telling`] does. If the reader of the
+    /// Makes the end of a run with this outcome, as [`Ended::reporting`] does. If the reader of the
     /// run's output is gone (`is_closed`), no message is written.
     ///
     /// ```
@@ -75,11 +75,11 @@ impl<F: ProgramFault> Ended<F> {
     /// use program_frame::fault::Failure;
     ///
     /// let mut errors: Vec<u8> = Vec::new(alloc);
-    /// let ended = Ended::telling_unless("cat", true, Err(Failure::Write), &mut errors);
-    /// assert!(rt; !ended.told() && ended.outcome() == Err(Failure::Write));
+    /// let ended = Ended::reporting_unless("cat", true, Err(Failure::Write), &mut errors);
+    /// assert!(rt; !ended.reported() && ended.outcome() == Err(Failure::Write));
     /// assert!(rt; errors.is_empty());
     /// ```
-    pub fn telling_unless<E: Write>(
+    pub fn reporting_unless<E: Write>(
         program: &str,
         is_closed: bool,
         outcome: Result<(), F>,
@@ -88,7 +88,7 @@ impl<F: ProgramFault> Ended<F> {
         ensures outcome { outcome_of result ≡ outcome }
         ensures closed { is_closed ≡ true → errors.new ≡ errors.old }
         ensures quiet { OnOk outcome (errors.new ≡ errors.old) }
-        ensures told { was_told result ≡ true → IfErr outcome (λ fault.
+        ensures reported { was_reported result ≡ true → IfErr outcome (λ fault.
             Appends (E.contents errors.old) (E.contents errors.new)
             (message program.now (F.text_of fault))) }
         ensures beginning { IfErr outcome (λ fault.
@@ -98,10 +98,10 @@ impl<F: ProgramFault> Ended<F> {
         if is_closed {
             return Ended {
                 outcome,
-                told: false,
+                reported: false,
             };
         }
-        Ended::telling(program, outcome, errors)
+        Ended::reporting(program, outcome, errors)
     }
 
     /// The outcome of the run.
@@ -110,7 +110,7 @@ impl<F: ProgramFault> Ended<F> {
     /// use program_frame::ended::Ended;
     /// use program_frame::fault::Failure;
     ///
-    /// let ended = Ended::telling("cat", Err(Failure::Memory), &mut rt.stderr());
+    /// let ended = Ended::reporting("cat", Err(Failure::Memory), &mut rt.stderr());
     /// assert!(rt; ended.outcome() == Err(Failure::Memory));
     /// ```
     pub fn outcome(&self) -> Result<(), F>
@@ -125,13 +125,13 @@ impl<F: ProgramFault> Ended<F> {
     /// use program_frame::ended::Ended;
     /// use program_frame::fault::Failure;
     ///
-    /// let ended = Ended::<Failure>::telling("cat", Ok(()), &mut rt.stderr());
-    /// assert!(rt; ended.told());
+    /// let ended = Ended::<Failure>::reporting("cat", Ok(()), &mut rt.stderr());
+    /// assert!(rt; ended.reported());
     /// ```
-    pub fn told(&self) -> bool
-        ensures { result ≡ was_told self.now }
+    pub fn reported(&self) -> bool
+        ensures { result ≡ was_reported self.now }
     {
-        self.told
+        self.reported
     }
 }
 

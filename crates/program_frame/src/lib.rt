@@ -22,6 +22,6 @@ pub mod lists;
 pub mod marked;
 pub mod misuse;
 pub mod os;
-pub mod telling;
+pub mod reporting;
 pub mod words;
 pub mod writing;

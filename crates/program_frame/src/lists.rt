@@ -3,7 +3,7 @@
 //! A [`task::ListTask`] defines what is done with each item. [`run::run`] reads the list and writes
 //! the output for its items. If it ends early, a [`fault::ListFault`] states why and, for a fault
 //! of an item, the item's number. [`options::ListOptions`] states which byte ends an item and whether
-//! the last may lack it. [`refusals`] has what becomes of rejected items. A program for
+//! the last may lack it. [`rejections`] has what becomes of rejected items. A program for
 //! lists is a [`program::ListProgram`], which [`program::execute`] runs. [`answers`] has the calls
 //! that make its outcome.
 
@@ -15,6 +15,6 @@ pub mod options;
 pub mod program;
 pub mod program_fault;
 mod reading;
-pub mod refusals;
+pub mod rejections;
 pub mod run;
 pub mod task;

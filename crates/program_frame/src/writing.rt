@@ -9,7 +9,7 @@ use crate::marked::Marked;
 use std::io::Write;
 
 /// Writes all of the output, and flushes. The mark must be unset (test: [`Marked::failed`]). It has
-/// a loop of its own, since `telling::write_text` writes to any writer and states nothing of a mark.
+/// a loop of its own, since `reporting::write_text` writes to any writer and states nothing of a mark.
 ///
 /// # Errors
 ///

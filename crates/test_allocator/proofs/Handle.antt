@@ -14,12 +14,12 @@ use denote.Opens.{unhide}
 use denote.Param.{bounded, param}
 use denote.RattleType.{RattleType}
 use denote.Signature.{Slot, plain}
-use Rattle.test_allocator.specs.contracts.allocator.Refusing as refusing
+use Rattle.test_allocator.specs.contracts.allocator.Failing as failing
 use Rattle.test_allocator.specs.contracts.requests.Requests as requests
 
 module _ (Z : Al) where
   abbrev row : RattleType
-  row = refusing.the_row (param 0 Z.row)
+  row = failing.the_row (param 0 Z.row)
 
   -- the arguments that a method is compiled with
   abbrev pub type_args : Args

@@ -1,3 +1,3 @@
 pub mod Plan
-pub mod Refusing
+pub mod Failing
 pub mod Turns

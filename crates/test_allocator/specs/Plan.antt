@@ -4,7 +4,7 @@ use Rattle.test_allocator.specs.declared.plan.Plan.{Plan}
 use Rattle.test_allocator.specs.declared.plan.Plan.TheVariants.{Never, Always, Nth}
 
 -- the request of this number fails under the plan; the first request has number 1
-unfoldable pub IsRefused : Plan → ℕ → Type 0
-IsRefused Never number = ⊥
-IsRefused Always number = ⊤
-IsRefused (Nth refused) number = refused ≡ number
+unfoldable pub Fails : Plan → ℕ → Type 0
+Fails Never number = ⊥
+Fails Always number = ⊤
+Fails (Nth failed) number = failed ≡ number

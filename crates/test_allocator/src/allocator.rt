@@ -1,6 +1,6 @@
 //! The allocator whose requests fail as planned.
 ghost use Rattle.std.specs.Prelude.{◌≡◌};
-ghost use Rattle.test_allocator.specs.Refusing.{allocator_of};
+ghost use Rattle.test_allocator.specs.Failing.{allocator_of};
 
 use crate::Plan;
 use crate::requests::Requests;
@@ -12,11 +12,11 @@ use std::alloc::{AllocError, Allocator};
 /// A collection takes it as `&heap`, and the test keeps `heap` to query whether a request failed:
 ///
 /// ```text
-/// let heap = Refusing::new(rt.alloc(), Plan::Never);
+/// let heap = Failing::new(rt.alloc(), Plan::Never);
 /// let mut bytes = Vec::from_slice(&heap, b"abc")?;
 /// heap.restart(Plan::Nth(1));
 /// assert_eq!(rt; bytes.extend_from_slice(b"defghi"), Err(AllocError));
-/// assert!(rt; heap.refused());
+/// assert!(rt; heap.failed());
 /// assert_eq!(rt; bytes.as_slice(), b"abc".as_slice());
 /// ```
 ///
@@ -25,17 +25,17 @@ use std::alloc::{AllocError, Allocator};
 /// in place, and if the new block can't be allocated the old one is unchanged. Giving a block back
 /// is no request. std returns `AllocError` at a size of 2^63 bytes or more without a request.
 #[derive(Drop)]
-pub struct Refusing<A: Allocator> {
+pub struct Failing<A: Allocator> {
     alloc: A,
     requests: Requests,
 }
 
-impl<A: Allocator> Refusing<A> {
+impl<A: Allocator> Failing<A> {
     /// Wraps `alloc`, with no request made yet.
-    pub fn new(alloc: A, plan: Plan) -> Refusing<A>
+    pub fn new(alloc: A, plan: Plan) -> Failing<A>
         ensures { allocator_of result ≡ alloc }
     {
-        Refusing {
+        Failing {
             alloc,
             requests: Requests::new(plan),
         }
@@ -47,21 +47,21 @@ impl<A: Allocator> Refusing<A> {
     }
 
     /// Returns the number of requests that were made under this plan, whether they failed or not.
-    pub fn asked(&self) -> u64 {
-        self.requests.asked()
+    pub fn requested(&self) -> u64 {
+        self.requests.requested()
     }
 
     /// Returns whether a request failed under this plan.
-    pub fn refused(&self) -> bool {
-        self.requests.refused()
+    pub fn failed(&self) -> bool {
+        self.requests.failed()
     }
 }
 
-unsafe impl<A: Allocator> Allocator for Refusing<A> {
+unsafe impl<A: Allocator> Allocator for Failing<A> {
     ghost dealloc_token = { λ heap. A.dealloc_token (allocator_of heap) };
 
     fn allocate(&self, size: usize, align: usize) -> Result<*mut u8, AllocError> {
-        if self.requests.refuses_next() {
+        if self.requests.fails_next() {
             return Err(AllocError);
         }
         self.alloc.allocate(size, align)

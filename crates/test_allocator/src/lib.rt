@@ -1,12 +1,12 @@
 //! For tests: an allocator whose requests fail as planned, so that each path on which memory runs
 //! out is run.
 //!
-//! [`Refusing`] wraps another allocator, and the requests that a [`Plan`] names fail.
-//! [`for_each_refusal`] lets each request of a call fail in turn.
+//! [`Failing`] wraps another allocator, and the requests that a [`Plan`] names fail.
+//! [`for_each_failure`] lets each request of a call fail in turn.
 //!
-//! Memory safety is proved: a block that [`Refusing`] returns is the inner allocator's own, a
+//! Memory safety is proved: a block that [`Failing`] returns is the inner allocator's own, a
 //! failed request returns no block, and each block goes back to where it came from. It is also
-//! proved which requests of a plan fail ([`Plan::refuses`]). [`for_each_refusal`] is proved to run under
+//! proved which requests of a plan fail ([`Plan::fails`]). [`for_each_failure`] is proved to run under
 //! one plan after another, at least as many as the number that it returns, and it is proved when it
 //! returns `Err`.
 //!
@@ -20,6 +20,6 @@ mod plan;
 mod requests;
 mod turns;
 
-pub use allocator::Refusing;
+pub use allocator::Failing;
 pub use plan::Plan;
-pub use turns::for_each_refusal;
+pub use turns::for_each_failure;

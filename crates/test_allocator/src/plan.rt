@@ -1,6 +1,6 @@
 //! Which requests fail.
 ghost use Rattle.std.specs.Prelude.{◌↔◌, IsTrue};
-ghost use Rattle.test_allocator.specs.Plan.{IsRefused};
+ghost use Rattle.test_allocator.specs.Plan.{Fails};
 
 /// Which requests fail. The first request has number 1.
 #[derive(Clone, Copy, Debug, PartialEq, Eq)]
@@ -14,15 +14,15 @@ pub enum Plan {
 }
 
 impl Plan {
-    /// Returns whether the request with this number fails: `Plan::Nth(2).refuses(2)`.
-    #[tactic(auto, unfolding(crate::specs::Plan::IsRefused))]
-    pub fn refuses(self, number: u64) -> bool
-        ensures { IsTrue result ↔ IsRefused self number }
+    /// Returns whether the request with this number fails: `Plan::Nth(2).fails(2)`.
+    #[tactic(auto, unfolding(crate::specs::Plan::Fails))]
+    pub fn fails(self, number: u64) -> bool
+        ensures { IsTrue result ↔ Fails self number }
     {
         match self {
             Plan::Never => false,
             Plan::Always => true,
-            Plan::Nth(refused) => number == refused,
+            Plan::Nth(failed) => number == failed,
         }
     }
 }

@@ -6,39 +6,39 @@ use std::cell::Cell;
 #[derive(Drop)]
 pub(crate) struct Requests {
     plan: Cell<Plan>,
-    asked: Cell<u64>,
-    refused: Cell<bool>,
+    requested: Cell<u64>,
+    failed: Cell<bool>,
 }
 
 impl Requests {
     pub(crate) fn new(plan: Plan) -> Requests {
         Requests {
             plan: Cell::new(plan),
-            asked: Cell::new(0),
-            refused: Cell::new(false),
+            requested: Cell::new(0),
+            failed: Cell::new(false),
         }
     }
 
     pub(crate) fn restart(&self, plan: Plan) {
         self.plan.set(plan);
-        self.asked.set(0);
-        self.refused.set(false);
+        self.requested.set(0);
+        self.failed.set(false);
     }
 
-    pub(crate) fn asked(&self) -> u64 {
-        self.asked.get()
+    pub(crate) fn requested(&self) -> u64 {
+        self.requested.get()
     }
 
-    pub(crate) fn refused(&self) -> bool {
-        self.refused.get()
+    pub(crate) fn failed(&self) -> bool {
+        self.failed.get()
     }
 
     /// Counts one more request, and returns whether it fails under the plan.
-    pub(crate) fn refuses_next(&self) -> bool {
-        let number = self.asked.get().saturating_add(1);
-        let refuses = self.plan.get().refuses(number);
-        self.asked.set(number);
-        self.refused.set(self.refused.get() || refuses);
-        refuses
+    pub(crate) fn fails_next(&self) -> bool {
+        let number = self.requested.get().saturating_add(1);
+        let fails = self.plan.get().fails(number);
+        self.requested.set(number);
+        self.failed.set(self.failed.get() || fails);
+        fails
     }
 }

@@ -21,7 +21,7 @@ use Rattle.program_frame.specs.declared.lists.program_fault.Fault.TheVariants.{L
 use Rattle.program_frame.specs.declared.lists.options.ListOptions.{ListOptions}
 use Rattle.program_frame.specs.declared.os.Os.{Os}
 use Rattle.program_frame.specs.declared.os.Os.TheVariants.{Unix, Windows, Wasm}
-use Rattle.names_commands.specs.Command.{Asked, AsksFor, HasOperands, IsListed, IsMax, Line, MakesUp, MakesUpWork, StatesPicks, name_word, options_of}
+use Rattle.names_commands.specs.Command.{Requested, IsRequestFor, HasOperands, IsListed, IsMax, Line, MakesUp, MakesUpWork, StatesPicks, name_word, options_of}
 use Rattle.names_commands.specs.Fault.{words_status}
 use Rattle.names_commands.specs.Ignoring.{AreAdded, AreRead, FileRead, IsFileIn, IsFirstUnread, IsIgnored, WasRead, value_of}
 use Rattle.names_commands.specs.Matching.{AreWrittenOut, IsChosen, IsPicked, picking}
@@ -36,7 +36,7 @@ use Rattle.names_commands.specs.declared.command.Work.{Work}
 use Rattle.names_commands.specs.declared.command.Work.TheVariants.{Each, Picked, Why}
 use Rattle.names_commands.specs.declared.fault.CommandFault.{CommandFault}
 use Rattle.names_commands.specs.declared.fault.CommandFault.TheVariants.{Unreadable, Misuse, Pattern, NoFile, Unread}
-use Rattle.names_commands.specs.declared.fault.Refusal.{Refusal}
+use Rattle.names_commands.specs.declared.fault.Rejection.{Rejection}
 use Rattle.names_commands.specs.declared.matching.Form.TheVariants as form
 use Rattle.names_commands.specs.declared.matching.Form.TheVariants.{Name}
 use Rattle.names_commands.specs.declared.task.Task.TheVariants.{ListAll, ListWords, Check, Join, JoinWords}
@@ -193,8 +193,8 @@ module _ (command platform value : Bor (List ℕ)) where
   none_stated it other = inr (λ v h. h, inr (λ v h. h, inr (λ v h. other h.0, refl)))
 
   -- no pattern is stated, and this ignore file
-  pub states_one : (asked : Command) (list : ListOptions) → StatesPicks given_of (record { command = asked; list = list; plain = 0; globs = []; files = value.now ∷ []; inverted = false; case_insensitive = false })
-  states_one asked list = (
+  pub states_one : (requested : Command) (list : ListOptions) → StatesPicks given_of (record { command = requested; list = list; plain = 0; globs = []; files = value.now ∷ []; inverted = false; case_insensitive = false })
+  states_one requested list = (
     ([], [], (none_stated option.Glob (λ e. cc), (none_stated option.Name (λ e. cc), (refl, refl)))),
     (inr (λ v h. h, inr (λ v h. h, inl (value.now, [], ((refl, refl), (refl, refl))))), (none_is_stated option.Invert (λ e. cc), none_is_stated option.IgnoreCase (λ e. cc))),
   )
@@ -209,29 +209,29 @@ module _ (known : KnownFiles) (A : Type 0) (file : List ℕ) (input left old new
   no_fault (x ∷ before) after text e = let never : [] ≡ x ∷ (before ++ text ∷ after) = e in cc
 
   -- no pattern has a fault where there is none
-  ran : (asked : Asked) → asked.globs ≡ [] → asked.list ≡ usual → asked.inverted ≡ false → asked.case_insensitive ≡ false → asked.files ≡ file ∷ [] → RunsPicked known A (strings Unix) asked Unix Name input left old new answer → Filters
-  ran asked globs list kept cased files (inl fault) = absurd (no_fault fault.2.before fault.2.after fault.2.text (sym globs ∙ fault.2.joined))
-  ran asked globs list kept cased files (inr compiled) =
-      let none : compiled.0 ≡ [] = subst (λ texts. AreWrittenOut (strings Unix) (options_of Unix asked.case_insensitive) texts compiled.0) globs compiled.1 in
+  ran : (requested : Requested) → requested.globs ≡ [] → requested.list ≡ usual → requested.inverted ≡ false → requested.case_insensitive ≡ false → requested.files ≡ file ∷ [] → RunsPicked known A (strings Unix) requested Unix Name input left old new answer → Filters
+  ran requested globs list kept cased files (inl fault) = absurd (no_fault fault.2.before fault.2.after fault.2.text (sym globs ∙ fault.2.joined))
+  ran requested globs list kept cased files (inr compiled) =
+      let none : compiled.0 ≡ [] = subst (λ texts. AreWrittenOut (strings Unix) (options_of Unix requested.case_insensitive) texts compiled.0) globs compiled.1 in
       inr (subst (λ f. RunsBut known A (strings Unix) Name usual false false (IsChosen (strings Unix) (options_of Unix false) []) f input left old new answer) files
-      (subst (λ v. RunsBut known A (strings Unix) Name usual v false (IsChosen (strings Unix) (options_of Unix false) []) asked.files input left old new answer) kept
-      (subst (λ m. RunsBut known A (strings Unix) Name m asked.inverted false (IsChosen (strings Unix) (options_of Unix false) []) asked.files input left old new answer) list
-      (subst (λ w. RunsBut known A (strings Unix) Name asked.list asked.inverted false (IsChosen (strings Unix) (options_of Unix false) w) asked.files input left old new answer) none
-      (subst (λ z. RunsBut known A (strings Unix) Name asked.list asked.inverted z (IsChosen (strings Unix) (options_of Unix z) compiled.0) asked.files input left old new answer) cased compiled.2)))))
+      (subst (λ v. RunsBut known A (strings Unix) Name usual v false (IsChosen (strings Unix) (options_of Unix false) []) requested.files input left old new answer) kept
+      (subst (λ m. RunsBut known A (strings Unix) Name m requested.inverted false (IsChosen (strings Unix) (options_of Unix false) []) requested.files input left old new answer) list
+      (subst (λ w. RunsBut known A (strings Unix) Name requested.list requested.inverted false (IsChosen (strings Unix) (options_of Unix false) w) requested.files input left old new answer) none
+      (subst (λ z. RunsBut known A (strings Unix) Name requested.list requested.inverted z (IsChosen (strings Unix) (options_of Unix z) compiled.0) requested.files input left old new answer) cased compiled.2)))))
 
   module _ (command platform value : Bor (List ℕ)) (is_command : command.now ≡ codes "filter") (is_platform : platform.now ≡ codes "unix") (is_file : value.now ≡ file) where
     abbrev given : Line
     given = given_of command platform value
 
-    picked : (asked : Asked) → asked.list ≡ usual → StatesPicks given asked → UnlessOutOfMemory (RunsPicked known A (strings Unix) asked Unix Name) input left old new answer → Filters
-    picked asked is_usual states (inl memory) = inl memory
-    picked asked is_usual states (inr runs) =
+    picked : (requested : Requested) → requested.list ≡ usual → StatesPicks given requested → UnlessOutOfMemory (RunsPicked known A (strings Unix) requested Unix Name) input left old new answer → Filters
+    picked requested is_usual states (inl memory) = inl memory
+    picked requested is_usual states (inr runs) =
         let patterns = states.0 in
         let more : patterns.0 ≡ [] = no_values command platform value option.Glob (λ e. cc) patterns.0 patterns.2.0 in
         let of_names : patterns.1 ≡ [] = no_values command platform value option.Name (λ e. cc) patterns.1 patterns.2.1.0 in
-        let globs_are : asked.globs ≡ [] = patterns.2.1.1.0 ∙ ap (λ x. x ++ map in_any_folder patterns.1) more ∙ ap (map in_any_folder) of_names in
-        let files_are : asked.files ≡ file ∷ [] = one_file command platform value asked.files states.1.0 ∙ ap (λ x. x ∷ []) is_file in
-        ran asked globs_are is_usual (not_stated command platform value option.Invert (λ e. cc) asked.inverted states.1.1.0) (not_stated command platform value option.IgnoreCase (λ e. cc) asked.case_insensitive states.1.1.1) files_are runs
+        let globs_are : requested.globs ≡ [] = patterns.2.1.1.0 ∙ ap (λ x. x ++ map in_any_folder patterns.1) more ∙ ap (map in_any_folder) of_names in
+        let files_are : requested.files ≡ file ∷ [] = one_file command platform value requested.files states.1.0 ∙ ap (λ x. x ∷ []) is_file in
+        ran requested globs_are is_usual (not_stated command platform value option.Invert (λ e. cc) requested.inverted states.1.1.0) (not_stated command platform value option.IgnoreCase (λ e. cc) requested.case_insensitive states.1.1.1) files_are runs
 
     -- the operands are those of one command
     operands : HasOperands given name.Filter Unix []
@@ -240,40 +240,40 @@ module _ (known : KnownFiles) (A : Type 0) (file : List ℕ) (input left old new
     is_word : (c : DeclaredName) (os : Os) (more : List (List ℕ)) → HasOperands given c os more → codes "filter" ≡ name_word c
     is_word c os more has = sym is_command ∙ first has
 
-    by_platform : (os : Os) (asked : Asked) → codes "unix" ≡ os_word os → asked.list ≡ usual → StatesPicks given asked → DoesWork known A (strings os) asked os (Picked Name) input left old new answer → Filters
-    by_platform Unix asked e listed states runs = picked asked listed states runs
-    by_platform Windows asked e listed states runs = absurd (not_windows e)
-    by_platform Wasm asked e listed states runs = absurd (not_wasm e)
+    by_platform : (os : Os) (requested : Requested) → codes "unix" ≡ os_word os → requested.list ≡ usual → StatesPicks given requested → DoesWork known A (strings os) requested os (Picked Name) input left old new answer → Filters
+    by_platform Unix requested e listed states runs = picked requested listed states runs
+    by_platform Windows requested e listed states runs = absurd (not_windows e)
+    by_platform Wasm requested e listed states runs = absurd (not_wasm e)
 
-    by_work : (os : Os) (work : Work) (asked : Asked) → asked.list ≡ usual → StatesPicks given asked → MakesUpWork given os work → DoesWork known A (strings os) asked os work input left old new answer → Filters
-    by_work os (Each ListAll) asked listed states m does = absurd (not_list (is_word name.List os m.0.0 m.0.1.0))
-    by_work os (Each (ListWords words)) asked listed states m does = absurd (not_list (is_word name.List os m.0.0 m.0.1.0))
-    by_work os (Each Check) asked listed states m does = absurd (not_check (is_word name.Check os [] m.0))
-    by_work os (Each (Join empty)) asked listed states m does = absurd (not_join (is_word name.Join os [] m.0))
-    by_work os (Each JoinWords) asked listed states m does = absurd (not_join (is_word name.Join os [] m.0))
-    by_work os (Picked form.Line) asked listed states m does = absurd (not_list (is_word name.List os m.0.0 m.0.1.0))
-    by_work os (Picked (form.Word words)) asked listed states m does = absurd (not_list (is_word name.List os m.0.0 m.0.1.0))
-    by_work os (Picked form.Name) asked listed states m does = by_platform os asked (sym is_platform ∙ first (later m.1.0)) listed states does
-    by_work os Why asked listed states m does = absurd (not_why (is_word name.Why os [] m.0))
+    by_work : (os : Os) (work : Work) (requested : Requested) → requested.list ≡ usual → StatesPicks given requested → MakesUpWork given os work → DoesWork known A (strings os) requested os work input left old new answer → Filters
+    by_work os (Each ListAll) requested listed states m does = absurd (not_list (is_word name.List os m.0.0 m.0.1.0))
+    by_work os (Each (ListWords words)) requested listed states m does = absurd (not_list (is_word name.List os m.0.0 m.0.1.0))
+    by_work os (Each Check) requested listed states m does = absurd (not_check (is_word name.Check os [] m.0))
+    by_work os (Each (Join empty)) requested listed states m does = absurd (not_join (is_word name.Join os [] m.0))
+    by_work os (Each JoinWords) requested listed states m does = absurd (not_join (is_word name.Join os [] m.0))
+    by_work os (Picked form.Line) requested listed states m does = absurd (not_list (is_word name.List os m.0.0 m.0.1.0))
+    by_work os (Picked (form.Word words)) requested listed states m does = absurd (not_list (is_word name.List os m.0.0 m.0.1.0))
+    by_work os (Picked form.Name) requested listed states m does = by_platform os requested (sym is_platform ∙ first (later m.1.0)) listed states does
+    by_work os Why requested listed states m does = absurd (not_why (is_word name.Why os [] m.0))
 
-    by_command : (command : Command) (asked : Asked) → asked.list ≡ usual → StatesPicks given asked → MakesUp given command → DoesCommand known A asked command input left old new answer → Filters
-    by_command (On os work) asked listed states m does = by_work os work asked listed states m does
-    by_command Help asked listed states m does = absurd m
-    by_command Version asked listed states m does = absurd m
+    by_command : (command : Command) (requested : Requested) → requested.list ≡ usual → StatesPicks given requested → MakesUp given command → DoesCommand known A requested command input left old new answer → Filters
+    by_command (On os work) requested listed states m does = by_work os work requested listed states m does
+    by_command Help requested listed states m does = absurd m
+    by_command Version requested listed states m does = absurd m
 
-    by_request : (asked : Asked) → AsksFor given asked → Does known A asked input left old new answer → Filters
-    by_request asked (inl asks) does = absurd (no_help command platform value asks.0)
-    by_request asked (inr asks) does = by asks.1
+    by_request : (requested : Requested) → IsRequestFor given requested → Does known A requested input left old new answer → Filters
+    by_request requested (inl requests) does = absurd (no_help command platform value requests.0)
+    by_request requested (inr requests) does = by requests.1
       where
-        by : ((HasOption option.Version given × (asked.command ≡ Version)) ⊎ ((¬ (HasOption option.Version given)) × (IsListed given asked.list × (MakesUp given asked.command × StatesPicks given asked)))) → Filters
+        by : ((HasOption option.Version given × (requested.command ≡ Version)) ⊎ ((¬ (HasOption option.Version given)) × (IsListed given requested.list × (MakesUp given requested.command × StatesPicks given requested)))) → Filters
         by (inl v) = absurd (no_version command platform value v.0)
-        by (inr c) = by_command asked.command asked (usual_list command platform value asked.list c.1.0) c.1.1.1 c.1.1.0 does
+        by (inr c) = by_command requested.command requested (usual_list command platform value requested.list c.1.0) c.1.1.1 c.1.1.0 does
 
     -- some command has them
     makes_up : MakesUp given (On Unix (Picked Name))
     makes_up = ([], (operands, ((tt, (tt, (tt, tt))), (tt, (inr (inr (inl (inr (inr (inl refl))))), λ h. tt)))))
 
-    some : (asked : Asked) × AsksFor given asked
+    some : (requested : Requested) × IsRequestFor given requested
     some = (record { command = On Unix (Picked Name); list = usual; plain = 0; globs = []; files = value.now ∷ []; inverted = false; case_insensitive = false }, inr (no_help command platform value, inr (no_version command platform value, (is_usual command platform value, (makes_up, states_one command platform value (On Unix (Picked Name)) usual)))))
 
     not_rejected : RejectsLine known A given input left old new answer → ⊥
@@ -294,7 +294,7 @@ filters one_word one_value known A file words input left old new answer are runs
 
     by : RunsTo known A (filtering file) input left old new answer → Filters known A file input left old new answer
     by (inl memory) = inl memory
-    by (inr (inl refused)) = absurd (no_fault_of one_word one_value name.Filter file (fault_of refused.0) refused.2.0.0)
+    by (inr (inl rejected)) = absurd (no_fault_of one_word one_value name.Filter file (fault_of rejected.0) rejected.2.0.0)
     by (inr (inr does)) = line does.0 does.1.0 does.1.1
 
 -- a value without `=` is the name of a file at the top
@@ -338,7 +338,7 @@ module _ (A : Type 0) (file bytes name : List ℕ) (plain : Lacks 0x3D file) (wh
   err_written : (answer : Result ⊤ Fault) (fault : Fault) → answer ≡ Err fault → Written answer
   err_written answer fault e = subst Written (sym e) tt
 
-  run_written : (files : List (File A)) → AreRead (only file bytes) false (file ∷ []) files → (run : Result ⊤ (ListFault Refusal)) → IsRun (picking (strings Unix) Name usual (IsPicked false (IsChosen (strings Unix) (options_of Unix false) []) files)) (Some (name ++ 0 ∷ [])) left old new run → Written (answer_of OfList run)
+  run_written : (files : List (File A)) → AreRead (only file bytes) false (file ∷ []) files → (run : Result ⊤ (ListFault Rejection)) → IsRun (picking (strings Unix) Name usual (IsPicked false (IsChosen (strings Unix) (options_of Unix false) []) files)) (Some (name ++ 0 ∷ [])) left old new run → Written (answer_of OfList run)
   run_written files read (Err fault) is = tt
   run_written files read (Ok done) is =
       let w = is.written in
@@ -386,7 +386,7 @@ module _ (A : Type 0) (file bytes name : List ℕ) (whole : Lacks 0 name) (some 
   abbrev IsFine : Result ⊤ Fault → Type 0
   IsFine ended = IsOk ended
 
-  not_run : (files : List (File A)) (run : Result ⊤ (ListFault Refusal)) → IsRun (picking (strings Unix) Name usual (IsPicked false (IsChosen (strings Unix) (options_of Unix false) []) files)) (Some name) left old new run → ¬ (IsFine (answer_of OfList run))
+  not_run : (files : List (File A)) (run : Result ⊤ (ListFault Rejection)) → IsRun (picking (strings Unix) Name usual (IsPicked false (IsChosen (strings Unix) (options_of Unix false) []) files)) (Some name) left old new run → ¬ (IsFine (answer_of OfList run))
   not_run files (Err fault) is ok = let never : false ≡ true = ok in cc
   not_run files (Ok done) is ok = let w = is.written in never_read (strings Unix) (picking (strings Unix) Name usual (IsPicked false (IsChosen (strings Unix) (options_of Unix false) []) files)) name w.0 whole some (λ never. never) w.1.0
 

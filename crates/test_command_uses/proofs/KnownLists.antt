@@ -9,7 +9,7 @@ use Rattle.program_frame.specs.declared.lists.options.ItemEnd.TheVariants.{Nul, 
 use Rattle.program_frame.specs.declared.lists.options.LastItem.{LastItem}
 use Rattle.program_frame.specs.declared.lists.options.LastItem.TheVariants.{MustEnd, MayLackEnd}
 use Rattle.program_frame.specs.declared.lists.options.ListOptions.{ListOptions}
-use Rattle.names_commands.specs.Command.{Asked, AsksFor, IsListed, IsMax, Line, MakesUp, StatesPicks}
+use Rattle.names_commands.specs.Command.{Requested, IsRequestFor, IsListed, IsMax, Line, MakesUp, StatesPicks}
 use Rattle.names_commands.specs.declared.command.Command.TheVariants.{Version}
 use Rattle.names_commands.specs.declared.option.NamesOption.{NamesOption}
 use Rattle.names_commands.specs.declared.option.NamesOption.TheVariants as option
@@ -47,10 +47,10 @@ module _ (command platform : Bor (List ℕ)) where
   usual_max max (inl m) = m.1
   usual_max max (inr m) = absurd (no_value m.0 m.1.0)
 
-  pub usual_of_two : (asked : Asked) → AsksFor two asked → asked.list ≡ usual
-  usual_of_two asked (inl asks) = absurd (none option.Help asks.0)
-  usual_of_two asked (inr asks) = by asks.1
+  pub usual_of_two : (requested : Requested) → IsRequestFor two requested → requested.list ≡ usual
+  usual_of_two requested (inl requests) = absurd (none option.Help requests.0)
+  usual_of_two requested (inr requests) = by requests.1
     where
-      by : ((HasOption option.Version two × (asked.command ≡ Version)) ⊎ ((¬ (HasOption option.Version two)) × (IsListed two asked.list × (MakesUp two asked.command × StatesPicks two asked)))) → asked.list ≡ usual
+      by : ((HasOption option.Version two × (requested.command ≡ Version)) ⊎ ((¬ (HasOption option.Version two)) × (IsListed two requested.list × (MakesUp two requested.command × StatesPicks two requested)))) → requested.list ≡ usual
       by (inl v) = absurd (none option.Version v.0)
-      by (inr c) = is_usual_list two (none option.Lines) (none option.Unterminated) usual_max asked.list c.1.0
+      by (inr c) = is_usual_list two (none option.Lines) (none option.Unterminated) usual_max requested.list c.1.0

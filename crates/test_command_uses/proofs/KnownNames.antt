@@ -7,9 +7,9 @@ use Rattle.os_str_bytes.specs.EncodingError.{EncodingError}
 use Rattle.os_str_bytes.specs.Platform.{Ghosts}
 use Rattle.program_frame.specs.declared.fault.Failure.TheVariants.{Write}
 use Rattle.program_frame.specs.declared.lists.fault.ListFault.{ListFault}
-use Rattle.program_frame.specs.declared.lists.fault.ListFault.TheVariants.{Refused, Run, Unended}
-use Rattle.names_commands.specs.declared.fault.Refusal.{Refusal}
-use Rattle.names_commands.specs.declared.fault.Refusal.TheVariants.{NoString}
+use Rattle.program_frame.specs.declared.lists.fault.ListFault.TheVariants.{Rejected, Run, Unended}
+use Rattle.names_commands.specs.declared.fault.Rejection.{Rejection}
+use Rattle.names_commands.specs.declared.fault.Rejection.TheVariants.{NoString}
 use Rattle.names_commands.specs.declared.task.EmptyLine.TheVariants.{IsRejected}
 use Rattle.names_commands.specs.declared.task.Task.TheVariants.{Check, Join, JoinWords, ListAll, ListWords}
 use Rattle.names_commands.specs.declared.task.WordForm.TheVariants.{Posix}
@@ -104,8 +104,8 @@ module _ {E : Type 0} (p : Ghosts E) where
       let entry = (subst (λ es. AllByRecursion (IsEntry (rules_of p s)) es) one.1 o.are).0 in
       subst (AreNamesOf (unended max) line) (sym (o.written ∙ ap texts_of one.1 ∙ append-nil one.0)) entry.text
 
-  -- the name that `check` refuses
-  pub known_fault : (max : ℕ) (name output : List ℕ) (number : ℕ) (error : EncodingError) → Lacks 0 name → Stops (rules_of p (record { task = Check; list = unended max })) start name output (Refused number (NoString error)) → (number ≡ 1) × p.first_fault name error
+  -- the name that `check` rejects
+  pub known_fault : (max : ℕ) (name output : List ℕ) (number : ℕ) (error : EncodingError) → Lacks 0 name → Stops (rules_of p (record { task = Check; list = unended max })) start name output (Rejected number (NoString error)) → (number ≡ 1) × p.first_fault name error
   known_fault max name output number error l s = by s.entries s.item s.rest s.joined s.ended s.because
     where
       by : (es : List Entry) (item rest : List ℕ) → name ≡ items_of 0 es ++ (item ++ rest) → ((rest ≡ []) × Unit {0}) ⊎ ((more : List ℕ) × (rest ≡ 0 ∷ more)) → (number ≡ 0 + length es + 1) × ((length item ≤ max) × p.first_fault item error) → (number ≡ 1) × p.first_fault name error
@@ -175,7 +175,7 @@ module _ {E : Type 0} (p : Ghosts E) where
       by (e ∷ es) j n = absurd (has_end 0 e.0 (items_of 0 es ++ (s.item ++ s.rest)) (subst (Lacks 0) (j ∙ in_prefix 0 e.0 (items_of 0 es) (s.item ++ s.rest)) l))
 
   -- the line before the second name
-  pub line_before_second : (max : ℕ) (names output : List ℕ) (why : Refusal) → Stops (rules_of p (with_limit ListAll max)) start names output (Refused 2 why) → (name rest : List ℕ) → names ≡ name ++ 0 ∷ rest → Lacks 0 name → (line : List ℕ) × (IsLineEscape p.units name line × (output ≡ line ++ 0x0A ∷ []))
+  pub line_before_second : (max : ℕ) (names output : List ℕ) (why : Rejection) → Stops (rules_of p (with_limit ListAll max)) start names output (Rejected 2 why) → (name rest : List ℕ) → names ≡ name ++ 0 ∷ rest → Lacks 0 name → (line : List ℕ) × (IsLineEscape p.units name line × (output ≡ line ++ 0x0A ∷ []))
   line_before_second max names output why s name rest cut l = by s.entries s.are s.joined s.written s.because.0
     where
       by : (es : List Entry) → AllByRecursion (IsEntry (rules_of p (with_limit ListAll max))) es → names ≡ items_of 0 es ++ (s.item ++ s.rest) → output ≡ texts_of es → 2 ≡ 0 + length es + 1 → (line : List ℕ) × (IsLineEscape p.units name line × (output ≡ line ++ 0x0A ∷ []))
@@ -190,11 +190,11 @@ module _ {E : Type 0} (p : Ghosts E) where
           let no : 2 ≢ 0 + length (e ∷ d ∷ es) + 1 = omega arith in
           absurd (no n)
 
--- an item that is refused is no failed write
-pub no_write : (number : ℕ) (why : Refusal) → ¬ (Refused number why ≡ Run Write)
+-- an item that is rejected is no failed write
+pub no_write : (number : ℕ) (why : Rejection) → ¬ (Rejected number why ≡ Run Write)
 no_write number why e = cc
 
-pub end_no_write : (number : ℕ) (end : ItemEnd) → ◌≡◌ {A = ListFault Refusal} (Unended number end) (Run Write) → ⊥
+pub end_no_write : (number : ℕ) (end : ItemEnd) → ◌≡◌ {A = ListFault Rejection} (Unended number end) (Run Write) → ⊥
 end_no_write number end e = cc
 
 -- where nothing can be so after success, there is none

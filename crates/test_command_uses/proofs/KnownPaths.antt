@@ -10,18 +10,18 @@ use Rattle.program_frame.specs.ListRun.{IsOutput, start}
 use Rattle.program_frame.specs.Reading.{Stops}
 use Rattle.program_frame.specs.Rules.{IsEntry}
 use Rattle.program_frame.specs.declared.fault.Failure.TheVariants.{Write}
-use Rattle.program_frame.specs.declared.lists.fault.ListFault.TheVariants.{Refused, Run}
+use Rattle.program_frame.specs.declared.lists.fault.ListFault.TheVariants.{Rejected, Run}
 use Rattle.program_frame.specs.declared.lists.options.ItemEnd.{ItemEnd}
-use Rattle.paths_commands.specs.Task.{rules_of, IsAnswer, IsComponentsText, IsPathText, IsRefusal, IsUnjoined}
-use Rattle.paths_commands.specs.declared.fault.Refusal.{Refusal}
-use Rattle.paths_commands.specs.declared.fault.Refusal.TheVariants.{NoString, NoNormalForm, NoRelativePath, NoAbsolutePath, NoJoin, NoJoinAt, NoComponent, NoStringThere, HasNul, ResultHas}
+use Rattle.paths_commands.specs.Task.{rules_of, IsAnswer, IsComponentsText, IsPathText, IsRejection, IsUnjoined}
+use Rattle.paths_commands.specs.declared.fault.Rejection.{Rejection}
+use Rattle.paths_commands.specs.declared.fault.Rejection.TheVariants.{NoString, NoNormalForm, NoRelativePath, NoAbsolutePath, NoJoin, NoJoinAt, NoComponent, NoStringThere, HasNul, ResultHas}
 use Rattle.paths_commands.specs.declared.task.Task.{Task}
 use Rattle.paths_commands.specs.declared.task.Task.TheVariants.{Components, JoinChecked}
 use Rattle.test_command_uses.specs.OneFile.{lacking}
 use Rattle.test_command_uses.proofs.KnownNames.{one_item, has_end, in_prefix}
 
 -- the reason is why a path isn't joined to a base
-abbrev pub IsOfJoin : Refusal → Type 0
+abbrev pub IsOfJoin : Rejection → Type 0
 IsOfJoin (NoString error) = ⊥
 IsOfJoin NoNormalForm = ⊥
 IsOfJoin NoRelativePath = ⊥
@@ -58,21 +58,21 @@ module _ {E : Type 0} (p : Ghosts E) (style : Style) (task : Task) (end : ItemEn
       (λ answer. answer)
       (known_text path output l some o)
 
-  pub known_refusal : (path output : List ℕ) (number : ℕ) (why : Refusal) → Lacks (byte_of end) path → Stops (rules_of p style task (lacking end max)) start path output (Refused number why) → (number ≡ 1) × IsRefusal p style end task path why
-  known_refusal path output number why l s = by s.entries s.item s.rest s.joined s.ended s.because
+  pub known_rejection : (path output : List ℕ) (number : ℕ) (why : Rejection) → Lacks (byte_of end) path → Stops (rules_of p style task (lacking end max)) start path output (Rejected number why) → (number ≡ 1) × IsRejection p style end task path why
+  known_rejection path output number why l s = by s.entries s.item s.rest s.joined s.ended s.because
     where
-      by : (es : List Entry) (item rest : List ℕ) → path ≡ items_of (byte_of end) es ++ (item ++ rest) → ((rest ≡ []) × Unit {0}) ⊎ ((more : List ℕ) × (rest ≡ byte_of end ∷ more)) → (number ≡ 0 + length es + 1) × ((length item ≤ max) × IsRefusal p style end task item why)
-          → (number ≡ 1) × IsRefusal p style end task path why
-      by [] item rest j (inl none) f = (f.0, subst (λ x. IsRefusal p style end task x why) (sym (j ∙ ap (λ x. item ++ x) none.0 ∙ append-nil item)) f.1.1)
+      by : (es : List Entry) (item rest : List ℕ) → path ≡ items_of (byte_of end) es ++ (item ++ rest) → ((rest ≡ []) × Unit {0}) ⊎ ((more : List ℕ) × (rest ≡ byte_of end ∷ more)) → (number ≡ 0 + length es + 1) × ((length item ≤ max) × IsRejection p style end task item why)
+          → (number ≡ 1) × IsRejection p style end task path why
+      by [] item rest j (inl none) f = (f.0, subst (λ x. IsRejection p style end task x why) (sym (j ∙ ap (λ x. item ++ x) none.0 ∙ append-nil item)) f.1.1)
       by [] item rest j (inr more) f = absurd (has_end (byte_of end) item more.0 (subst (Lacks (byte_of end)) (j ∙ ap (λ x. item ++ x) more.1) l))
       by (e ∷ es) item rest j ended f = absurd (has_end (byte_of end) e.0 (items_of (byte_of end) es ++ (item ++ rest)) (subst (Lacks (byte_of end)) (j ∙ in_prefix (byte_of end) e.0 (items_of (byte_of end) es) (item ++ rest)) l))
 
   -- a path that isn't joined to the base
-  pub known_unjoined : (base : Base) (path output : List ℕ) (number : ℕ) (why : Refusal) → task ≡ JoinChecked base → IsOfJoin why → Lacks (byte_of end) path → Stops (rules_of p style task (lacking end max)) start path output (Refused number why)
+  pub known_unjoined : (base : Base) (path output : List ℕ) (number : ℕ) (why : Rejection) → task ≡ JoinChecked base → IsOfJoin why → Lacks (byte_of end) path → Stops (rules_of p style task (lacking end max)) start path output (Rejected number why)
       → (number ≡ 1) × IsUnjoined p style base path why
-  known_unjoined base path output number why is of_join l s = let r = known_refusal path output number why l s in (r.0, by why of_join r.1)
+  known_unjoined base path output number why is of_join l s = let r = known_rejection path output number why l s in (r.0, by why of_join r.1)
     where
-      by : (given : Refusal) → IsOfJoin given → IsRefusal p style end task path given → IsUnjoined p style base path given
+      by : (given : Rejection) → IsOfJoin given → IsRejection p style end task path given → IsUnjoined p style base path given
       by (NoJoin error) of r = subst (λ b. IsUnjoined p style b path (NoJoin error)) (sym (same_base (sym is ∙ r.1.0))) r.1.1
       by (NoJoinAt error text) of r = subst (λ b. IsUnjoined p style b path (NoJoinAt error text)) (sym (same_base (sym is ∙ r.1.0))) r.1.1
       by (NoString error) of r = absurd of
@@ -92,6 +92,6 @@ module _ {E : Type 0} (p : Ghosts E) (style : Style) (end : ItemEnd) (max : ℕ)
       (λ answer. absurd answer.1.0)
       (known_text p style Components end max path output l some o)
 
--- a path that is refused is no failed write
-pub no_write : (number : ℕ) (why : Refusal) → ¬ (Refused number why ≡ Run Write)
+-- a path that is rejected is no failed write
+pub no_write : (number : ℕ) (why : Rejection) → ¬ (Rejected number why ≡ Run Write)
 no_write number why e = cc

@@ -21,7 +21,7 @@ use Rattle.os_str_bytes.specs.UnixPlatform.TheImpl as unix
 use Rattle.program_frame.specs.declared.lists.options.ListOptions.{ListOptions}
 use Rattle.program_frame.specs.declared.os.Os.{Os}
 use Rattle.program_frame.specs.declared.os.Os.TheVariants.{Unix, Windows, Wasm}
-use Rattle.names_commands.specs.Command.{Asked, AsksFor, HasOperands, IsListed, Line, MakesUp, MakesUpWork, StatesPicks, name_word}
+use Rattle.names_commands.specs.Command.{Requested, IsRequestFor, HasOperands, IsListed, Line, MakesUp, MakesUpWork, StatesPicks, name_word}
 use Rattle.names_commands.specs.Ignoring.{AreRead}
 use Rattle.names_commands.specs.Options.{has_value, spelled}
 use Rattle.names_commands.specs.Program.{Does, DoesCommand, DoesWork, Fault, RejectsLine, RunsLine, RunsReasons, RunsTo, UnlessOutOfMemory}
@@ -34,7 +34,7 @@ use Rattle.names_commands.specs.declared.command.Work.{Work}
 use Rattle.names_commands.specs.declared.command.Work.TheVariants.{Each, Picked, Why}
 use Rattle.names_commands.specs.declared.matching.Form.TheVariants as form
 use Rattle.names_commands.specs.declared.task.Task.TheVariants.{ListAll, ListWords, Check, Join, JoinWords}
-use Rattle.names_commands.specs.declared.fault.Refusal.{Refusal}
+use Rattle.names_commands.specs.declared.fault.Rejection.{Rejection}
 use Rattle.names_commands.specs.declared.option.NamesOption.TheVariants as option
 use Rattle.os_args.specs.Views.{fault_of}
 use Rattle.program_frame.specs.Arguments.{AreGiven, HasOption}
@@ -80,11 +80,11 @@ module _ (known : KnownFiles) (A : Type 0) (file : List ℕ) (input left old new
     abbrev given : Line
     given = given_of command platform value
 
-    decided : (asked : Asked) → asked.list ≡ usual → StatesPicks given asked → DoesWork known A (strings Unix) asked Unix Why input left old new answer → Explains
-    decided asked is_usual states runs =
-        let files_are : asked.files ≡ file ∷ [] = one_file command platform value asked.files states.1.0 ∙ ap (λ x. x ∷ []) is_file in
-        let cased = not_stated command platform value option.IgnoreCase (λ e. cc) asked.case_insensitive states.1.1.1 in
-        subst (λ m. Reasons m false (file ∷ [])) is_usual (subst (λ folds. Reasons asked.list folds (file ∷ [])) cased (subst (λ files. Reasons asked.list asked.case_insensitive files) files_are runs))
+    decided : (requested : Requested) → requested.list ≡ usual → StatesPicks given requested → DoesWork known A (strings Unix) requested Unix Why input left old new answer → Explains
+    decided requested is_usual states runs =
+        let files_are : requested.files ≡ file ∷ [] = one_file command platform value requested.files states.1.0 ∙ ap (λ x. x ∷ []) is_file in
+        let cased = not_stated command platform value option.IgnoreCase (λ e. cc) requested.case_insensitive states.1.1.1 in
+        subst (λ m. Reasons m false (file ∷ [])) is_usual (subst (λ folds. Reasons requested.list folds (file ∷ [])) cased (subst (λ files. Reasons requested.list requested.case_insensitive files) files_are runs))
 
     -- the operands are those of one command
     operands : HasOperands given name.Why Unix []
@@ -93,40 +93,40 @@ module _ (known : KnownFiles) (A : Type 0) (file : List ℕ) (input left old new
     is_word : (c : DeclaredName) (os : Os) (more : List (List ℕ)) → HasOperands given c os more → codes "why" ≡ name_word c
     is_word c os more has = sym is_command ∙ first has
 
-    by_platform : (os : Os) (asked : Asked) → codes "unix" ≡ os_word os → asked.list ≡ usual → StatesPicks given asked → DoesWork known A (strings os) asked os Why input left old new answer → Explains
-    by_platform Unix asked e listed states runs = decided asked listed states runs
-    by_platform Windows asked e listed states runs = absurd (not_windows e)
-    by_platform Wasm asked e listed states runs = absurd (not_wasm e)
+    by_platform : (os : Os) (requested : Requested) → codes "unix" ≡ os_word os → requested.list ≡ usual → StatesPicks given requested → DoesWork known A (strings os) requested os Why input left old new answer → Explains
+    by_platform Unix requested e listed states runs = decided requested listed states runs
+    by_platform Windows requested e listed states runs = absurd (not_windows e)
+    by_platform Wasm requested e listed states runs = absurd (not_wasm e)
 
-    by_work : (os : Os) (work : Work) (asked : Asked) → asked.list ≡ usual → StatesPicks given asked → MakesUpWork given os work → DoesWork known A (strings os) asked os work input left old new answer → Explains
-    by_work os (Each ListAll) asked listed states m does = absurd (not_list (is_word name.List os m.0.0 m.0.1.0))
-    by_work os (Each (ListWords words)) asked listed states m does = absurd (not_list (is_word name.List os m.0.0 m.0.1.0))
-    by_work os (Each Check) asked listed states m does = absurd (not_check (is_word name.Check os [] m.0))
-    by_work os (Each (Join empty)) asked listed states m does = absurd (not_join (is_word name.Join os [] m.0))
-    by_work os (Each JoinWords) asked listed states m does = absurd (not_join (is_word name.Join os [] m.0))
-    by_work os (Picked form.Line) asked listed states m does = absurd (not_list (is_word name.List os m.0.0 m.0.1.0))
-    by_work os (Picked (form.Word words)) asked listed states m does = absurd (not_list (is_word name.List os m.0.0 m.0.1.0))
-    by_work os (Picked form.Name) asked listed states m does = absurd (not_filter (is_word name.Filter os m.0 m.1.0))
-    by_work os Why asked listed states m does = by_platform os asked (sym is_platform ∙ first (later m.0)) listed states does
+    by_work : (os : Os) (work : Work) (requested : Requested) → requested.list ≡ usual → StatesPicks given requested → MakesUpWork given os work → DoesWork known A (strings os) requested os work input left old new answer → Explains
+    by_work os (Each ListAll) requested listed states m does = absurd (not_list (is_word name.List os m.0.0 m.0.1.0))
+    by_work os (Each (ListWords words)) requested listed states m does = absurd (not_list (is_word name.List os m.0.0 m.0.1.0))
+    by_work os (Each Check) requested listed states m does = absurd (not_check (is_word name.Check os [] m.0))
+    by_work os (Each (Join empty)) requested listed states m does = absurd (not_join (is_word name.Join os [] m.0))
+    by_work os (Each JoinWords) requested listed states m does = absurd (not_join (is_word name.Join os [] m.0))
+    by_work os (Picked form.Line) requested listed states m does = absurd (not_list (is_word name.List os m.0.0 m.0.1.0))
+    by_work os (Picked (form.Word words)) requested listed states m does = absurd (not_list (is_word name.List os m.0.0 m.0.1.0))
+    by_work os (Picked form.Name) requested listed states m does = absurd (not_filter (is_word name.Filter os m.0 m.1.0))
+    by_work os Why requested listed states m does = by_platform os requested (sym is_platform ∙ first (later m.0)) listed states does
 
-    by_command : (command : Command) (asked : Asked) → asked.list ≡ usual → StatesPicks given asked → MakesUp given command → DoesCommand known A asked command input left old new answer → Explains
-    by_command (On os work) asked listed states m does = by_work os work asked listed states m does
-    by_command Help asked listed states m does = absurd m
-    by_command Version asked listed states m does = absurd m
+    by_command : (command : Command) (requested : Requested) → requested.list ≡ usual → StatesPicks given requested → MakesUp given command → DoesCommand known A requested command input left old new answer → Explains
+    by_command (On os work) requested listed states m does = by_work os work requested listed states m does
+    by_command Help requested listed states m does = absurd m
+    by_command Version requested listed states m does = absurd m
 
-    by_request : (asked : Asked) → AsksFor given asked → Does known A asked input left old new answer → Explains
-    by_request asked (inl asks) does = absurd (no_help command platform value asks.0)
-    by_request asked (inr asks) does = by asks.1
+    by_request : (requested : Requested) → IsRequestFor given requested → Does known A requested input left old new answer → Explains
+    by_request requested (inl requests) does = absurd (no_help command platform value requests.0)
+    by_request requested (inr requests) does = by requests.1
       where
-        by : ((HasOption option.Version given × (asked.command ≡ Version)) ⊎ ((¬ (HasOption option.Version given)) × (IsListed given asked.list × (MakesUp given asked.command × StatesPicks given asked)))) → Explains
+        by : ((HasOption option.Version given × (requested.command ≡ Version)) ⊎ ((¬ (HasOption option.Version given)) × (IsListed given requested.list × (MakesUp given requested.command × StatesPicks given requested)))) → Explains
         by (inl v) = absurd (no_version command platform value v.0)
-        by (inr c) = by_command asked.command asked (usual_list command platform value asked.list c.1.0) c.1.1.1 c.1.1.0 does
+        by (inr c) = by_command requested.command requested (usual_list command platform value requested.list c.1.0) c.1.1.1 c.1.1.0 does
 
     -- some command has them
     makes_up : MakesUp given (On Unix Why)
     makes_up = (operands, ((tt, (tt, (tt, tt))), (inr (inr (inl refl)), tt)))
 
-    some : (asked : Asked) × AsksFor given asked
+    some : (requested : Requested) × IsRequestFor given requested
     some = (record { command = On Unix Why; list = usual; plain = 0; globs = []; files = value.now ∷ []; inverted = false; case_insensitive = false }, inr (no_help command platform value, inr (no_version command platform value, (is_usual command platform value, (makes_up, states_one command platform value (On Unix Why) usual)))))
 
     not_rejected : RejectsLine known A given input left old new answer → ⊥
@@ -147,7 +147,7 @@ explains one_word one_value known A file words input left old new answer are run
 
     by : RunsTo known A (explaining file) input left old new answer → Explains known A file input left old new answer
     by (inl memory) = inl memory
-    by (inr (inl refused)) = absurd (no_fault_of one_word one_value name.Why file (fault_of refused.0) refused.2.0.0)
+    by (inr (inl rejected)) = absurd (no_fault_of one_word one_value name.Why file (fault_of rejected.0) rejected.2.0.0)
     by (inr (inr does)) = line does.0 does.1.0 does.1.1
 
 drop_none : (n : ℕ) (value : List ℕ) (after : List (List ℕ)) → drop n [] ≡ value ∷ after → ⊥
@@ -183,7 +183,7 @@ module _ (A : Type 0) (file bytes item : List ℕ) (plain : Lacks 0x3D file) (wh
   err_written : (answer : Result ⊤ Fault) (fault : Fault) → answer ≡ Err fault → Written answer
   err_written answer fault e = subst Written (sym e) tt
 
-  run_written : (files : List (File A)) → AreRead (only file bytes) false (file ∷ []) files → (run : Result ⊤ (ListFault Refusal)) → IsRun (deciding (strings Unix) usual (file ∷ []) files) (Some (item ++ 0 ∷ [])) left old new run → Written (answer_of OfList run)
+  run_written : (files : List (File A)) → AreRead (only file bytes) false (file ∷ []) files → (run : Result ⊤ (ListFault Rejection)) → IsRun (deciding (strings Unix) usual (file ∷ []) files) (Some (item ++ 0 ∷ [])) left old new run → Written (answer_of OfList run)
   run_written files read (Err fault) is = tt
   run_written files read (Ok done) is =
       let w = is.written in

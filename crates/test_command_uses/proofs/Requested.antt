@@ -1,7 +1,7 @@
 -- Arguments that request something, for the programs `names` and `paths`.
 use Rattle.std.proofs.Common.{◌≡◌, ◌⊎◌, inl, inr, ℕ, List, Option, Result, Ok, Err, refl, ◌∙◌, subst, sym}
 use Rattle.std.specs.Prelude.{⊤, IfErr, IsTrue, ◌↔◌}
-use Rattle.names_commands.specs.Command.{Asked, AsksFor, IsListed, IsRequestError, Line, MakesUp, StatesPicks}
+use Rattle.names_commands.specs.Command.{Requested, IsRequestFor, IsListed, IsRequestError, Line, MakesUp, StatesPicks}
 use Rattle.names_commands.specs.declared.command.Command.TheVariants.{Version as VersionCommand}
 use Rattle.names_commands.specs.declared.option.NamesOption.TheVariants.{Help, IgnoreCase, Version}
 use Rattle.program_frame.specs.Arguments.{HasOption}
@@ -25,16 +25,16 @@ requested_end X words input left old new outcome answer is some (inl memory) = i
 requested_end X words input left old new outcome answer is some (inr runs) = subst (RunsSome words input left old new) (sym is) (requested words input left old new outcome some runs)
 
 -- neither are those that make up a request of `names`
-pub never_rejected : {X : Type 0} (given : Line) (answer : Result X RequestError) → IfErr answer (IsRequestError given) → (asked : Asked) → AsksFor given asked → IfErr answer (λ error. error ≡ NoMemory)
-never_rejected given (Ok found) error asked asks = tt
-never_rejected given (Err (Misuse misuse)) error asked asks = absurd (error.no_request asked asks)
-never_rejected given (Err NoMemory) error asked asks = refl
+pub never_rejected : {X : Type 0} (given : Line) (answer : Result X RequestError) → IfErr answer (IsRequestError given) → (requested : Requested) → IsRequestFor given requested → IfErr answer (λ error. error ≡ NoMemory)
+never_rejected given (Ok found) error requested requests = tt
+never_rejected given (Err (Misuse misuse)) error requested requests = absurd (error.no_request requested requests)
+never_rejected given (Err NoMemory) error requested requests = refl
 
 -- a request is without regard to case exactly where the option for that is given, and no help and no version is requested
-pub case_stated : (given : Line) (asked : Asked) → ¬ (HasOption Help given) → ¬ (HasOption Version given) → AsksFor given asked → IsTrue asked.case_insensitive ↔ HasOption IgnoreCase given
-case_stated given asked no_help no_version (inl help) = absurd (no_help help.0)
-case_stated given asked no_help no_version (inr asks) = by asks.1
+pub case_stated : (given : Line) (requested : Requested) → ¬ (HasOption Help given) → ¬ (HasOption Version given) → IsRequestFor given requested → IsTrue requested.case_insensitive ↔ HasOption IgnoreCase given
+case_stated given requested no_help no_version (inl help) = absurd (no_help help.0)
+case_stated given requested no_help no_version (inr requests) = by requests.1
   where
-    by : ((HasOption Version given × (asked.command ≡ VersionCommand)) ⊎ ((¬ (HasOption Version given)) × (IsListed given asked.list × (MakesUp given asked.command × StatesPicks given asked)))) → IsTrue asked.case_insensitive ↔ HasOption IgnoreCase given
+    by : ((HasOption Version given × (requested.command ≡ VersionCommand)) ⊎ ((¬ (HasOption Version given)) × (IsListed given requested.list × (MakesUp given requested.command × StatesPicks given requested)))) → IsTrue requested.case_insensitive ↔ HasOption IgnoreCase given
     by (inl version) = absurd (no_version version.0)
     by (inr c) = c.1.1.1.1.1.1

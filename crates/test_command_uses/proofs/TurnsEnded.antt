@@ -19,8 +19,8 @@ module _ {Test Heap : Type 0} (step : Test → Heap → Plan → Result (Unit {0
   Ran before plan after = (heap : Heap) × step before heap plan (Ok tt) after
 
   -- where no run under the second plan answers `Ok`, there was one run
-  one_turn : ((before after : Test) → (heap : Heap) → ¬ (step before heap (Nth 2) (Ok tt) after)) → (refused : ℕ) (last : Test)
-      → RanUnder step first (each_request (refused + 1)) last → refused ≡ 0
+  one_turn : ((before after : Test) → (heap : Heap) → ¬ (step before heap (Nth 2) (Ok tt) after)) → (rejected : ℕ) (last : Test)
+      → RanUnder step first (each_request (rejected + 1)) last → rejected ≡ 0
   unfolding each_request RanUnder
   one_turn none zero last ran = refl
   one_turn none (suc more) last ran =
@@ -29,8 +29,8 @@ module _ {Test Heap : Type 0} (step : Test → Heap → Plan → Result (Unit {0
       step_of Ran (Nth 1) (map Nth (range_with_len 2 (suc more))) first last runs (λ middle one rest. step_of Ran (Nth 2) (map Nth (range_with_len 3 more)) middle last rest (λ after second left. absurd (none middle after second.0 second.1)))
 
   pub one_run : ((before after : Test) → (heap : Heap) → ¬ (step before heap (Nth 2) (Ok tt) after)) → (r : Result ℕ AllocError)
-      → IfOk r (λ refused. (last : Test) × RanUnder step first (each_request (refused + 1)) last) → IfOk r (λ refused. refused ≡ 0)
-  one_run none (Ok refused) ran = one_turn none refused ran.0 ran.1
+      → IfOk r (λ rejected. (last : Test) × RanUnder step first (each_request (rejected + 1)) last) → IfOk r (λ rejected. rejected ≡ 0)
+  one_run none (Ok rejected) ran = one_turn none rejected ran.0 ran.1
   one_run none (Err error) ran = tt
 
   -- where each run answers `Ok`, all plans were tried
@@ -42,5 +42,5 @@ module _ {Test Heap : Type 0} (step : Test → Heap → Plan → Result (Unit {0
 
   pub all_runs : ((before after : Test) → (heap : Heap) → (plan : Plan) → (answer : Result (Unit {0}) AllocError) → step before heap plan answer after → answer ≡ Ok tt)
       → (r : Result ℕ AllocError) → IfErr r (EndedIn step first) → IfErr r (λ _. (last : Test) × RanUnder step first (each_request (2 ^ 64 - 1)) last)
-  all_runs each (Ok refused) ended = tt
+  all_runs each (Ok rejected) ended = tt
   all_runs each (Err error) ended = each_run each ended

@@ -4,14 +4,14 @@ use Rattle.program_frame.specs.Arguments.{AreGiven}
 use Rattle.program_frame.specs.declared.fault.Failure.TheVariants.{Memory}
 use Rattle.program_frame.specs.declared.lists.fault.ListFault.TheVariants.{Run}
 use Rattle.program_frame.specs.declared.lists.program_fault.Fault.TheVariants.{List as OfList}
-use Rattle.paths_commands.specs.Command.{AsksFor, Line}
+use Rattle.paths_commands.specs.Command.{IsRequestFor, Line}
 use Rattle.paths_commands.specs.Options.{has_value, spelled}
 use Rattle.paths_commands.specs.Program.{Doing, RunsCommand}
 use Rattle.paths_commands.specs.declared.command.Command.{Command}
 
 -- the arguments are options and operands that request a command
 abbrev pub RequestsSome : List (List ℕ) → Type 0
-RequestsSome words = (given : Line) × (AreGiven spelled has_value words given × ((command : Command) × AsksFor given command))
+RequestsSome words = (given : Line) × (AreGiven spelled has_value words given × ((command : Command) × IsRequestFor given command))
 
 -- such a command has this result, or memory is refused
 abbrev pub RunsSome : List (List ℕ) → Doing

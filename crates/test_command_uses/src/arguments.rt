@@ -39,7 +39,7 @@ pub fn only_operand<'a>(given: &[Given<'a, NamesOption>]) -> Option<&'a str>
 }
 
 /// Whether help is requested, wherever the option comes.
-pub fn asks_for_help(given: &[Given<'_, NamesOption>]) -> bool
+pub fn requests_help(given: &[Given<'_, NamesOption>]) -> bool
     ensures { IsTrue result ↔ HasOption Help given.now }
 {
     has(given, NamesOption::Help)

@@ -16,7 +16,7 @@ mod runs;
 mod words;
 
 pub use arguments::{
-    asks_for_help, last_limit, only_operand, options_of_names, patterns_of_options,
+    last_limit, only_operand, options_of_names, patterns_of_options, requests_help,
 };
 pub use ignoring::{OneFile, left_out, unread};
 pub use marks::{closed_by_a_flush, closed_by_a_write, closed_by_no_bytes, marked_by_no_bytes};
@@ -25,13 +25,13 @@ pub use names::{
     line_before, line_of, list_of_two, names_again, returned_line, unended_line, unended_name,
 };
 pub use paths::{
-    answered, asked_on, asked_one, components_of, joined_one, line_with_nul, parent_line,
-    parent_of, requests_a_command, stated_list, unended_path,
+    answered, components_of, joined_one, line_with_nul, parent_line, parent_of, requested_on,
+    requested_one, requests_a_command, stated_list, unended_path,
 };
-pub use plans::{kept, refuses_first, turns};
+pub use plans::{fails_first, kept, turns};
 pub use programs::{
     after_a_fault, after_success, names_silent_where_closed, names_without_arguments,
-    paths_without_arguments, silent_where_closed, statuses, untold, with_arguments, with_words,
+    paths_without_arguments, silent_where_closed, statuses, unreported, with_arguments, with_words,
     without_arguments,
 };
 pub use runs::{faults_match_marks, run_once, split_at_nothing};

@@ -12,21 +12,21 @@ ghost use Rattle.program_frame.specs.ListOptions.{byte_of};
 ghost use Rattle.program_frame.specs.ListRun.{IsOutput, StopsOn};
 ghost use Rattle.program_frame.specs.Marked.{marked_inner, has_failed};
 ghost use Rattle.program_frame.specs.declared.fault.Failure.TheVariants.{Write as WriteFailure};
-ghost use Rattle.program_frame.specs.declared.lists.fault.ListFault.TheVariants.{Refused, Run, Unended};
+ghost use Rattle.program_frame.specs.declared.lists.fault.ListFault.TheVariants.{Rejected, Run, Unended};
 ghost use Rattle.program_frame.specs.declared.lists.options.ItemEnd.{ItemEnd as ItemEndOf};
 ghost use Rattle.names_commands.specs.Back.{listing, listing_words, AreFirst, IsCompleted};
-ghost use Rattle.names_commands.specs.Command.{Asked, AsksFor};
+ghost use Rattle.names_commands.specs.Command.{Requested, IsRequestFor};
 ghost use Rattle.names_commands.specs.Matching.{IsPickedBy};
 ghost use Rattle.names_commands.specs.Task.{rules_of};
 ghost use Rattle.names_commands.specs.Words.{AreNamesOf};
 ghost use Rattle.test_command_uses.specs.OneFile.{unended, usual};
 ghost use Rattle.names_commands.specs.declared.command.RequestError.TheVariants.{Memory as NoMemory};
-ghost use Rattle.names_commands.specs.declared.fault.Refusal.{Refusal};
-ghost use Rattle.names_commands.specs.declared.fault.Refusal.TheVariants.{NoString};
+ghost use Rattle.names_commands.specs.declared.fault.Rejection.{Rejection};
+ghost use Rattle.names_commands.specs.declared.fault.Rejection.TheVariants.{NoString};
 ghost use Rattle.names_commands.specs.declared.option.NamesOption.TheVariants.{Help, IgnoreCase, Version};
 
 use names_commands::command::{Line, Request, RequestError};
-use names_commands::fault::Refusal;
+use names_commands::fault::Rejection;
 use names_commands::laws::{names_come_back, names_come_back_from_words};
 use names_commands::matching::{Form, Matching};
 use names_commands::task::{EmptyLine, OnPlatform, Settings, Task, WordForm};
@@ -75,7 +75,7 @@ pub fn known_request<'a, A: Allocator + Copy>(
     alloc: A,
     given: Line<'_, 'a>,
 ) -> Result<Request<'a, A>, RequestError<'a>>
-    ensures { (asked : Asked) → AsksFor given.entry.now asked
+    ensures { (requested : Requested) → IsRequestFor given.entry.now requested
         → IfErr result (λ error. error ≡ NoMemory) }
 {
     Request::parse(alloc, given)
@@ -103,7 +103,7 @@ fn run_over<E: Platform, A: Allocator, W: Write>(
     settings: Settings,
     input: &[u8],
     writer: &mut Marked<W>,
-) -> Result<(), ListFault<Refusal>>
+) -> Result<(), ListFault<Rejection>>
     requires { has_failed writer.old ≡ false }
     ensures written { OnOk result ((output : List ℕ)
         × (IsOutput (rules_of ⟦<E as Platform>⟧ settings) input.now output
@@ -125,7 +125,7 @@ pub fn names_again<E: Platform, A: Allocator, W: Write>(
     names: &[u8],
     lines: &[u8],
     writer: &mut Marked<W>,
-) -> Result<(), ListFault<Refusal>>
+) -> Result<(), ListFault<Rejection>>
     requires listed { IsOutput (rules_of ⟦<E as Platform>⟧ (listing list)) names.now lines.now }
     requires unmarked { has_failed writer.old ≡ false }
     ensures { OnOk result ((back : List ℕ) × (IsCompleted (byte_of list.end) names.now back
@@ -147,7 +147,7 @@ pub fn names_again_of_words<A: Allocator, W: Write>(
     names: &[u8],
     lines: &[u8],
     writer: &mut Marked<W>,
-) -> Result<(), ListFault<Refusal>>
+) -> Result<(), ListFault<Rejection>>
     requires listed { IsOutput (rules_of ⟦<Unix as Platform>⟧ (listing_words list)) names.now
         lines.now }
     requires unmarked { has_failed writer.old ≡ false }
@@ -169,7 +169,7 @@ pub fn word_of<A: Allocator, W: Write>(
     max: usize,
     name: &[u8],
     writer: &mut Marked<W>,
-) -> Result<(), ListFault<Refusal>>
+) -> Result<(), ListFault<Rejection>>
     requires whole { Lacks 0 name.now }
     requires some { name.now ≢ [] }
     requires unmarked { has_failed writer.old ≡ false }
@@ -193,7 +193,7 @@ pub fn words_of_line<A: Allocator, W: Write>(
     max: usize,
     line: &[u8],
     writer: &mut Marked<W>,
-) -> Result<(), ListFault<Refusal>>
+) -> Result<(), ListFault<Rejection>>
     requires whole { Lacks 0x0A line.now }
     requires some { line.now ≢ [] }
     requires unmarked { has_failed writer.old ≡ false }
@@ -221,7 +221,7 @@ pub fn first_names_again<E: Platform, A: Allocator, W: Write>(
     lines: &[u8],
     cut: usize,
     writer: &mut Marked<W>,
-) -> Result<(), ListFault<Refusal>>
+) -> Result<(), ListFault<Rejection>>
     requires listed { IsOutput (rules_of ⟦<E as Platform>⟧ (listing list)) names.now lines.now }
     requires within { cut ≤ length lines.now }
     requires unmarked { has_failed writer.old ≡ false }
@@ -248,7 +248,7 @@ pub fn unended_line<E: Platform, A: Allocator, W: Write>(
     max: usize,
     line: &[u8],
     writer: &mut Marked<W>,
-) -> Result<(), ListFault<Refusal>>
+) -> Result<(), ListFault<Rejection>>
     requires whole { Lacks 0x0A line.now }
     requires some { line.now ≢ [] }
     requires unmarked { has_failed writer.old ≡ false }
@@ -264,7 +264,7 @@ pub fn unended_name<E: Platform, A: Allocator, W: Write>(
     max: usize,
     name: &[u8],
     writer: &mut Marked<W>,
-) -> Result<(), ListFault<Refusal>>
+) -> Result<(), ListFault<Rejection>>
     requires whole { Lacks 0 name.now }
     requires some { name.now ≢ [] }
     requires unmarked { has_failed writer.old ≡ false }
@@ -280,7 +280,7 @@ pub fn empty_line<E: Platform, A: Allocator, W: Write>(
     alloc: A,
     max: usize,
     writer: &mut Marked<W>,
-) -> Result<(), ListFault<Refusal>>
+) -> Result<(), ListFault<Rejection>>
     requires { has_failed writer.old ≡ false }
     ensures { ¬ (IsOk result) }
 {
@@ -294,7 +294,7 @@ pub fn returned_line<A: Allocator, W: Write>(
     max: usize,
     line: &[u8],
     writer: &mut Marked<W>,
-) -> Result<(), ListFault<Refusal>>
+) -> Result<(), ListFault<Rejection>>
     requires returned { (front : List ℕ)
         × (Lacks 0x0A front × (line.now ≡ (front ++ 0x0D ∷ []) ++ 0x0A ∷ [])) }
     requires unmarked { has_failed writer.old ≡ false }
@@ -311,7 +311,7 @@ pub fn filtered<E: Platform, A: Allocator, B: Allocator + Copy, W: Write>(
     picks: Matching<'_, E, B>,
     name: &[u8],
     writer: &mut Marked<W>,
-) -> Result<(), ListFault<Refusal>>
+) -> Result<(), ListFault<Rejection>>
     requires whole { Lacks 0 name.now }
     requires some { name.now ≢ [] }
     requires unmarked { has_failed writer.old ≡ false }
@@ -348,7 +348,7 @@ pub fn line_of<E: Platform, A: Allocator, W: Write>(
     max: usize,
     name: &[u8],
     writer: &mut Marked<W>,
-) -> Result<(), ListFault<Refusal>>
+) -> Result<(), ListFault<Rejection>>
     requires whole { Lacks 0 name.now }
     requires some { name.now ≢ [] }
     requires unmarked { has_failed writer.old ≡ false }
@@ -374,10 +374,10 @@ pub fn line_before<E: Platform, A: Allocator, W: Write>(
     max: usize,
     names: &[u8],
     writer: &mut Marked<W>,
-) -> Result<(), ListFault<Refusal>>
+) -> Result<(), ListFault<Rejection>>
     requires { has_failed writer.old ≡ false }
-    ensures { IfErr result (λ fault. (name : List ℕ) → (rest : List ℕ) → (why : Refusal)
-        → names.now ≡ name ++ 0 ∷ rest → Lacks 0 name → fault ≡ Refused 2 why → (line : List ℕ)
+    ensures { IfErr result (λ fault. (name : List ℕ) → (rest : List ℕ) → (why : Rejection)
+        → names.now ≡ name ++ 0 ∷ rest → Lacks 0 name → fault ≡ Rejected 2 why → (line : List ℕ)
         × (IsLineEscape E.units name line
         × Appends (W.contents (marked_inner writer.old)) (W.contents (marked_inner writer.new))
         (line ++ 0x0A ∷ []))) }
@@ -391,11 +391,11 @@ pub fn check_one<E: Platform, A: Allocator, W: Write>(
     max: usize,
     name: &[u8],
     writer: &mut Marked<W>,
-) -> Result<(), ListFault<Refusal>>
+) -> Result<(), ListFault<Rejection>>
     requires whole { Lacks 0 name.now }
     requires unmarked { has_failed writer.old ≡ false }
     ensures { IfErr result (λ fault. (number : ℕ) → (error : EncodingError)
-        → fault ≡ Refused number (NoString error) → (number ≡ 1) × E.first_fault name.now error) }
+        → fault ≡ Rejected number (NoString error) → (number ≡ 1) × E.first_fault name.now error) }
 {
     let settings = Settings {
         task: Task::Check,

@@ -20,12 +20,12 @@ ghost use Rattle.program_frame.specs.Rules.{EndsRun, passing};
 ghost use Rattle.program_frame.specs.Strings.{strings};
 ghost use Rattle.program_frame.specs.declared.fault.Failure.TheVariants.{Write as WriteFailure};
 ghost use Rattle.program_frame.specs.declared.misuse.Misuse.{Misuse as DeclaredMisuse};
-ghost use Rattle.program_frame.specs.declared.lists.fault.ListFault.TheVariants.{Refused, Run};
-ghost use Rattle.paths_commands.specs.Command.{AsksFor, IsMisuse, RequestsNothing, longest_path};
+ghost use Rattle.program_frame.specs.declared.lists.fault.ListFault.TheVariants.{Rejected, Run};
+ghost use Rattle.paths_commands.specs.Command.{IsRequestFor, IsMisuse, RequestsNothing, longest_path};
 ghost use Rattle.paths_commands.specs.Styles.{style_of};
 ghost use Rattle.paths_commands.specs.Task.{component_of, rules_of, IsAnswer, IsComponentsText, IsShownOf, way_text};
 ghost use Rattle.paths_commands.specs.declared.command.Command.{Command as DeclaredCommand};
-ghost use Rattle.paths_commands.specs.declared.fault.Refusal.TheVariants.{NoJoin, NoJoinAt, NoString};
+ghost use Rattle.paths_commands.specs.declared.fault.Rejection.TheVariants.{NoJoin, NoJoinAt, NoString};
 ghost use Rattle.paths_commands.specs.declared.option.PathsOption.TheVariants.{Lines, Unterminated};
 ghost use Rattle.paths_commands.specs.declared.task.Task.TheVariants.{Components};
 ghost use Rattle.test_command_uses.specs.OneFile.{lacking};
@@ -34,11 +34,11 @@ use os_path::PathStyle;
 use os_str_bytes::Platform;
 use path_building::Base;
 use paths_commands::command::{Command, Line};
-use paths_commands::fault::Refusal;
+use paths_commands::fault::Rejection;
 use paths_commands::task::{OnPlatform, Task};
 use program_frame::lists::fault::ListFault;
 use program_frame::lists::options::{ItemEnd, LastItem, ListOptions};
-use program_frame::lists::refusals::KeepGoing;
+use program_frame::lists::rejections::KeepGoing;
 use program_frame::lists::run::{run, run_with};
 use program_frame::marked::Marked;
 use program_frame::os::Os;
@@ -48,7 +48,7 @@ use std::io::{Eprint, Write};
 /// Whether options and operands request a command; otherwise they request none, and something is
 /// wrong with them.
 pub fn requests_a_command(given: Line<'_, '_>) -> bool
-    ensures some { result ≡ true → (command : DeclaredCommand) × AsksFor given.entry.now command }
+    ensures some { result ≡ true → (command : DeclaredCommand) × IsRequestFor given.entry.now command }
     ensures none { result ≡ false → RequestsNothing given.entry.now
         × ((misuse : DeclaredMisuse) × IsMisuse given.entry.now misuse) }
 {
@@ -87,7 +87,7 @@ fn ask<E: PathStyle, A: Allocator, W: Write>(
     list: ListOptions,
     input: &[u8],
     writer: &mut Marked<W>,
-) -> Result<(), ListFault<Refusal>>
+) -> Result<(), ListFault<Rejection>>
     requires { has_failed writer.old ≡ false }
     ensures written { OnOk result ((output : List ℕ)
         × (IsOutput (rules_of ⟦<E as Platform>⟧ E.follows task.entry list) input.now output
@@ -107,16 +107,16 @@ fn ask<E: PathStyle, A: Allocator, W: Write>(
     )
 }
 
-/// A run over bytes that passes over paths that are refused, and how many were: no such path ends it,
+/// A run over bytes that passes over paths that are rejected, and how many were: no such path ends it,
 /// and what is written is the output of the others.
-pub fn asked_on<E: PathStyle, P: Eprint, A: Allocator, W: Write>(
+pub fn requested_on<E: PathStyle, P: Eprint, A: Allocator, W: Write>(
     alloc: A,
     errors: &P,
     task: Task<'_>,
     list: ListOptions,
     input: &[u8],
     writer: &mut Marked<W>,
-) -> (u64, Result<(), ListFault<Refusal>>)
+) -> (u64, Result<(), ListFault<Rejection>>)
     requires { has_failed writer.old ≡ false }
     ensures written { OnOk result.1 ((output : List ℕ) × (IsOutput
         (passing result.0 (rules_of ⟦<E as Platform>⟧ E.follows task.entry list)) input.now output
@@ -125,10 +125,10 @@ pub fn asked_on<E: PathStyle, P: Eprint, A: Allocator, W: Write>(
     ensures ends { IfErr result.1 (λ fault. EndsRun ⊥ fault) }
 {
     let mut reader = Marked::new(input);
-    let mut refusals = KeepGoing::new("paths", errors);
+    let mut rejections = KeepGoing::new("paths", errors);
     let on = OnPlatform::<E>::new(task, list);
-    let ran = run_with(alloc, &on, &mut refusals, &mut reader, writer);
-    (refusals.count(), ran)
+    let ran = run_with(alloc, &on, &mut rejections, &mut reader, writer);
+    (rejections.count(), ran)
 }
 
 /// Runs a task other than the one for components on one path: the result lacks this end, and is
@@ -139,7 +139,7 @@ pub fn answered<E: PathStyle, A: Allocator, W: Write>(
     task: Task<'_>,
     path: &[u8],
     writer: &mut Marked<W>,
-) -> Result<(), ListFault<Refusal>>
+) -> Result<(), ListFault<Rejection>>
     requires question { task ≢ Components }
     requires whole { Lacks (byte_of end) path.now }
     requires some { path.now ≢ [] }
@@ -157,7 +157,7 @@ pub fn parent_line<E: PathStyle, A: Allocator, W: Write>(
     alloc: A,
     path: &[u8],
     writer: &mut Marked<W>,
-) -> Result<(), ListFault<Refusal>>
+) -> Result<(), ListFault<Rejection>>
     requires whole { Lacks 0x0A path.now }
     requires some { path.now ≢ [] }
     requires unmarked { has_failed writer.old ≡ false }
@@ -176,7 +176,7 @@ pub fn line_with_nul<E: PathStyle, A: Allocator, W: Write>(
     task: Task<'_>,
     path: &[u8],
     writer: &mut Marked<W>,
-) -> Result<(), ListFault<Refusal>>
+) -> Result<(), ListFault<Rejection>>
     requires whole { Lacks 0x0A path.now }
     requires nul { ¬ (Lacks 0 path.now) }
     requires some { path.now ≢ [] }
@@ -192,7 +192,7 @@ pub fn unended_path<E: PathStyle, A: Allocator, W: Write>(
     task: Task<'_>,
     path: &[u8],
     writer: &mut Marked<W>,
-) -> Result<(), ListFault<Refusal>>
+) -> Result<(), ListFault<Rejection>>
     requires whole { Lacks 0 path.now }
     requires some { path.now ≢ [] }
     requires unmarked { has_failed writer.old ≡ false }
@@ -206,7 +206,7 @@ pub fn parent_of<E: PathStyle, A: Allocator, W: Write>(
     alloc: A,
     path: &[u8],
     writer: &mut Marked<W>,
-) -> Result<(), ListFault<Refusal>>
+) -> Result<(), ListFault<Rejection>>
     requires whole { Lacks 0 path.now }
     requires some { path.now ≢ [] }
     requires unmarked { has_failed writer.old ≡ false }
@@ -225,7 +225,7 @@ pub fn after_base<E: PathStyle, A: Allocator, W: Write>(
     base: &str,
     path: &[u8],
     writer: &mut Marked<W>,
-) -> Result<(), ListFault<Refusal>>
+) -> Result<(), ListFault<Rejection>>
     requires whole { Lacks 0 path.now }
     requires some { path.now ≢ [] }
     requires unmarked { has_failed writer.old ≡ false }
@@ -243,7 +243,7 @@ pub fn from_base<E: PathStyle, A: Allocator, W: Write>(
     base: &str,
     path: &[u8],
     writer: &mut Marked<W>,
-) -> Result<(), ListFault<Refusal>>
+) -> Result<(), ListFault<Rejection>>
     requires whole { Lacks 0 path.now }
     requires some { path.now ≢ [] }
     requires unmarked { has_failed writer.old ≡ false }
@@ -261,7 +261,7 @@ pub fn full_path<E: PathStyle, A: Allocator, W: Write>(
     directory: &str,
     path: &[u8],
     writer: &mut Marked<W>,
-) -> Result<(), ListFault<Refusal>>
+) -> Result<(), ListFault<Rejection>>
     requires whole { Lacks 0 path.now }
     requires some { path.now ≢ [] }
     requires unmarked { has_failed writer.old ≡ false }
@@ -279,7 +279,7 @@ pub fn on_platform<E: PathStyle, A: Allocator, W: Write>(
     to: Os,
     path: &[u8],
     writer: &mut Marked<W>,
-) -> Result<(), ListFault<Refusal>>
+) -> Result<(), ListFault<Rejection>>
     requires whole { Lacks 0 path.now }
     requires some { path.now ≢ [] }
     requires unmarked { has_failed writer.old ≡ false }
@@ -297,7 +297,7 @@ pub fn components_of<E: PathStyle, A: Allocator, W: Write>(
     alloc: A,
     path: &[u8],
     writer: &mut Marked<W>,
-) -> Result<(), ListFault<Refusal>>
+) -> Result<(), ListFault<Rejection>>
     requires whole { Lacks 0 path.now }
     requires some { path.now ≢ [] }
     requires unmarked { has_failed writer.old ≡ false }
@@ -311,16 +311,16 @@ pub fn components_of<E: PathStyle, A: Allocator, W: Write>(
 
 /// Runs a task on one path: where it is rejected, it is the first, with the first fault of its
 /// bytes.
-pub fn asked_one<E: PathStyle, A: Allocator, W: Write>(
+pub fn requested_one<E: PathStyle, A: Allocator, W: Write>(
     alloc: A,
     task: Task<'_>,
     path: &[u8],
     writer: &mut Marked<W>,
-) -> Result<(), ListFault<Refusal>>
+) -> Result<(), ListFault<Rejection>>
     requires whole { Lacks 0 path.now }
     requires unmarked { has_failed writer.old ≡ false }
     ensures { IfErr result (λ fault. (number : ℕ) → (error : EncodingError)
-        → fault ≡ Refused number (NoString error) → (number ≡ 1) × E.first_fault path.now error) }
+        → fault ≡ Rejected number (NoString error) → (number ≡ 1) × E.first_fault path.now error) }
 {
     ask::<E, A, W>(alloc, task, lacking(ItemEnd::Nul), path, writer)
 }
@@ -332,16 +332,16 @@ pub fn joined_one<E: PathStyle, A: Allocator, W: Write>(
     base: Base<'_>,
     path: &[u8],
     writer: &mut Marked<W>,
-) -> Result<(), ListFault<Refusal>>
+) -> Result<(), ListFault<Rejection>>
     requires whole { Lacks 0 path.now }
     requires unmarked { has_failed writer.old ≡ false }
     ensures at { IfErr result (λ fault. (number : ℕ) → (error : NameError)
-        → (text : InlineText 200) → fault ≡ Refused number (NoJoinAt error text)
+        → (text : InlineText 200) → fault ≡ Rejected number (NoJoinAt error text)
         → (number ≡ 1) × (IsNameFault (base_style base.entry) path.now error
         × ((index : ℕ) × ((component_of error ≡ Some index)
         × IsShownOf ⟦<E as Platform>⟧ E.follows path.now index (inline_text text))))) }
     ensures alone { IfErr result (λ fault. (number : ℕ) → (error : NameError)
-        → fault ≡ Refused number (NoJoin error)
+        → fault ≡ Rejected number (NoJoin error)
         → (number ≡ 1) × (IsNameFault (base_style base.entry) path.now error
         × (component_of error ≡ None))) }
 {

@@ -41,15 +41,15 @@ pub fn without_arguments<P: Eprint, A: Allocator, R: Read, W: Output, E: Message
 ) -> (bool, ExitCode)
     requires reader_unmarked { has_failed reader.old ≡ false }
     requires writer_unmarked { has_failed writer.old ≡ false }
-    ensures told { result.0 ≡ true → Appends (E.contents errors.old) (E.contents errors.new)
+    ensures reported { result.0 ≡ true → Appends (E.contents errors.old) (E.contents errors.new)
         (codes "osbytes: usage: osbytes units|raw|find|split|chunks unix|windows|wasm [PAT]\n") }
     ensures status { exit_status result.1 ≡ 2 }
     ensures kept { writer.new ≡ writer.old }
 {
     let arguments = Err(io::Error::from(ErrorKind::InvalidInput));
     let ended = execute(alloc, arguments, reader, writer, errors);
-    let told = ended.told();
-    (told, ended.report(rt))
+    let reported = ended.reported();
+    (reported, ended.report(rt))
 }
 
 /// The program with arguments. The first argument is the program's name.
@@ -117,11 +117,14 @@ pub fn names_silent_where_closed<F: Files, A: Allocator + Copy, R: Read, W: Outp
 }
 
 /// The end of a run whose outcome nobody waits for: it is printed nowhere.
-pub fn untold<F: ProgramFault, E: Write>(outcome: Result<(), F>, errors: &mut E) -> Result<(), F>
+pub fn unreported<F: ProgramFault, E: Write>(
+    outcome: Result<(), F>,
+    errors: &mut E,
+) -> Result<(), F>
     ensures outcome { result ≡ outcome }
     ensures quiet { errors.new ≡ errors.old }
 {
-    Ended::telling_unless("osbytes", true, outcome, errors).outcome()
+    Ended::reporting_unless("osbytes", true, outcome, errors).outcome()
 }
 
 /// The program for names where its arguments aren't available: whether it printed why, and its
@@ -143,7 +146,7 @@ pub fn names_without_arguments<
 ) -> (bool, ExitCode)
     requires reader_unmarked { has_failed reader.old ≡ false }
     requires writer_unmarked { has_failed writer.old ≡ false }
-    ensures told { result.0 ≡ true → Appends (E.contents errors.old) (E.contents errors.new)
+    ensures reported { result.0 ≡ true → Appends (E.contents errors.old) (E.contents errors.new)
         (codes "names: an argument isn't valid UTF-8\n") }
     ensures status { exit_status result.1 ≡ 2 }
     ensures unread { reader.new ≡ reader.old }
@@ -151,8 +154,8 @@ pub fn names_without_arguments<
 {
     let arguments = Err(io::Error::from(ErrorKind::InvalidInput));
     let ended = execute_list(program, alloc, arguments, reader, writer, errors);
-    let told = ended.told();
-    (told, ended.report(rt))
+    let reported = ended.reported();
+    (reported, ended.report(rt))
 }
 
 /// The program for paths where its arguments aren't available: whether it printed why, and its
@@ -166,7 +169,7 @@ pub fn paths_without_arguments<P: Eprint, A: Allocator + Copy, R: Read, W: Outpu
 ) -> (bool, ExitCode)
     requires reader_unmarked { has_failed reader.old ≡ false }
     requires writer_unmarked { has_failed writer.old ≡ false }
-    ensures told { result.0 ≡ true → Appends (E.contents errors.old) (E.contents errors.new)
+    ensures reported { result.0 ≡ true → Appends (E.contents errors.old) (E.contents errors.new)
         (codes "paths: an argument isn't valid UTF-8\n") }
     ensures status { exit_status result.1 ≡ 2 }
     ensures unread { reader.new ≡ reader.old }
@@ -174,12 +177,12 @@ pub fn paths_without_arguments<P: Eprint, A: Allocator + Copy, R: Read, W: Outpu
 {
     let arguments = Err(io::Error::from(ErrorKind::InvalidInput));
     let ended = execute_list(&Paths::new(rt), alloc, arguments, reader, writer, errors);
-    let told = ended.told();
-    (told, ended.report(rt))
+    let reported = ended.reported();
+    (reported, ended.report(rt))
 }
 
 /// The program for paths with arguments that request no command: nothing is read or written.
-pub fn paths_refused<P: Eprint, A: Allocator + Copy, R: Read, W: Output, E: Messages>(
+pub fn paths_rejected<P: Eprint, A: Allocator + Copy, R: Read, W: Output, E: Messages>(
     rt: &P,
     alloc: A,
     arguments: Args,
@@ -190,7 +193,7 @@ pub fn paths_refused<P: Eprint, A: Allocator + Copy, R: Read, W: Output, E: Mess
     requires words { RequestNothing (words_after_name arguments) }
     requires reader_unmarked { has_failed reader.old ≡ false }
     requires writer_unmarked { has_failed writer.old ≡ false }
-    ensures refused { ((why : CommandFault) × (result ≡ Err (Words why)))
+    ensures rejected { ((why : CommandFault) × (result ≡ Err (Words why)))
         ⊎ (result ≡ Err (OfList (ListFault.Run Failure.Memory))) }
     ensures unread { R.remaining (marked_inner reader.new) ≡ R.remaining (marked_inner reader.old) }
     ensures kept { W.contents (marked_inner writer.new) ≡ W.contents (marked_inner writer.old) }
@@ -241,13 +244,13 @@ pub fn after_a_fault<F: ProgramFault, P: Eprint, E: Write>(
     fault: F,
     errors: &mut E,
 ) -> (bool, ExitCode)
-    ensures told { result.0 ≡ true → Appends (E.contents errors.old) (E.contents errors.new)
+    ensures reported { result.0 ≡ true → Appends (E.contents errors.old) (E.contents errors.new)
         (message program.now (F.text_of fault)) }
     ensures status { exit_status result.1 ≡ F.status_of fault }
 {
-    let ended = Ended::telling(program, Err(fault), errors);
-    let told = ended.told();
-    (told, ended.report(rt))
+    let ended = Ended::reporting(program, Err(fault), errors);
+    let reported = ended.reported();
+    (reported, ended.report(rt))
 }
 
 /// The end of a program without a fault: what it returned, and its status.
@@ -256,7 +259,7 @@ pub fn after_success<P: Eprint, E: Write>(rt: &P, errors: &mut E) -> (Result<(),
     ensures status { exit_status result.1 ≡ 0 }
     ensures quiet { errors.new ≡ errors.old }
 {
-    let ended = Ended::telling("osbytes", Ok(()), errors);
+    let ended = Ended::reporting("osbytes", Ok(()), errors);
     let outcome = ended.outcome();
     (outcome, ended.report(rt))
 }

@@ -54,7 +54,7 @@ pub fn split_at_nothing<A: Allocator, R: Read, W: Write>(
 ) -> Result<(), Fault>
     requires reader_unmarked { has_failed reader.old ≡ false }
     requires writer_unmarked { has_failed writer.old ≡ false }
-    ensures refused { result ≡ Err Fault.Usage }
+    ensures rejected { result ≡ Err Fault.Usage }
     ensures unread { reader.new ≡ reader.old }
 {
     run(alloc, Command::Split(os, ""), reader, writer)

@@ -8,7 +8,7 @@ use Rattle.program_frame.specs.declared.misuse.Misuse as misuse
 use Rattle.program_frame.specs.declared.misuse.Misuse.TheVariants.{Argument, Missing, Invalid, Misplaced}
 use Rattle.program_frame.specs.declared.os.Os.{Os}
 use Rattle.program_frame.specs.declared.os.Os.TheVariants.{Unix, Windows, Wasm}
-use Rattle.names_commands.specs.Command.{Asked, AsksFor, AtMostOne, Fits, FitsOne, HasOperands, IsForPlatform, IsInvalid, IsLimit, IsListed, IsMax, IsMisplaced, IsMissing, IsMisuse, IsTooMany, Line, Lists, MakesUp, MakesUpWork, NeedsPick, NoWords, Picks, SomePicked, StatesPicks, TakesOption, name_word}
+use Rattle.names_commands.specs.Command.{Requested, IsRequestFor, AtMostOne, Fits, FitsOne, HasOperands, IsForPlatform, IsInvalid, IsLimit, IsListed, IsMax, IsMisplaced, IsMissing, IsMisuse, IsTooMany, Line, Lists, MakesUp, MakesUpWork, NeedsPick, NoWords, Picks, SomePicked, StatesPicks, TakesOption, name_word}
 use Rattle.names_commands.specs.Pick.{TakesIgnore}
 use Rattle.names_commands.specs.declared.command.Command.{Command}
 use Rattle.names_commands.specs.declared.command.Command.TheVariants.{Help, Version, On}
@@ -259,10 +259,10 @@ module _ (given : Line) (m : IsMade given) where
   not_wrong max limit (Misplaced word where_to) k = not_misplaced word.now where_to.now k
 
 -- what is wrong makes up no request, where no help and no version is requested
-pub no_request : (given : Line) → ¬ (HasOption option.Help given) → ¬ (HasOption option.Version given) → (wrong : misuse.Misuse) → IsMisuse given wrong → (asked : Asked) → ¬ (AsksFor given asked)
-no_request given help version wrong k asked (inl h) = help h.0
-no_request given help version wrong k asked (inr h) = by h.1
+pub no_request : (given : Line) → ¬ (HasOption option.Help given) → ¬ (HasOption option.Version given) → (wrong : misuse.Misuse) → IsMisuse given wrong → (requested : Requested) → ¬ (IsRequestFor given requested)
+no_request given help version wrong k requested (inl h) = help h.0
+no_request given help version wrong k requested (inr h) = by h.1
   where
-    by : ((HasOption option.Version given × (asked.command ≡ Version)) ⊎ ((¬ (HasOption option.Version given)) × (IsListed given asked.list × (MakesUp given asked.command × StatesPicks given asked)))) → ⊥
+    by : ((HasOption option.Version given × (requested.command ≡ Version)) ⊎ ((¬ (HasOption option.Version given)) × (IsListed given requested.list × (MakesUp given requested.command × StatesPicks given requested)))) → ⊥
     by (inl v) = version v.0
-    by (inr c) = not_wrong given (made given asked.command c.1.1.0) c.1.0.0 c.1.0.1.0 wrong k
+    by (inr c) = not_wrong given (made given requested.command c.1.1.0) c.1.0.0 c.1.0.1.0 wrong k

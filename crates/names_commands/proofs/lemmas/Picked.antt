@@ -10,8 +10,8 @@ use Rattle.program_frame.specs.Reading.{State, Stops}
 use Rattle.program_frame.specs.Rules.{ListRules, IsEntry}
 use Rattle.program_frame.specs.declared.lists.fault.ListFault.{ListFault}
 use Rattle.program_frame.specs.declared.lists.options.ListOptions.{ListOptions}
-use Rattle.program_frame.specs.declared.lists.fault.ListFault.TheVariants.{Refused, TooLong, Unended, TooMuch, Run}
-use Rattle.names_commands.specs.declared.fault.Refusal.{Refusal}
+use Rattle.program_frame.specs.declared.lists.fault.ListFault.TheVariants.{Rejected, TooLong, Unended, TooMuch, Run}
+use Rattle.names_commands.specs.declared.fault.Rejection.{Rejection}
 use Rattle.names_commands.specs.declared.matching.Form.{Form}
 use Rattle.glob_patterns.specs.Letters.{letters_of}
 use Rattle.glob_patterns.specs.Options.{options_of, syntax_of}
@@ -35,10 +35,10 @@ use Rattle.names_commands.specs.Matching.{picking, AreWrittenOut, IsChosen, IsCh
 use Rattle.names_commands.specs.Program.{Fault, RunsBut}
 
 module _ {E : Type 0} (p : Ghosts E) (form : Form) (list : ListOptions) (Picked Other : List ℕ → Type 0) (same : (name : List ℕ) → Picked name ↔ Other name) where
-  abbrev ours : ListRules Refusal
+  abbrev ours : ListRules Rejection
   ours = picking p form list Picked
 
-  abbrev theirs : ListRules Refusal
+  abbrev theirs : ListRules Rejection
   theirs = picking p form list Other
 
   one_text : (name text : List ℕ) → IsTextOfPicked p form list.end Picked name text → IsTextOfPicked p form list.end Other name text
@@ -57,11 +57,11 @@ module _ {E : Type 0} (p : Ghosts E) (form : Form) (list : ListOptions) (Picked 
   one_begun : (input output : List ℕ) → IsBegun ours input output → IsBegun theirs input output
   one_begun input output b = record { entries = b.entries; are = all_entries b.entries b.are; rest = b.rest; joined = b.joined; written = b.written }
 
-  one_stop : (old : State) (bytes output : List ℕ) (fault : ListFault Refusal) → Stops ours old bytes output fault → Stops theirs old bytes output fault
+  one_stop : (old : State) (bytes output : List ℕ) (fault : ListFault Rejection) → Stops ours old bytes output fault → Stops theirs old bytes output fault
   one_stop old bytes output fault s = record { entries = s.entries; are = all_entries s.entries s.are; item = s.item; rest = s.rest; joined = s.joined; whole = s.whole; ended = s.ended; because = s.because; written = s.written }
 
-  stops_on : (input output : List ℕ) (fault : ListFault Refusal) → StopsOn ours input output fault → StopsOn theirs input output fault
-  stops_on input output (Refused n why) s = one_stop start input output (Refused n why) s
+  stops_on : (input output : List ℕ) (fault : ListFault Rejection) → StopsOn ours input output fault → StopsOn theirs input output fault
+  stops_on input output (Rejected n why) s = one_stop start input output (Rejected n why) s
   stops_on input output (TooLong n most) s = one_stop start input output (TooLong n most) s
   stops_on input output (Unended n end) s = one_stop start input output (Unended n end) s
   stops_on input output TooMuch s = (s.0, one_begun input output s.1)
@@ -71,7 +71,7 @@ module _ {E : Type 0} (p : Ghosts E) (form : Form) (list : ListOptions) (Picked 
   writes_output None old new w = w
   writes_output (Some bytes) old new w = (w.0, (one_output bytes w.0 w.1.0, w.1.1))
 
-  writes_up_to : (fault : ListFault Refusal) (input old new : Option (List ℕ)) → WritesUpTo ours fault input old new → WritesUpTo theirs fault input old new
+  writes_up_to : (fault : ListFault Rejection) (input old new : Option (List ℕ)) → WritesUpTo ours fault input old new → WritesUpTo theirs fault input old new
   writes_up_to fault None old new w = w
   writes_up_to fault (Some bytes) old new w = (w.0, (stops_on bytes w.0 fault w.1.0, w.1.1))
 
@@ -79,11 +79,11 @@ module _ {E : Type 0} (p : Ghosts E) (form : Form) (list : ListOptions) (Picked 
   writes_beginning None old new w = w
   writes_beginning (Some bytes) old new w = (w.0, (⊎_elim (λ b. inl (one_begun bytes w.0 b)) (λ o. inr (one_output bytes w.0 o)) w.1.0, w.1.1))
 
-  one_run : (input left old new : Option (List ℕ)) (answer : Result ⊤ (ListFault Refusal)) → IsRun ours input left old new answer → IsRun theirs input left old new answer
+  one_run : (input left old new : Option (List ℕ)) (answer : Result ⊤ (ListFault Rejection)) → IsRun ours input left old new answer → IsRun theirs input left old new answer
   one_run input left old new (Ok done) r = record { all_read = r.all_read; written = writes_output input old new r.written; stopped = r.stopped; beginning = λ e. writes_beginning input old new (r.beginning e) }
   one_run input left old new (Err fault) r = record { all_read = r.all_read; written = r.written; stopped = λ other. writes_up_to fault input old new (r.stopped other); beginning = λ e. writes_beginning input old new (r.beginning e) }
 
-  pub same_runs : {X : Type 0} (fault : ListFault Refusal → X) (input left old new : Option (List ℕ)) (answer : Result ⊤ X) → Runs ours fault input left old new answer → Runs theirs fault input left old new answer
+  pub same_runs : {X : Type 0} (fault : ListFault Rejection → X) (input left old new : Option (List ℕ)) (answer : Result ⊤ X) → Runs ours fault input left old new answer → Runs theirs fault input left old new answer
   same_runs fault input left old new answer r = (r.0, (one_run input left old new r.0 r.1.0, r.1.1))
 
 not_nil : {X : Type 0} {x : X} {xs : List X} → x ∷ xs ≡ [] → ⊥

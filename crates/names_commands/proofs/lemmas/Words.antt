@@ -4,11 +4,11 @@ use Rattle.std.specs.Prelude.{Result, Ok, Err}
 use Rattle.os_command_line.specs.Shell.{IsRead, language}
 use Rattle.os_command_line.specs.declared.shell.fault.WordsFault.{WordsFault}
 use Rattle.program_frame.specs.declared.lists.fault.ItemFault.{ItemFault}
-use Rattle.program_frame.specs.declared.lists.fault.ItemFault.TheVariants.{Refused, TooLong, Memory}
+use Rattle.program_frame.specs.declared.lists.fault.ItemFault.TheVariants.{Rejected, TooLong, Memory}
 use Rattle.program_frame.specs.ListOptions.{byte_of}
 use Rattle.program_frame.specs.declared.lists.options.ListOptions.{ListOptions}
-use Rattle.names_commands.specs.declared.fault.Refusal.{Refusal}
-use Rattle.names_commands.specs.declared.fault.Refusal.TheVariants.{NoString, BadEscape, NotCanonical, HasNul, HasNewline, EndsInReturn as InReturn, EmptyLine, BadWords}
+use Rattle.names_commands.specs.declared.fault.Rejection.{Rejection}
+use Rattle.names_commands.specs.declared.fault.Rejection.TheVariants.{NoString, BadEscape, NotCanonical, HasNul, HasNewline, EndsInReturn as InReturn, EmptyLine, BadWords}
 use Rattle.names_commands.specs.Names.{EndsInReturn}
 use Rattle.names_commands.specs.Words.{IsName, AreNames, AreNamesOf, Comes, IsAfterNames, IsWordFault, IsLineFault}
 
@@ -50,14 +50,14 @@ module _ (list : ListOptions) (line : List ℕ) where
     word_after left old new word b = (other, (b.items, b.read, b.comes (Ok word) (inl refl)))
 
     -- what keeps a word from being a name keeps the line
-    pub word_fault : (left : List (Result (List ℕ) WordsFault)) (old new word : List ℕ) (fault : ItemFault Refusal) → IsBegun list line (Ok word ∷ left) old new → IsWordFault list word fault → IsLineFault list line fault
-    word_fault left old new word (Refused HasNul) b h = (word, word_after left old new word b, h)
-    word_fault left old new word (Refused HasNewline) b h = (word, word_after left old new word b, h)
-    word_fault left old new word (Refused (NoString error)) b h = absurd h
-    word_fault left old new word (Refused (BadEscape index)) b h = absurd h
-    word_fault left old new word (Refused NotCanonical) b h = absurd h
-    word_fault left old new word (Refused InReturn) b h = absurd h
-    word_fault left old new word (Refused EmptyLine) b h = absurd h
-    word_fault left old new word (Refused (BadWords fault)) b h = absurd h
+    pub word_fault : (left : List (Result (List ℕ) WordsFault)) (old new word : List ℕ) (fault : ItemFault Rejection) → IsBegun list line (Ok word ∷ left) old new → IsWordFault list word fault → IsLineFault list line fault
+    word_fault left old new word (Rejected HasNul) b h = (word, word_after left old new word b, h)
+    word_fault left old new word (Rejected HasNewline) b h = (word, word_after left old new word b, h)
+    word_fault left old new word (Rejected (NoString error)) b h = absurd h
+    word_fault left old new word (Rejected (BadEscape index)) b h = absurd h
+    word_fault left old new word (Rejected NotCanonical) b h = absurd h
+    word_fault left old new word (Rejected InReturn) b h = absurd h
+    word_fault left old new word (Rejected EmptyLine) b h = absurd h
+    word_fault left old new word (Rejected (BadWords fault)) b h = absurd h
     word_fault left old new word TooLong b h = (word, word_after left old new word b, h)
     word_fault left old new word Memory b h = tt

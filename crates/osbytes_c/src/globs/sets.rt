@@ -3,13 +3,13 @@ ghost use Rattle.std.specs.Prelude.{◌≡◌, ◌≢◌, ◌<◌, ◌≤◌, �
 ghost use Rattle.osbytes_c.specs.Answers.{IsOneOf, IsWritten};
 ghost use Rattle.osbytes_c.specs.Globs.{AreNoOptions, IsGlobFault, IsNoSet, glob_options};
 ghost use Rattle.osbytes_c.specs.ItemLists.{HasOther};
-ghost use Rattle.osbytes_c.specs.GlobSets.{AreToldBy, AreToldOn, HasOtherBy, HasOtherOn, IsAnswer, IsAnswerOf, IsAnswerOn, IsKept, IsMade, IsSame, IsSetOf, IsToldRefusal};
+ghost use Rattle.osbytes_c.specs.GlobSets.{AreReportedBy, AreReportedOn, HasOtherBy, HasOtherOn, IsAnswer, IsAnswerOf, IsAnswerOn, IsKept, IsMade, IsSame, IsSetOf, IsReportedRejection};
 ghost use Rattle.osbytes_c.specs.Platforms.{formed_on, units_on};
 ghost use Rattle.osbytes_c.specs.Statuses.{done, empty, faulty, full, no_memory, no_option, no_pattern, no_platform, no_room};
 
 use crate::built::write_list;
 use crate::globs::places::{HeldGlobs, is_full, put, take};
-use crate::globs::{GlobFault, Refusal, made_on, options_of, told_of};
+use crate::globs::{GlobFault, Rejection, made_on, options_of, reported_of};
 use crate::status::{
     DONE, EMPTY, FAULTY, FULL, NO_MEMORY, NO_OPTION, NO_PATTERN, NO_PLATFORM, NONE,
 };
@@ -70,9 +70,9 @@ pub extern "C" fn osb_core_globs_new(
     }
     match made(alloc, platform, options, patterns) {
         Ok(set) => keep(alloc, held, set),
-        Err(Refusal::Memory) => NO_MEMORY,
-        Err(Refusal::Faulty) => FAULTY,
-        Err(Refusal::Fault(found)) => {
+        Err(Rejection::Memory) => NO_MEMORY,
+        Err(Rejection::Faulty) => FAULTY,
+        Err(Rejection::Fault(found)) => {
             *fault = found;
             NO_PATTERN
         }
@@ -101,10 +101,10 @@ fn made(
     platform: u32,
     options: GlobOptions,
     patterns: &[&[u8]],
-) -> Result<PlatformGlobs, Refusal>
+) -> Result<PlatformGlobs, Rejection>
     requires { platform ≤ 2 }
     ensures { MatchResult result (λ set. IsSetOf platform options patterns.now set)
-        (λ refusal. IsNoSet (formed_on platform) (units_on platform) options patterns.now refusal) }
+        (λ rejection. IsNoSet (formed_on platform) (units_on platform) options patterns.now rejection) }
 {
     match platform {
         0 => Ok(PlatformGlobs::Unix(made_on(alloc, options, patterns)?)),
@@ -124,9 +124,9 @@ pub extern "C" fn osb_core_globs_is_match(held: &mut HeldGlobs, path: &[u8]) -> 
         return EMPTY;
     }
     let globs = take(held);
-    let told = answer(&*globs.set, path);
+    let reported = answer(&*globs.set, path);
     put(held, globs);
-    told
+    reported
 }
 
 /// Whether a pattern of this set matches a path.
@@ -161,7 +161,7 @@ pub extern "C" fn osb_core_globs_matches(
     matched: &mut [u8],
     count: &mut usize,
 ) -> u32
-    ensures written { IsWritten result (AreToldBy held.old.globs paths.now) matched.old matched.new
+    ensures written { IsWritten result (AreReportedBy held.old.globs paths.now) matched.old matched.new
         count.new }
     ensures strings { result ≡ faulty → HasOtherBy held.old.globs paths.now }
     ensures none { (result ≡ empty) ↔ (is_some held.old.globs ≡ false) }
@@ -172,40 +172,40 @@ pub extern "C" fn osb_core_globs_matches(
         return EMPTY;
     }
     let globs = take(held);
-    let status = write_told(alloc, &*globs.set, paths, matched, count);
+    let status = write_reported(alloc, &*globs.set, paths, matched, count);
     put(held, globs);
     status
 }
 
 /// Writes whether a set matches each path of a list.
-fn write_told(
+fn write_reported(
     alloc: Global,
     globs: &PlatformGlobs,
     paths: &[&[u8]],
     matched: &mut [u8],
     count: &mut usize,
 ) -> u32
-    ensures written { IsWritten result (AreToldOn globs.now paths.now) matched.old matched.new
+    ensures written { IsWritten result (AreReportedOn globs.now paths.now) matched.old matched.new
         count.new }
     ensures strings { result ≡ faulty → HasOtherOn globs.now paths.now }
     ensures answers { IsOneOf (done ∷ faulty ∷ no_room ∷ no_memory ∷ []) result }
 {
-    match told_by(alloc, globs, paths) {
+    match reported_by(alloc, globs, paths) {
         Ok(answers) => write_list(&answers, matched, count),
-        Err(Refusal::Memory) => NO_MEMORY,
+        Err(Rejection::Memory) => NO_MEMORY,
         Err(_) => FAULTY,
     }
 }
 
 /// Returns a byte for each path of a list: whether the set matches it.
-fn told_by(alloc: Global, globs: &PlatformGlobs, paths: &[&[u8]]) -> Result<Vec<u8>, Refusal>
-    ensures { MatchResult result (λ answers. AreToldOn globs.now paths.now answers.items)
-        (λ refusal. IsToldRefusal globs.now paths.now refusal) }
+fn reported_by(alloc: Global, globs: &PlatformGlobs, paths: &[&[u8]]) -> Result<Vec<u8>, Rejection>
+    ensures { MatchResult result (λ answers. AreReportedOn globs.now paths.now answers.items)
+        (λ rejection. IsReportedRejection globs.now paths.now rejection) }
 {
     match globs {
-        PlatformGlobs::Unix(set) => told_of(alloc, set, paths),
-        PlatformGlobs::Windows(set) => told_of(alloc, set, paths),
-        PlatformGlobs::Wasm(set) => told_of(alloc, set, paths),
+        PlatformGlobs::Unix(set) => reported_of(alloc, set, paths),
+        PlatformGlobs::Windows(set) => reported_of(alloc, set, paths),
+        PlatformGlobs::Wasm(set) => reported_of(alloc, set, paths),
     }
 }
 

@@ -73,12 +73,12 @@ pub extern "C" fn osb_core_path_join_checked(
     };
     match join_checked(alloc, style, base, path) {
         Ok(joined) => write_list(&joined, out, count),
-        Err(error) => refused(error, fault),
+        Err(error) => rejected(error, fault),
     }
 }
 
 /// The status of a path that isn't joined, and its fault.
-fn refused(error: JoinError, fault: &mut JoinFault) -> u32
+fn rejected(error: JoinError, fault: &mut JoinFault) -> u32
     ensures path { result ≡ bad_path → (error ≢ memory_error)
         × ((fault.new.reason ≡ reason_number error) × (fault.new.index ≡ reason_index error)) }
     ensures answers { IsOneOf (no_memory ∷ bad_path ∷ []) result }

@@ -8,7 +8,7 @@ ghost use Rattle.osbytes_c.specs.Answers.{IsOneOf};
 ghost use Rattle.osbytes_c.specs.PathSpans.{style_on};
 ghost use Rattle.osbytes_c.specs.Statuses.{done, no_platform, none};
 
-use crate::status::{DONE, NO_PLATFORM, NONE, told};
+use crate::status::{DONE, NO_PLATFORM, NONE, reported};
 use path_rules::{Style, ends_with, has_root, is_absolute, starts_with, strip_prefix};
 
 /// A part of a string, as a pointer and a length.
@@ -42,7 +42,7 @@ pub extern "C" fn osb_core_path_has_root(platform: u32, path: &[u8]) -> u32
     ensures answers { IsOneOf (done ∷ none ∷ no_platform ∷ []) result }
 {
     match style_of(platform) {
-        Some(style) => told(has_root(style, path)),
+        Some(style) => reported(has_root(style, path)),
         None => NO_PLATFORM,
     }
 }
@@ -56,7 +56,7 @@ pub extern "C" fn osb_core_path_is_absolute(platform: u32, path: &[u8]) -> u32
     ensures answers { IsOneOf (done ∷ none ∷ no_platform ∷ []) result }
 {
     match style_of(platform) {
-        Some(style) => told(is_absolute(style, path)),
+        Some(style) => reported(is_absolute(style, path)),
         None => NO_PLATFORM,
     }
 }
@@ -70,7 +70,7 @@ pub extern "C" fn osb_core_path_starts_with(platform: u32, path: &[u8], base: &[
     ensures answers { IsOneOf (done ∷ none ∷ no_platform ∷ []) result }
 {
     match style_of(platform) {
-        Some(style) => told(starts_with(style, path, base)),
+        Some(style) => reported(starts_with(style, path, base)),
         None => NO_PLATFORM,
     }
 }
@@ -84,7 +84,7 @@ pub extern "C" fn osb_core_path_ends_with(platform: u32, path: &[u8], child: &[u
     ensures answers { IsOneOf (done ∷ none ∷ no_platform ∷ []) result }
 {
     match style_of(platform) {
-        Some(style) => told(ends_with(style, path, child)),
+        Some(style) => reported(ends_with(style, path, child)),
         None => NO_PLATFORM,
     }
 }

@@ -4,7 +4,7 @@ ghost use Rattle.wtf8_core.specs.Boundary.{IsBoundary};
 ghost use Rattle.osbytes_c.specs.Answers.{IsOneOf};
 ghost use Rattle.osbytes_c.specs.Statuses.{done, none};
 
-use crate::status::told;
+use crate::status::reported;
 use crate::strings::unix;
 use os_str_ext::OsStrBytesExt;
 
@@ -15,5 +15,5 @@ pub extern "C" fn osb_core_is_boundary(bytes: &[u8], index: usize) -> u32
     ensures none { result ≡ none → ¬ (IsBoundary bytes.now index) }
     ensures answers { IsOneOf (done ∷ none ∷ []) result }
 {
-    told(unix(bytes).is_boundary(index))
+    reported(unix(bytes).is_boundary(index))
 }

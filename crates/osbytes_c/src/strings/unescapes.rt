@@ -79,7 +79,7 @@ fn unescape<E: Platform>(escape: &[u8], out: &mut [u8], count: &mut usize, index
             *count = written;
             fits(written, out.len())
         }
-        Err(error) => refused(error, index),
+        Err(error) => rejected(error, index),
     }
 }
 
@@ -106,12 +106,12 @@ fn unescape_line<E: Platform>(
             *count = written;
             fits(written, out.len())
         }
-        Err(error) => refused(error, index),
+        Err(error) => rejected(error, index),
     }
 }
 
 /// The status of a text that isn't read.
-fn refused(error: QuoteError, index: &mut usize) -> u32
+fn rejected(error: QuoteError, index: &mut usize) -> u32
     ensures token { result ≡ bad_escape → error ≡ QuoteError.BadEscape index.new }
     ensures string { result ≡ no_string → error ≢ QuoteError.Memory
         → error ≡ QuoteError.NotCanonical }

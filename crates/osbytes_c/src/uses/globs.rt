@@ -1,8 +1,8 @@
 //! For trying: what a caller of the call that matches path patterns concludes, in each outcome.
 ghost use Rattle.std.specs.Prelude.{◌≡◌, ◌≢◌, ◌<◌, ◌↔◌, ◌∷◌, [], None, is_some, false, true, take, IfOk, IfErr};
 ghost use Rattle.osbytes_c.specs.Answers.{IsOneOf};
-ghost use Rattle.osbytes_c.specs.GlobSets.{IsAnswer, IsAsked};
-ghost use Rattle.osbytes_c.specs.Globs.{AreMatchesTold, AreNoOptions, HasUnstring, IsGlobFault, glob_options};
+ghost use Rattle.osbytes_c.specs.GlobSets.{IsAnswer, IsMatchedBy};
+ghost use Rattle.osbytes_c.specs.Globs.{AreMatchesReported, AreNoOptions, HasUnstring, IsGlobFault, glob_options};
 ghost use Rattle.osbytes_c.specs.ItemLists.{HasOther};
 ghost use Rattle.osbytes_c.specs.Platforms.{formed_on, units_on};
 
@@ -18,7 +18,7 @@ use std::alloc::Global;
 
 /// The number of paths that a buffer has a byte for: whether a pattern matches the path. Else the
 /// status, and the fault of the first pattern that has one.
-pub fn told_in(
+pub fn reported_in(
     alloc: Global,
     platform: u32,
     options: u32,
@@ -27,7 +27,7 @@ pub fn told_in(
     buffer: &mut [u8],
     fault: &mut GlobFault,
 ) -> Result<usize, u32>
-    ensures told { IfOk result (λ count. AreMatchesTold (formed_on platform) (units_on platform)
+    ensures reported { IfOk result (λ count. AreMatchesReported (formed_on platform) (units_on platform)
         (glob_options options) patterns.now paths.now (take count buffer.new)) }
     ensures pattern { IfErr result (λ code. code ≡ 17 → IsGlobFault (formed_on platform)
         (units_on platform) (glob_options options) patterns.now fault.new) }
@@ -48,7 +48,7 @@ pub fn told_in(
 
 /// What a kept set returns for a path: 0 a pattern matches it, 3 none does, 1 it isn't a string. 99
 /// means that there was no set.
-pub fn asked(
+pub fn matched_once(
     alloc: Global,
     platform: u32,
     options: u32,
@@ -57,19 +57,19 @@ pub fn asked(
     held: &mut HeldGlobs,
     fault: &mut GlobFault,
 ) -> u32
-    ensures { result ≢ 99 → IsAsked platform (glob_options options) patterns.now path.now result }
+    ensures { result ≢ 99 → IsMatchedBy platform (glob_options options) patterns.now path.now result }
 {
     if osb_core_globs_new(alloc, platform, options, patterns, held, fault) != DONE {
         return 99;
     }
-    let told = osb_core_globs_is_match(held, path);
+    let reported = osb_core_globs_is_match(held, path);
     let _freed = osb_core_globs_free(held);
-    told
+    reported
 }
 
 /// The number of paths that a kept set writes a byte for into a buffer: whether a pattern matches
 /// the path. Else a status.
-pub fn told_kept(
+pub fn reported_kept(
     alloc: Global,
     platform: u32,
     options: u32,
@@ -79,7 +79,7 @@ pub fn told_kept(
     held: &mut HeldGlobs,
     fault: &mut GlobFault,
 ) -> Result<usize, u32>
-    ensures { IfOk result (λ count. AreMatchesTold (formed_on platform) (units_on platform)
+    ensures { IfOk result (λ count. AreMatchesReported (formed_on platform) (units_on platform)
         (glob_options options) patterns.now paths.now (take count buffer.new)) }
 {
     let made = osb_core_globs_new(alloc, platform, options, patterns, held, fault);
@@ -97,8 +97,8 @@ pub fn told_kept(
 
 /// What a place that shares the set of another returns for a path once the other is freed, which is
 /// what that one would have returned. Else why it isn't shared.
-pub fn asked_shared(held: &mut HeldGlobs, other: &mut HeldGlobs, path: &[u8]) -> Result<u32, u32>
-    ensures told { IfOk result (IsAnswer path.now held.old.globs) }
+pub fn matched_shared(held: &mut HeldGlobs, other: &mut HeldGlobs, path: &[u8]) -> Result<u32, u32>
+    ensures reported { IfOk result (IsAnswer path.now held.old.globs) }
     ensures none { IfErr result (λ status. status ≡ 26 → is_some held.old.globs ≡ false) }
     ensures full { IfErr result (λ status. status ≡ 25 → is_some other.old.globs ≡ true) }
     ensures answers { IfErr result (IsOneOf (11 ∷ 25 ∷ 26 ∷ [])) }

@@ -2,7 +2,7 @@
 ghost use Rattle.std.specs.Prelude.{◌≡◌, ◌<◌, ◌↔◌, ◌∷◌, [], ℕ, List, None, is_some, length, take, true, IfOk, IfErr};
 ghost use Rattle.osbytes_c.specs.Answers.{IsOneOf};
 ghost use Rattle.osbytes_c.specs.IgnoreSets.{IsDecidedOf};
-ghost use Rattle.osbytes_c.specs.Ignores.{AreToldOf};
+ghost use Rattle.osbytes_c.specs.Ignores.{AreReportedOf};
 ghost use Rattle.osbytes_c.specs.ItemLists.{AreItems};
 
 use crate::ignores::places::HeldIgnores;
@@ -10,7 +10,7 @@ use crate::ignores::sets::{
     Decision, osb_core_ignores_add, osb_core_ignores_free, osb_core_ignores_match,
     osb_core_ignores_new,
 };
-use crate::ignores::{Told, osb_core_ignore_matches};
+use crate::ignores::{Report, osb_core_ignore_matches};
 use crate::status::DONE;
 use crate::uses::len_of;
 use std::alloc::Global;
@@ -21,9 +21,9 @@ pub fn verdicts_in(
     file: &[u8],
     paths: &[&[u8]],
     flags: &[u8],
-    array: &mut [Told],
+    array: &mut [Report],
 ) -> Result<usize, u32>
-    ensures told { IfOk result (λ count. AreToldOf file.now flags.now paths.now
+    ensures reported { IfOk result (λ count. AreReportedOf file.now flags.now paths.now
         (take count array.new)) }
     ensures room { IfErr result (λ status. status ≡ 2 → (names : List (List ℕ))
         × (AreItems paths.now names × (length array.old < length names))) }

@@ -43,7 +43,7 @@ pub fn is_fed(opened: &mut Open, piece: &[u8]) -> bool
         → OpenDescribes opened.new (fed ++ piece.now) }
     ensures known { result ≡ true → opened.new.state < 16 }
     ensures kept { result ≡ false → opened.new ≡ opened.old }
-    ensures refused { result ≡ false → opened.old.state < 16 → (fed : List ℕ)
+    ensures rejected { result ≡ false → opened.old.state < 16 → (fed : List ℕ)
         → OpenDescribes opened.old fed
         → (report : Fault) × ReportsFaulty (fed ++ piece.now) report }
 {

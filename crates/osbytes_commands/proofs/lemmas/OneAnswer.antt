@@ -26,8 +26,8 @@ use Rattle.osbytes_commands.specs.declared.fault.Fault.{Fault}
 use Rattle.osbytes_commands.specs.declared.fault.Fault.TheVariants.{Refused, BadLine, BadQuote, Usage, Memory, Read, Write}
 use Rattle.osbytes_commands.specs.Command.{os_of}
 use Rattle.program_frame.specs.Strings.{strings}
-use Rattle.osbytes_commands.specs.Output.{IsOutput, IsRefusal, HasFaultOn, HasBadLine, HasBadQuoteOn}
-use Rattle.osbytes_commands.specs.Run.{AnswersRefusal}
+use Rattle.osbytes_commands.specs.Output.{IsOutput, IsRejection, HasFaultOn, HasBadLine, HasBadQuoteOn}
+use Rattle.osbytes_commands.specs.Run.{AnswersRejection}
 use Rattle.osbytes_commands.proofs.lemmas.UnitLines.{one_list_of_lines, one_bad_line, no_bad_line}
 
 -- the laws of the platform
@@ -87,14 +87,14 @@ output_or_bad_quote (Chunks os) input output error h k = k
 output_or_bad_quote (Quote os) input output error h k = k
 output_or_bad_quote (Unquote os) input output error h k = not_escaped os input output error h.0 h.1 k.1 k.2
 
-pub output_or_refusal : (command : Command) (input output : List ℕ) (fault : Fault) → IsOutput command input output → IsRefusal command input fault → ⊥
-output_or_refusal command input output (Refused error) h k = output_or_fault command input output error h k
-output_or_refusal command input output (BadLine number) h k = output_or_bad_line command input output number h k
-output_or_refusal command input output (BadQuote error) h k = output_or_bad_quote command input output error h k
-output_or_refusal command input output Usage h k = k
-output_or_refusal command input output Memory h k = k
-output_or_refusal command input output Read h k = k
-output_or_refusal command input output Write h k = k
+pub output_or_rejection : (command : Command) (input output : List ℕ) (fault : Fault) → IsOutput command input output → IsRejection command input fault → ⊥
+output_or_rejection command input output (Refused error) h k = output_or_fault command input output error h k
+output_or_rejection command input output (BadLine number) h k = output_or_bad_line command input output number h k
+output_or_rejection command input output (BadQuote error) h k = output_or_bad_quote command input output error h k
+output_or_rejection command input output Usage h k = k
+output_or_rejection command input output Memory h k = k
+output_or_rejection command input output Read h k = k
+output_or_rejection command input output Write h k = k
 
 one_fault : (command : Command) (input : List ℕ) (d e : EncodingError) → HasFault command input d → HasFault command input e → d ≡ e
 one_fault (Units os) input d e h k = (laws os).one_fault input d e h k
@@ -159,34 +159,34 @@ bad_line_or_bad_quote (Chunks os) input number bad h k = k
 bad_line_or_bad_quote (Quote os) input number bad h k = k
 bad_line_or_bad_quote (Unquote os) input number bad h k = h
 
-pub one_refusal : (command : Command) (input : List ℕ) (f g : Fault) → IsRefusal command input f → IsRefusal command input g → f ≡ g
-one_refusal command input (Refused d) (Refused e) h k = ap Refused (one_fault command input d e h k)
-one_refusal command input (Refused d) (BadLine n) h k = absurd (fault_or_bad_line command input d n h k)
-one_refusal command input (BadLine m) (Refused e) h k = absurd (fault_or_bad_line command input e m k h)
-one_refusal command input (BadLine m) (BadLine n) h k = ap BadLine (one_bad command input m n h k)
-one_refusal command input (Refused d) (BadQuote b) h k = absurd (fault_or_bad_quote command input d b h k)
-one_refusal command input (BadLine m) (BadQuote b) h k = absurd (bad_line_or_bad_quote command input m b h k)
-one_refusal command input (BadQuote b) (Refused e) h k = absurd (fault_or_bad_quote command input e b k h)
-one_refusal command input (BadQuote b) (BadLine n) h k = absurd (bad_line_or_bad_quote command input n b k h)
-one_refusal command input (BadQuote b) (BadQuote c) h k = ap BadQuote (one_bad_quote command input b c h k)
-one_refusal command input (Refused d) _ h k = absurd k
-one_refusal command input (BadLine m) _ h k = absurd k
-one_refusal command input (BadQuote b) _ h k = absurd k
-one_refusal command input _ g h k = absurd h
+pub one_rejection : (command : Command) (input : List ℕ) (f g : Fault) → IsRejection command input f → IsRejection command input g → f ≡ g
+one_rejection command input (Refused d) (Refused e) h k = ap Refused (one_fault command input d e h k)
+one_rejection command input (Refused d) (BadLine n) h k = absurd (fault_or_bad_line command input d n h k)
+one_rejection command input (BadLine m) (Refused e) h k = absurd (fault_or_bad_line command input e m k h)
+one_rejection command input (BadLine m) (BadLine n) h k = ap BadLine (one_bad command input m n h k)
+one_rejection command input (Refused d) (BadQuote b) h k = absurd (fault_or_bad_quote command input d b h k)
+one_rejection command input (BadLine m) (BadQuote b) h k = absurd (bad_line_or_bad_quote command input m b h k)
+one_rejection command input (BadQuote b) (Refused e) h k = absurd (fault_or_bad_quote command input e b k h)
+one_rejection command input (BadQuote b) (BadLine n) h k = absurd (bad_line_or_bad_quote command input n b k h)
+one_rejection command input (BadQuote b) (BadQuote c) h k = ap BadQuote (one_bad_quote command input b c h k)
+one_rejection command input (Refused d) _ h k = absurd k
+one_rejection command input (BadLine m) _ h k = absurd k
+one_rejection command input (BadQuote b) _ h k = absurd k
+one_rejection command input _ g h k = absurd h
 
 -- the result of a run that read all the input, and then had no memory for it or rejected it
-pub refused : {T : Type 0} (command : Command) (input left : Option (List ℕ)) (bytes : List ℕ) (answer : Result T Fault) (given : Fault)
-    → Consumes input left bytes → IsAtEnd left → answer ≡ Err given → (given ≡ Memory) ⊎ IsRefusal command bytes given → AnswersRefusal command input answer
-refused command input left bytes answer given read end is (inl memory) =
-    Consumes-whole input left bytes _ read end (λ fault refusal. inr (inr (is ∙ ap Err memory)))
-refused command input left bytes answer given read end is (inr refusal) =
-    Consumes-whole input left bytes _ read end (λ fault other. inl (is ∙ ap Err (one_refusal command bytes given fault refusal other)))
+pub rejected : {T : Type 0} (command : Command) (input left : Option (List ℕ)) (bytes : List ℕ) (answer : Result T Fault) (given : Fault)
+    → Consumes input left bytes → IsAtEnd left → answer ≡ Err given → (given ≡ Memory) ⊎ IsRejection command bytes given → AnswersRejection command input answer
+rejected command input left bytes answer given read end is (inl memory) =
+    Consumes-whole input left bytes _ read end (λ fault rejection. inr (inr (is ∙ ap Err memory)))
+rejected command input left bytes answer given read end is (inr rejection) =
+    Consumes-whole input left bytes _ read end (λ fault other. inl (is ∙ ap Err (one_rejection command bytes given fault rejection other)))
 
 -- the result of a run that read all the input, and had an output for it
-pub not_refused : {T : Type 0} (command : Command) (input left : Option (List ℕ)) (bytes output : List ℕ) (answer : Result T Fault)
-    → Consumes input left bytes → IsAtEnd left → IsOutput command bytes output → AnswersRefusal command input answer
-not_refused command input left bytes output answer read end given =
-    Consumes-whole input left bytes _ read end (λ fault refusal. absurd (output_or_refusal command bytes output fault given refusal))
+pub not_rejected : {T : Type 0} (command : Command) (input left : Option (List ℕ)) (bytes output : List ℕ) (answer : Result T Fault)
+    → Consumes input left bytes → IsAtEnd left → IsOutput command bytes output → AnswersRejection command input answer
+not_rejected command input left bytes output answer read end given =
+    Consumes-whole input left bytes _ read end (λ fault rejection. absurd (output_or_rejection command bytes output fault given rejection))
 
 -- what holds of any bytes holds of those that are known
 pub of_known : (input : Option (List ℕ)) (P : List ℕ → Type 0) → ((bytes : List ℕ) → P bytes) → IfSome input P

@@ -11,20 +11,20 @@ use Rattle.osbytes_commands.specs.declared.fault.Fault.TheVariants.{Refused, Bad
 use Rattle.program_frame.specs.Os.{os_word}
 use Rattle.osbytes_commands.specs.Command.{words_of, IsUnusable}
 use Rattle.osbytes_commands.specs.Lines.{index_line, piece_lines}
-use Rattle.osbytes_commands.specs.Output.{IsOutput, IsRefusal, IsOfInput, FindsFirst, AreSplit}
+use Rattle.osbytes_commands.specs.Output.{IsOutput, IsRejection, IsOfInput, FindsFirst, AreSplit}
 use Rattle.osbytes_commands.specs.Program.{IsOutcome}
 use Rattle.program_frame.specs.Strings.{strings}
 use Rattle.program_frame.specs.Written.{AppendsBeginning}
 
--- the refusals of `split` at a text
-abbrev SplitRefusal : Os → List ℕ → List ℕ → Fault → Type 0
-SplitRefusal os text input (Refused error) = (0 < length text) × (strings os).first_fault input error
-SplitRefusal os text input (BadLine number) = ⊥
-SplitRefusal os text input (BadQuote error) = ⊥
-SplitRefusal os text input Usage = ⊥
-SplitRefusal os text input Memory = ⊥
-SplitRefusal os text input Read = ⊥
-SplitRefusal os text input Write = ⊥
+-- the rejections of `split` at a text
+abbrev SplitRejection : Os → List ℕ → List ℕ → Fault → Type 0
+SplitRejection os text input (Refused error) = (0 < length text) × (strings os).first_fault input error
+SplitRejection os text input (BadLine number) = ⊥
+SplitRejection os text input (BadQuote error) = ⊥
+SplitRejection os text input Usage = ⊥
+SplitRejection os text input Memory = ⊥
+SplitRejection os text input Read = ⊥
+SplitRejection os text input Write = ⊥
 
 same_os : (a b : Os) → os_word a ≡ os_word b → a ≡ b
 same_os Unix Unix e = refl
@@ -59,22 +59,22 @@ letter_is (Unquote os) = refl
 same_letter : (c d : Command) → words_of c ≡ words_of d → letter c ≡ letter d
 same_letter c d e = letter_is c ∙ ap (λ words. get_or (get_or words 0 []) 2 0) e ∙ sym (letter_is d)
 
--- what holds of one command's output, of its refusals and of whether it can't run holds of another's with the same arguments
+-- what holds of one command's output, of its rejections and of whether it can't run holds of another's with the same arguments
 same_meaning : (M : (List ℕ → List ℕ → Type 0) → (List ℕ → Fault → Type 0) → Type 0 → Type 0) (c d : Command) → words_of c ≡ words_of d
-    → M (IsOutput c) (IsRefusal c) (IsUnusable c) → M (IsOutput d) (IsRefusal d) (IsUnusable d)
-same_meaning M (Units a) (Units b) e m = subst (λ os. M (IsOutput (Units os)) (IsRefusal (Units os)) ⊥) (same_os a b (ap (λ words. get_or words 1 []) e)) m
-same_meaning M (Raw a) (Raw b) e m = subst (λ os. M (IsOutput (Raw os)) (IsRefusal (Raw os)) ⊥) (same_os a b (ap (λ words. get_or words 1 []) e)) m
-same_meaning M (Chunks a) (Chunks b) e m = subst (λ os. M (IsOutput (Chunks os)) (IsRefusal (Chunks os)) ⊥) (same_os a b (ap (λ words. get_or words 1 []) e)) m
-same_meaning M (Quote a) (Quote b) e m = subst (λ os. M (IsOutput (Quote os)) (IsRefusal (Quote os)) ⊥) (same_os a b (ap (λ words. get_or words 1 []) e)) m
-same_meaning M (Unquote a) (Unquote b) e m = subst (λ os. M (IsOutput (Unquote os)) (IsRefusal (Unquote os)) ⊥) (same_os a b (ap (λ words. get_or words 1 []) e)) m
+    → M (IsOutput c) (IsRejection c) (IsUnusable c) → M (IsOutput d) (IsRejection d) (IsUnusable d)
+same_meaning M (Units a) (Units b) e m = subst (λ os. M (IsOutput (Units os)) (IsRejection (Units os)) ⊥) (same_os a b (ap (λ words. get_or words 1 []) e)) m
+same_meaning M (Raw a) (Raw b) e m = subst (λ os. M (IsOutput (Raw os)) (IsRejection (Raw os)) ⊥) (same_os a b (ap (λ words. get_or words 1 []) e)) m
+same_meaning M (Chunks a) (Chunks b) e m = subst (λ os. M (IsOutput (Chunks os)) (IsRejection (Chunks os)) ⊥) (same_os a b (ap (λ words. get_or words 1 []) e)) m
+same_meaning M (Quote a) (Quote b) e m = subst (λ os. M (IsOutput (Quote os)) (IsRejection (Quote os)) ⊥) (same_os a b (ap (λ words. get_or words 1 []) e)) m
+same_meaning M (Unquote a) (Unquote b) e m = subst (λ os. M (IsOutput (Unquote os)) (IsRejection (Unquote os)) ⊥) (same_os a b (ap (λ words. get_or words 1 []) e)) m
 same_meaning M (Find a p) (Find b q) e m =
-    let on_platform = subst (λ os. M (IsOutput (Find os p)) (IsRefusal (Find os p)) ⊥) (same_os a b (ap (λ words. get_or words 1 []) e)) m in
+    let on_platform = subst (λ os. M (IsOutput (Find os p)) (IsRejection (Find os p)) ⊥) (same_os a b (ap (λ words. get_or words 1 []) e)) m in
     let same : p.now ≡ q.now = ap (λ words. get_or words 2 []) e in
-    subst (λ text. M (λ input output. (strings b).well_formed input × ((index : Option ℕ) × FindsFirst (strings b) text input index × (output ≡ index_line index))) (IsRefusal (Find b q)) ⊥) same on_platform
+    subst (λ text. M (λ input output. (strings b).well_formed input × ((index : Option ℕ) × FindsFirst (strings b) text input index × (output ≡ index_line index))) (IsRejection (Find b q)) ⊥) same on_platform
 same_meaning M (Split a p) (Split b q) e m =
-    let on_platform = subst (λ os. M (IsOutput (Split os p)) (IsRefusal (Split os p)) (length p.now ≡ 0)) (same_os a b (ap (λ words. get_or words 1 []) e)) m in
+    let on_platform = subst (λ os. M (IsOutput (Split os p)) (IsRejection (Split os p)) (length p.now ≡ 0)) (same_os a b (ap (λ words. get_or words 1 []) e)) m in
     let same : p.now ≡ q.now = ap (λ words. get_or words 2 []) e in
-    subst (λ text. M (λ input output. (strings b).well_formed input × ((pieces : List (List ℕ)) × AreSplit (strings b) text input pieces × (output ≡ piece_lines pieces))) (SplitRefusal b text) (length text ≡ 0)) same on_platform
+    subst (λ text. M (λ input output. (strings b).well_formed input × ((pieces : List (List ℕ)) × AreSplit (strings b) text input pieces × (output ≡ piece_lines pieces))) (SplitRejection b text) (length text ≡ 0)) same on_platform
 same_meaning M (Units a) d e m = let letters = same_letter (Units a) d e in absurd (omega arith)
 same_meaning M (Raw a) d e m = let letters = same_letter (Raw a) d e in absurd (omega arith)
 same_meaning M (Quote a) d e m = let letters = same_letter (Quote a) d e in absurd (omega arith)
@@ -85,13 +85,13 @@ same_meaning M (Split a p) d e m = let letters = same_letter (Split a p) d e in 
 
 -- a command with the words of one that can't run can't run
 pub same_unusable : (c d : Command) (words : List (List ℕ)) → words ≡ words_of c → IsUnusable c → words ≡ words_of d → IsUnusable d
-same_unusable c d words of_c unusable of_d = let e : words_of c ≡ words_of d = sym of_c ∙ of_d in same_meaning (λ Writes Refuses Unusable. Unusable) c d e unusable
+same_unusable c d words of_c unusable of_d = let e : words_of c ≡ words_of d = sym of_c ∙ of_d in same_meaning (λ Writes Rejects Unusable. Unusable) c d e unusable
 
 pub same_outcome : {T : Type 0} (c d : Command) (words : List (List ℕ)) (input old new : Option (List ℕ)) (answer : Result T Fault)
     → words ≡ words_of c → IsOutcome c input old new answer → words ≡ words_of d → IsOutcome d input old new answer
 same_outcome c d words input old new answer of_c outcome of_d = let e : words_of c ≡ words_of d = sym of_c ∙ of_d in record {
-  written = same_meaning (λ Writes Refuses Unusable. OnOk answer (IfSome input (λ bytes. (output : List ℕ) × Writes bytes output × Appends old new output))) c d e outcome.written;
-  of_input = same_meaning (λ Writes Refuses Unusable. IfErr answer (λ fault. IsOfInput fault → IfSome input (λ bytes. Refuses bytes fault))) c d e outcome.of_input;
-  refusal = same_meaning (λ Writes Refuses Unusable. IfSome input (λ bytes. (fault : Fault) → Refuses bytes fault → (answer ≡ Err fault) ⊎ (answer ≡ Err Read) ⊎ (answer ≡ Err Memory))) c d e outcome.refusal;
-  beginning_written = same_meaning (λ Writes Refuses Unusable. answer ≡ Err Write → IfSome input (λ bytes. (output : List ℕ) × Writes bytes output × AppendsBeginning old new output)) c d e outcome.beginning_written;
+  written = same_meaning (λ Writes Rejects Unusable. OnOk answer (IfSome input (λ bytes. (output : List ℕ) × Writes bytes output × Appends old new output))) c d e outcome.written;
+  of_input = same_meaning (λ Writes Rejects Unusable. IfErr answer (λ fault. IsOfInput fault → IfSome input (λ bytes. Rejects bytes fault))) c d e outcome.of_input;
+  rejection = same_meaning (λ Writes Rejects Unusable. IfSome input (λ bytes. (fault : Fault) → Rejects bytes fault → (answer ≡ Err fault) ⊎ (answer ≡ Err Read) ⊎ (answer ≡ Err Memory))) c d e outcome.rejection;
+  beginning_written = same_meaning (λ Writes Rejects Unusable. answer ≡ Err Write → IfSome input (λ bytes. (output : List ℕ) × Writes bytes output × AppendsBeginning old new output)) c d e outcome.beginning_written;
 }

@@ -7,10 +7,10 @@ use Rattle.program_frame.specs.declared.lists.program_fault.Fault.TheVariants.{L
 use Rattle.program_frame.proofs.lemmas.lists.Runs.{no_err}
 use Rattle.paths_commands.specs.Program.{Fault, IsAfter}
 use Rattle.paths_commands.specs.declared.fault.CommandFault.{CommandFault}
-use Rattle.paths_commands.specs.declared.fault.Refusal.{Refusal}
+use Rattle.paths_commands.specs.declared.fault.Rejection.{Rejection}
 
 -- a fault of the arguments is none of the list
-not_both : (answer : Result ⊤ Fault) (why : CommandFault) (fault : ListFault Refusal) → answer ≡ Err (Words why) → answer ≡ Err (OfList fault) → ⊥
+not_both : (answer : Result ⊤ Fault) (why : CommandFault) (fault : ListFault Rejection) → answer ≡ Err (Words why) → answer ≡ Err (OfList fault) → ⊥
 not_both answer why fault e d = cc
 
 not_ok : ◌≡◌ {A = Bool} false true → ⊥

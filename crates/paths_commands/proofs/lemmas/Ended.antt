@@ -7,14 +7,14 @@ use Rattle.path_rules.specs.declared.rules.Style.{Style}
 use Rattle.program_frame.specs.Items.{Lacks}
 use Rattle.program_frame.specs.ListOptions.{byte_of}
 use Rattle.program_frame.specs.declared.lists.fault.ItemFault.{ItemFault}
-use Rattle.program_frame.specs.declared.lists.fault.ItemFault.TheVariants.{Refused, Memory}
+use Rattle.program_frame.specs.declared.lists.fault.ItemFault.TheVariants.{Rejected, Memory}
 use Rattle.program_frame.specs.declared.lists.options.ItemEnd.{ItemEnd}
-use Rattle.paths_commands.specs.Task.{IsAnswer, IsCutShort, IsMade, IsPathText, IsRefusal, IsUnanswered}
-use Rattle.paths_commands.specs.declared.fault.Refusal.{Refusal}
-use Rattle.paths_commands.specs.declared.fault.Refusal.TheVariants.{ResultHas}
+use Rattle.paths_commands.specs.Task.{IsAnswer, IsCutShort, IsMade, IsPathText, IsRejection, IsUnanswered}
+use Rattle.paths_commands.specs.declared.fault.Rejection.{Rejection}
+use Rattle.paths_commands.specs.declared.fault.Rejection.TheVariants.{ResultHas}
 use Rattle.paths_commands.specs.declared.task.Task.{Task}
 use Rattle.paths_commands.specs.declared.task.Task.TheVariants.{Components}
-use Rattle.paths_commands.proofs.lemmas.Refusals.{unanswered_refused}
+use Rattle.paths_commands.proofs.lemmas.Rejections.{unanswered_rejected}
 
 module _ {E : Type 0} (p : Ghosts E) (style : Style) (end : ItemEnd) (task : Task) (path : List ℕ) where
   -- this was appended
@@ -56,9 +56,9 @@ module _ {E : Type 0} (p : Ghosts E) (style : Style) (end : ItemEnd) (task : Tas
   ended_on (Ok done) start old mid new other count made lacks is = ended start old mid new other count made lacks is
   ended_on (Err fault) start old mid new other count made lacks is = tt
 
-  pub cut_on : {X : Type 0} (r : Result X (ItemFault Refusal)) (start : ℕ) (old mid : List ℕ) → task ≢ Components → start ≡ length old → Appended old mid
-      → IfErr r (λ fault. (fault ≡ Memory) ⊎ ((fault ≡ Refused (ResultHas end)) × (¬ (Lacks (byte_of end) (drop start mid)))))
-      → IfErr r (λ fault. (fault ≡ Memory) ⊎ ((why : Refusal) × ((fault ≡ Refused why) × IsRefusal p style end task path why)))
+  pub cut_on : {X : Type 0} (r : Result X (ItemFault Rejection)) (start : ℕ) (old mid : List ℕ) → task ≢ Components → start ≡ length old → Appended old mid
+      → IfErr r (λ fault. (fault ≡ Memory) ⊎ ((fault ≡ Rejected (ResultHas end)) × (¬ (Lacks (byte_of end) (drop start mid)))))
+      → IfErr r (λ fault. (fault ≡ Memory) ⊎ ((why : Rejection) × ((fault ≡ Rejected why) × IsRejection p style end task path why)))
   cut_on (Ok done) start old mid other count made has = tt
   cut_on (Err fault) start old mid other count made has =
       ⊎_elim (λ memory. inl memory) (λ cut. inr (ResultHas end, (cut.0, (refl, cut_short start old mid other count made cut.1)))) has
@@ -68,6 +68,6 @@ module _ {E : Type 0} (p : Ghosts E) (style : Style) (end : ItemEnd) (task : Tas
   taken_on (Err fault) start old mid new count made is = taken start old mid new count made is
 
   -- a path without a result is rejected
-  pub without_result : (fault : ItemFault Refusal) → (fault ≡ Memory) ⊎ ((why : Refusal) × ((fault ≡ Refused why) × IsUnanswered p style task path why))
-      → (fault ≡ Memory) ⊎ ((why : Refusal) × ((fault ≡ Refused why) × IsRefusal p style end task path why))
-  without_result fault is = ⊎_elim (λ memory. inl memory) (λ none. inr (none.0, (none.1.0, unanswered_refused p style end task path none.0 none.1.1))) is
+  pub without_result : (fault : ItemFault Rejection) → (fault ≡ Memory) ⊎ ((why : Rejection) × ((fault ≡ Rejected why) × IsUnanswered p style task path why))
+      → (fault ≡ Memory) ⊎ ((why : Rejection) × ((fault ≡ Rejected why) × IsRejection p style end task path why))
+  without_result fault is = ⊎_elim (λ memory. inl memory) (λ none. inr (none.0, (none.1.0, unanswered_rejected p style end task path none.0 none.1.1))) is

@@ -164,17 +164,17 @@ no_fault w path (base_error.Nul index) is fault = no_nul_after fault.before faul
 no_fault w path base_error.Incomplete is fault = is.1.0 fault.1
 no_fault w path base_error.Reserved is fault = is.1.1 fault.1.1
 
-module _ (given : Line) (task : Task) (os : Os) (asks : HasOperands given (name_of task) os (operands_of_task task)) where
+module _ (given : Line) (task : Task) (os : Os) (requests : HasOperands given (name_of task) os (operands_of_task task)) where
   -- operands are of one task, and the rest are its own
   one_name : (it : DeclaredName) (other : Os) (more : List (List ℕ)) → HasOperands given it other more → it ≡ name_of task
-  one_name it other more has = same_name it (name_of task) (first (sym has ∙ asks))
+  one_name it other more has = same_name it (name_of task) (first (sym has ∙ requests))
 
   one_rest : (it : DeclaredName) (other : Os) (more : List (List ℕ)) → HasOperands given it other more → operands_of_task task ≡ more
-  one_rest it other more has = rest (rest (sym asks ∙ has))
+  one_rest it other more has = rest (rest (sym requests ∙ has))
 
   nothing_missing : (what : List ℕ) → IsMissing given what → ⊥
-  nothing_missing what (inl no_command) = none_some (sym no_command.1 ∙ asks)
-  nothing_missing what (inr (inl no_platform)) = none_some (rest (sym no_platform.1.1 ∙ asks))
+  nothing_missing what (inl no_command) = none_some (sym no_command.1 ∙ requests)
+  nothing_missing what (inr (inl no_platform)) = none_some (rest (sym no_platform.1.1 ∙ requests))
   nothing_missing what (inr (inr no_operand)) =
       let has = no_operand.1.1.0 in
       needs_none task what (one_rest no_operand.0 no_operand.1.0 [] has) (subst (λ it. Needs it what) (one_name no_operand.0 no_operand.1.0 [] has) no_operand.1.1.1)
@@ -183,7 +183,7 @@ module _ (given : Line) (task : Task) (os : Os) (asks : HasOperands given (name_
   no_bad_base what word checked of none =
       let other = none.1.1.1.0 in
       let has = none.1.1.1.1.0 in
-      let same = same_os other os (first (rest (sym has ∙ asks))) in
+      let same = same_os other os (first (rest (sym has ∙ requests))) in
       let is = checked_base (style_of os) task word (checked none.1.1.0) of (one_rest name.Join other (word ∷ []) has) in
       no_fault (style_of os) word none.0 is (subst (λ o. IsBaseFault (style_of o) word none.0) same none.1.1.1.1.1)
 
@@ -191,16 +191,16 @@ module _ (given : Line) (task : Task) (os : Os) (asks : HasOperands given (name_
   no_bad_directory what word of none =
       let other = none.1.0 in
       let has = none.1.1.0 in
-      let same = same_os other os (first (rest (sym has ∙ asks))) in
+      let same = same_os other os (first (rest (sym has ∙ requests))) in
       let is = absolute_directory (style_of os) task word (one_name name.Absolute other (word ∷ []) has) of (one_rest name.Absolute other (word ∷ []) has) in
       none.1.1.1 (subst (λ o. IsAbsolute (style_of o) word) (sym same) is)
 
   nothing_invalid : (what word : List ℕ) → (HasOption option.Checked given → IsChecked task) → HasStyle (style_of os) task → IsInvalid given what word → ⊥
   nothing_invalid what word checked of (inr (inr (inl no_base))) = no_bad_base what word checked of no_base
   nothing_invalid what word checked of (inr (inr (inr no_directory))) = no_bad_directory what word of no_directory
-  nothing_invalid what word checked of (inl no_command) = no_command.1.0 (name_of task) (first (sym no_command.1.1.1 ∙ asks))
+  nothing_invalid what word checked of (inl no_command) = no_command.1.0 (name_of task) (first (sym no_command.1.1.1 ∙ requests))
   nothing_invalid what word checked of (inr (inl no_platform)) = ⊎_elim
-      (λ second. no_platform.1.0 os (first (rest (sym second.1.1 ∙ asks))))
+      (λ second. no_platform.1.0 os (first (rest (sym second.1.1 ∙ requests))))
       (λ converted.
       let to = converts task word [] (one_name name.Convert converted.0 (word ∷ []) converted.1) (one_rest name.Convert converted.0 (word ∷ []) converted.1) in
       no_platform.1.0 to.0 to.1)
@@ -219,9 +219,9 @@ module _ (given : Line) (task : Task) (os : Os) (asks : HasOperands given (name_
 
 -- what is wrong with options and operands isn't wrong with those that request a command
 pub never_both : (given : Line) (misuse : Misuse) → IsOfPaths given → IsMisuse given misuse → RequestsNothing given
-never_both given misuse of_paths wrong Help asks = of_paths.0 asks
-never_both given misuse of_paths wrong Version asks = of_paths.1 asks.1
-never_both given (Argument error) of_paths wrong (Ask task os list keeps_going) asks = nothing_surplus given task os asks.1.0 wrong.0 wrong.1.0
-never_both given (Missing what) of_paths wrong (Ask task os list keeps_going) asks = nothing_missing given task os asks.1.0 what.now wrong
-never_both given (Invalid what word) of_paths wrong (Ask task os list keeps_going) asks = nothing_invalid given task os asks.1.0 what.now word.now asks.1.1.0.1 asks.1.1.1.0 wrong
-never_both given (Misplaced word where_to) of_paths wrong (Ask task os list keeps_going) asks = nothing_misplaced given task os asks.1.0 word.now where_to.now asks.1.1.0.1 wrong
+never_both given misuse of_paths wrong Help requests = of_paths.0 requests
+never_both given misuse of_paths wrong Version requests = of_paths.1 requests.1
+never_both given (Argument error) of_paths wrong (Ask task os list keeps_going) requests = nothing_surplus given task os requests.1.0 wrong.0 wrong.1.0
+never_both given (Missing what) of_paths wrong (Ask task os list keeps_going) requests = nothing_missing given task os requests.1.0 what.now wrong
+never_both given (Invalid what word) of_paths wrong (Ask task os list keeps_going) requests = nothing_invalid given task os requests.1.0 what.now word.now requests.1.1.0.1 requests.1.1.1.0 wrong
+never_both given (Misplaced word where_to) of_paths wrong (Ask task os list keeps_going) requests = nothing_misplaced given task os requests.1.0 word.now where_to.now requests.1.1.0.1 wrong

@@ -13,7 +13,7 @@ use Rattle.program_frame.specs.declared.lists.options.ItemEnd.TheVariants.{Nul, 
 use Rattle.program_frame.specs.declared.lists.options.LastItem.{LastItem}
 use Rattle.program_frame.specs.declared.lists.options.LastItem.TheVariants.{MustEnd, MayLackEnd}
 use Rattle.program_frame.specs.declared.lists.options.ListOptions.{ListOptions}
-use Rattle.paths_commands.specs.Command.{AsksFor, Line, RequestsNothing, longest_path}
+use Rattle.paths_commands.specs.Command.{IsRequestFor, Line, RequestsNothing, longest_path}
 use Rattle.paths_commands.specs.Options.{IsFlagOf, has_value, name_of, spelled}
 use Rattle.paths_commands.specs.declared.command.Command.{Command}
 use Rattle.paths_commands.specs.declared.command.Command.TheVariants.{Ask, Help as HelpCommand, Version as VersionCommand}
@@ -226,20 +226,20 @@ module _ (given other : Line) (alike : AreAlike given other) where
   alike_list : (list : ListOptions) → AreStated Lines Unterminated longest_path given list → AreStated Lines Unterminated longest_path other list
   alike_list list are = record { end = alike_end list.end are.end; last = alike_last list.last are.last; limit = are.limit }
 
-  alike_request : (command : Command) → AsksFor given command → AsksFor other command
-  alike_request HelpCommand asks = has Help asks
-  alike_request VersionCommand asks = ((λ help. asks.0 (had Help help)), has Version asks.1)
-  alike_request (Ask task os list keeps_going) asks = (
-    ((λ help. asks.0.0 (had Help help)), (λ version. asks.0.1 (had Version version))),
+  alike_request : (command : Command) → IsRequestFor given command → IsRequestFor other command
+  alike_request HelpCommand requests = has Help requests
+  alike_request VersionCommand requests = ((λ help. requests.0 (had Help help)), has Version requests.1)
+  alike_request (Ask task os list keeps_going) requests = (
+    ((λ help. requests.0.0 (had Help help)), (λ version. requests.0.1 (had Version version))),
     (
-      sym (alike_operands given other alike) ∙ asks.1.0,
+      sym (alike_operands given other alike) ∙ requests.1.0,
       (
-        ((λ is. has Checked (asks.1.1.0.0 is)), (λ checked. asks.1.1.0.1 (had Checked checked))),
+        ((λ is. has Checked (requests.1.1.0.0 is)), (λ checked. requests.1.1.0.1 (had Checked checked))),
         (
-          asks.1.1.1.0,
+          requests.1.1.1.0,
           (
-            ((λ going. has KeepGoing (asks.1.1.1.1.0.0 going)), (λ going. asks.1.1.1.1.0.1 (had KeepGoing going))),
-            alike_list list asks.1.1.1.1.1,
+            ((λ going. has KeepGoing (requests.1.1.1.1.0.0 going)), (λ going. requests.1.1.1.1.0.1 (had KeepGoing going))),
+            alike_list list requests.1.1.1.1.1,
           ),
         ),
       ),
@@ -248,8 +248,8 @@ module _ (given other : Line) (alike : AreAlike given other) where
 
 -- if the options and operands request nothing, then the arguments do
 pub none_requested : (words : List (List ℕ)) (given other : Line) → AreGiven spelled has_value words given → RequestsNothing given → AreGiven spelled has_value words other → RequestsNothing other
-none_requested words given other are nothing also command asks =
-    nothing command (alike_request other given (all_once other given (unread words) _ _ _ _ also.are also.end are.are are.end) command asks)
+none_requested words given other are nothing also command requests =
+    nothing command (alike_request other given (all_once other given (unread words) _ _ _ _ also.are also.end are.are are.end) command requests)
 
 -- arguments with a fault aren't options and operands
 pub none_given : (words : List (List ℕ)) (fault : Fault) (given : Line) → HasFault spelled has_value words fault → AreGiven spelled has_value words given → ⊥

@@ -13,7 +13,7 @@ ghost use Rattle.program_frame.specs.declared.lists.program_fault.Fault.TheVaria
 use crate::fault::Failure;
 use crate::lists::fault::ListFault;
 use crate::lists::program_fault::Fault;
-use crate::lists::refusals::Refusals;
+use crate::lists::rejections::Rejections;
 use crate::lists::run::{run, run_with};
 use crate::lists::task::ListTask;
 use crate::marked::Marked;
@@ -47,7 +47,7 @@ pub fn run_list<T: ListTask, U, A: Allocator, R: Read, W: Write>(
     task: &T,
     reader: &mut Marked<R>,
     writer: &mut Marked<W>,
-) -> Result<(), Fault<T::Refusal, U>>
+) -> Result<(), Fault<T::Rejection, U>>
     requires reader_unmarked { has_failed reader.old ≡ false }
     requires writer_unmarked { has_failed writer.old ≡ false }
     ensures run { Runs (T.rules task.now) OfList (R.remaining (marked_inner reader.old))
@@ -64,7 +64,7 @@ pub fn run_list<T: ListTask, U, A: Allocator, R: Read, W: Write>(
     }
 }
 
-/// Runs over the list, with `refusals` to decide what becomes of rejected items, and returns the
+/// Runs over the list, with `rejections` to decide what becomes of rejected items, and returns the
 /// outcome as a program's. Both marks must be unset (test: [`Marked::failed`]).
 ///
 /// # Errors
@@ -77,28 +77,28 @@ pub fn run_list<T: ListTask, U, A: Allocator, R: Read, W: Write>(
 /// use paths_commands::task::{OnPlatform, Task};
 /// use program_frame::lists::answers::run_list_with;
 /// use program_frame::lists::options::ListOptions;
-/// use program_frame::lists::refusals::KeepGoing;
+/// use program_frame::lists::rejections::KeepGoing;
 /// use program_frame::marked::Marked;
 ///
 /// let mut taken = Vec::new(alloc);
 /// let (mut reader, mut writer) = (Marked::new(b"..\0a\0".as_slice()), Marked::new(&mut taken));
 /// let task = OnPlatform::<Unix>::new(Task::Normalize, ListOptions::new(255));
-/// let mut refusals = KeepGoing::new("paths", &rt);
+/// let mut rejections = KeepGoing::new("paths", &rt);
 /// let ended: Result<(), Fault> =
-///     run_list_with(alloc, &task, &mut refusals, &mut reader, &mut writer);
-/// assert!(rt; ended.is_ok() && refusals.count() == 1);
+///     run_list_with(alloc, &task, &mut rejections, &mut reader, &mut writer);
+/// assert!(rt; ended.is_ok() && rejections.count() == 1);
 /// assert_eq!(rt; taken.as_slice(), b"a\0".as_slice());
 /// ```
-pub fn run_list_with<T: ListTask, N: Refusals<T::Refusal>, U, A: Allocator, R: Read, W: Write>(
+pub fn run_list_with<T: ListTask, N: Rejections<T::Rejection>, U, A: Allocator, R: Read, W: Write>(
     alloc: A,
     task: &T,
-    refusals: &mut N,
+    rejections: &mut N,
     reader: &mut Marked<R>,
     writer: &mut Marked<W>,
-) -> Result<(), Fault<T::Refusal, U>>
+) -> Result<(), Fault<T::Rejection, U>>
     requires reader_unmarked { has_failed reader.old ≡ false }
     requires writer_unmarked { has_failed writer.old ≡ false }
-    ensures run { Runs (passing (N.passed refusals.new) (T.rules task.now)) OfList
+    ensures run { Runs (passing (N.passed rejections.new) (T.rules task.now)) OfList
         (R.remaining (marked_inner reader.old)) (R.remaining (marked_inner reader.new))
         (W.contents (marked_inner writer.old)) (W.contents (marked_inner writer.new)) result }
     ensures ends { IfErr result (λ fault. EndsRunOf N.stops fault) }
@@ -107,7 +107,7 @@ pub fn run_list_with<T: ListTask, N: Refusals<T::Refusal>, U, A: Allocator, R: R
     ensures write { (result ≡ Err (Fault.List (ListFault.Run Failure.Write)))
         ↔ (has_failed writer.new ≡ true) }
 {
-    match run_with(alloc, task, refusals, reader, writer) {
+    match run_with(alloc, task, rejections, reader, writer) {
         Ok(()) => Ok(()),
         Err(fault) => Err(Fault::List(fault)),
     }

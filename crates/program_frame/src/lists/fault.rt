@@ -11,7 +11,7 @@ use std::fmt;
 use std::fmt::Display as _;
 
 /// Why an item is rejected, whatever its number.
-pub trait ItemRefusal: Copy {
+pub trait ItemRejection: Copy {
     // what an item is called
     ghost item: { List ℕ };
 
@@ -21,10 +21,10 @@ pub trait ItemRefusal: Copy {
     /// What an item is called.
     ///
     /// ```
-    /// use names_commands::fault::Refusal;
-    /// use program_frame::lists::fault::ItemRefusal;
+    /// use names_commands::fault::Rejection;
+    /// use program_frame::lists::fault::ItemRejection;
     ///
-    /// assert_eq!(rt; Refusal::item(), "name");
+    /// assert_eq!(rt; Rejection::item(), "name");
     /// ```
     fn item() -> &'static str
         ensures { result.now ≡ item };
@@ -32,10 +32,10 @@ pub trait ItemRefusal: Copy {
     /// Writes the reason.
     ///
     /// ```
-    /// use names_commands::fault::Refusal;
+    /// use names_commands::fault::Rejection;
     /// use program_frame::lists::fault::ListFault;
     ///
-    /// let fault = ListFault::Refused(2, Refusal::HasNul);
+    /// let fault = ListFault::Rejected(2, Rejection::HasNul);
     /// assert_eq!(rt; fault.to_string(alloc)?.as_str(), "name 2: the name has a NUL");
     /// ```
     fn write<W: fmt::Write>(&self, f: &mut fmt::Formatter<W>) -> fmt::Result
@@ -46,7 +46,7 @@ pub trait ItemRefusal: Copy {
 #[derive(Clone, Copy, PartialEq, Eq)]
 pub enum ItemFault<F> {
     /// It is rejected.
-    Refused(F),
+    Rejected(F),
     /// It isn't too long, but the name that it encodes is.
     TooLong,
     /// An allocation failed.
@@ -57,7 +57,7 @@ pub enum ItemFault<F> {
 #[derive(Clone, Copy, PartialEq, Eq)]
 pub enum ListFault<F> {
     /// The item with this number is rejected.
-    Refused(u64, F),
+    Rejected(u64, F),
     /// The item with this number, or the name that it encodes, has more than this many bytes.
     TooLong(u64, usize),
     /// The item with this number is the last, and lacks this byte, which has to end it.
@@ -68,7 +68,7 @@ pub enum ListFault<F> {
     Run(Failure),
 }
 
-impl<F: ItemRefusal> fmt::Display for ListFault<F> {
+impl<F: ItemRejection> fmt::Display for ListFault<F> {
     ghost use Rattle.std.specs.Prelude.{Some};
     ghost use Rattle.program_frame.specs.ListFault.{text_of};
 
@@ -78,7 +78,7 @@ impl<F: ItemRefusal> fmt::Display for ListFault<F> {
 
     fn fmt<W: fmt::Write>(&self, f: &mut fmt::Formatter<W>) -> fmt::Result {
         match *self {
-            ListFault::Refused(number, why) => {
+            ListFault::Rejected(number, why) => {
                 write_index::<F, W>(number, f)?;
                 why.write(f)
             }
@@ -95,7 +95,7 @@ impl<F: ItemRefusal> fmt::Display for ListFault<F> {
     }
 }
 
-impl<F: ItemRefusal> ProgramFault for ListFault<F> {
+impl<F: ItemRejection> ProgramFault for ListFault<F> {
     ghost use Rattle.std.specs.Prelude.{refl};
     ghost use Rattle.program_frame.specs.ListFault.{text_of, status_of};
 
@@ -109,17 +109,17 @@ impl<F: ItemRefusal> ProgramFault for ListFault<F> {
     /// for a failed read or write.
     ///
     /// ```
-    /// use names_commands::fault::Refusal;
+    /// use names_commands::fault::Rejection;
     /// use program_frame::ended::ProgramFault;
     /// use program_frame::fault::Failure;
     /// use program_frame::lists::fault::ListFault;
     ///
-    /// assert_eq!(rt; ListFault::Refused(2, Refusal::HasNul).status(), 1);
-    /// assert_eq!(rt; ListFault::<Refusal>::Run(Failure::Write).status(), 4);
+    /// assert_eq!(rt; ListFault::Rejected(2, Rejection::HasNul).status(), 1);
+    /// assert_eq!(rt; ListFault::<Rejection>::Run(Failure::Write).status(), 4);
     /// ```
     fn status(&self) -> u8 {
         match self {
-            ListFault::Refused(_, _)
+            ListFault::Rejected(_, _)
             | ListFault::TooLong(_, _)
             | ListFault::Unended(_, _)
             | ListFault::TooMuch => 1,
@@ -129,7 +129,10 @@ impl<F: ItemRefusal> ProgramFault for ListFault<F> {
 }
 
 /// Writes which item is rejected.
-fn write_index<F: ItemRefusal, W: fmt::Write>(number: u64, f: &mut fmt::Formatter<W>) -> fmt::Result
+fn write_index<F: ItemRejection, W: fmt::Write>(
+    number: u64,
+    f: &mut fmt::Formatter<W>,
+) -> fmt::Result
     ensures { WritesStyledOnOk W.write_str_gives f.old result (index_text F.item number) f.new }
 {
     f.write_str(F::item())?;
@@ -139,7 +142,7 @@ fn write_index<F: ItemRefusal, W: fmt::Write>(number: u64, f: &mut fmt::Formatte
 }
 
 /// Writes which item lacks its end.
-fn write_unended<F: ItemRefusal, W: fmt::Write>(
+fn write_unended<F: ItemRejection, W: fmt::Write>(
     number: u64,
     end: ItemEnd,
     f: &mut fmt::Formatter<W>,

@@ -2,7 +2,7 @@
 ghost use Rattle.std.specs.Prelude.{◌≡◌, ◌≢◌, ◌↔◌, ◌⊎◌, ℕ, List, Option, Result, ⊤, true, false, map, string_bytes, IfOk, IfErr, OnOk, IsOk};
 ghost use Rattle.std.specs.Io.KnownBytes.{Appends};
 ghost use Rattle.std.specs.IoError.{error_kind};
-ghost use Rattle.program_frame.specs.Ended.{message, outcome_of, was_told};
+ghost use Rattle.program_frame.specs.Ended.{message, outcome_of, was_reported};
 ghost use Rattle.program_frame.specs.ListRun.{Runs};
 ghost use Rattle.program_frame.specs.Marked.{marked_inner, has_failed, is_closed};
 ghost use Rattle.program_frame.specs.ProgramFault.{text_of};
@@ -16,8 +16,8 @@ ghost use Rattle.program_frame.specs.declared.lists.program_fault.Fault.TheVaria
 use crate::ended::Ended;
 use crate::ends::{Messages, Output};
 use crate::fault::Failure;
-use crate::lists::fault::{ItemRefusal, ListFault};
-use crate::lists::program_fault::{Fault, WordsRefusal};
+use crate::lists::fault::{ItemRejection, ListFault};
+use crate::lists::program_fault::{Fault, WordsRejection};
 use crate::marked::Marked;
 use crate::words::{NoWords, words};
 use std::alloc::Allocator;
@@ -28,10 +28,10 @@ use std::io::{ErrorKind, Read, Write};
 /// A program for lists.
 pub trait ListProgram {
     /// Why an item is rejected.
-    type Refusal: ItemRefusal;
+    type Rejection: ItemRejection;
 
     /// Why the arguments are rejected.
-    type Words: WordsRefusal;
+    type Words: WordsRejection;
 
     // the program's name
     ghost name: { List ℕ };
@@ -40,7 +40,7 @@ pub trait ListProgram {
     // the bytes that its reader has at first and at last, and the contents of its writer at first
     // and at last. The result is the outcome.
     ghost runs_to: { Self → (A : Type 0) → List (List ℕ) → Option (List ℕ) → Option (List ℕ)
-        → Option (List ℕ) → Option (List ℕ) → Result ⊤ (Fault Self.Refusal Self.Words) → Type 0 };
+        → Option (List ℕ) → Option (List ℕ) → Result ⊤ (Fault Self.Rejection Self.Words) → Type 0 };
 
     /// The program's name.
     ///
@@ -77,7 +77,7 @@ pub trait ListProgram {
         words: &[String],
         reader: &mut Marked<R>,
         writer: &mut Marked<W>,
-    ) -> Result<(), Fault<Self::Refusal, Self::Words>>
+    ) -> Result<(), Fault<Self::Rejection, Self::Words>>
         requires reader_unmarked { has_failed reader.old ≡ false }
         requires writer_unmarked { has_failed writer.old ≡ false }
         ensures run { runs_to self.now A (map string_bytes words.now)
@@ -122,7 +122,7 @@ pub fn execute<P: ListProgram, A: Allocator + Copy, R: Read, W: Output, E: Messa
     reader: &mut Marked<R>,
     writer: &mut Marked<W>,
     errors: &mut E,
-) -> Ended<Fault<P::Refusal, P::Words>>
+) -> Ended<Fault<P::Rejection, P::Words>>
     requires reader_unmarked { has_failed reader.old ≡ false }
     requires writer_unmarked { has_failed writer.old ≡ false }
 
@@ -149,25 +149,25 @@ pub fn execute<P: ListProgram, A: Allocator + Copy, R: Read, W: Output, E: Messa
     // The message.
     ensures closed { is_closed writer.new ≡ true → errors.new ≡ errors.old }
     ensures quiet { OnOk (outcome_of result) (errors.new ≡ errors.old) }
-    ensures told { was_told result ≡ true → IfErr (outcome_of result) (λ fault.
+    ensures reported { was_reported result ≡ true → IfErr (outcome_of result) (λ fault.
         Appends (E.contents errors.old) (E.contents errors.new)
-        (message P.name (text_of P.Refusal.item P.Refusal.text_of P.Words.text_of fault))) }
+        (message P.name (text_of P.Rejection.item P.Rejection.text_of P.Words.text_of fault))) }
     ensures beginning { IfErr (outcome_of result) (λ fault.
         AppendsBeginning (E.contents errors.old) (E.contents errors.new)
-        (message P.name (text_of P.Refusal.item P.Refusal.text_of P.Words.text_of fault))) }
+        (message P.name (text_of P.Rejection.item P.Rejection.text_of P.Words.text_of fault))) }
 {
     match words(alloc, args) {
         Ok(words) => {
             let outcome = program.run_words(alloc, &words, reader, writer);
-            Ended::telling_unless(P::name(), writer.closed(), outcome, errors)
+            Ended::reporting_unless(P::name(), writer.closed(), outcome, errors)
         }
-        Err(NoWords::Memory) => Ended::telling(
+        Err(NoWords::Memory) => Ended::reporting(
             P::name(),
             Err(Fault::List(ListFault::Run(Failure::Memory))),
             errors,
         ),
         Err(NoWords::Unreadable) => {
-            Ended::telling(P::name(), Err(Fault::Words(P::Words::usage())), errors)
+            Ended::reporting(P::name(), Err(Fault::Words(P::Words::usage())), errors)
         }
     }
 }

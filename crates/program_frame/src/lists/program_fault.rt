@@ -3,12 +3,12 @@ ghost use Rattle.std.specs.Prelude.{◌≡◌, ℕ, List};
 ghost use Rattle.std.specs.Fmt.{WritesStyledOnOk};
 
 use crate::ended::ProgramFault;
-use crate::lists::fault::{ItemRefusal, ListFault};
+use crate::lists::fault::{ItemRejection, ListFault};
 use std::fmt;
 use std::fmt::Display as _;
 
 /// Why a program's arguments are rejected.
-pub trait WordsRefusal: Copy {
+pub trait WordsRejection: Copy {
     // they request no command
     ghost usage: { Self };
 
@@ -18,11 +18,11 @@ pub trait WordsRefusal: Copy {
     // the status that the program ends with
     ghost status_of: { Self → ℕ };
 
-    /// The refusal of arguments that name no command.
+    /// The rejection of arguments that name no command.
     ///
     /// ```
     /// use paths_commands::fault::CommandFault;
-    /// use program_frame::lists::program_fault::WordsRefusal;
+    /// use program_frame::lists::program_fault::WordsRejection;
     ///
     /// assert!(rt; matches!(CommandFault::usage(), CommandFault::Unreadable));
     /// ```
@@ -33,7 +33,7 @@ pub trait WordsRefusal: Copy {
     ///
     /// ```
     /// use names_commands::fault::CommandFault;
-    /// use program_frame::lists::program_fault::WordsRefusal;
+    /// use program_frame::lists::program_fault::WordsRejection;
     ///
     /// assert!(rt; CommandFault::Unreadable.status() == 2 && CommandFault::NoFile(1).status() == 4);
     /// ```
@@ -61,7 +61,7 @@ pub enum Fault<F, U> {
     Words(U),
 }
 
-impl<F: ItemRefusal, U: WordsRefusal> fmt::Display for Fault<F, U> {
+impl<F: ItemRejection, U: WordsRejection> fmt::Display for Fault<F, U> {
     ghost use Rattle.std.specs.Prelude.{Some};
     ghost use Rattle.program_frame.specs.ProgramFault.{text_of};
 
@@ -77,7 +77,7 @@ impl<F: ItemRefusal, U: WordsRefusal> fmt::Display for Fault<F, U> {
     }
 }
 
-impl<F: ItemRefusal, U: WordsRefusal> ProgramFault for Fault<F, U> {
+impl<F: ItemRejection, U: WordsRejection> ProgramFault for Fault<F, U> {
     ghost use Rattle.std.specs.Prelude.{refl};
     ghost use Rattle.program_frame.specs.ProgramFault.{text_of, status_of};
 
@@ -88,7 +88,7 @@ impl<F: ItemRefusal, U: WordsRefusal> ProgramFault for Fault<F, U> {
     ghost printed = { λ _. refl };
 
     /// The status that the program ends with: 1 for invalid input, 3 if it is out of memory, and 4
-    /// for a failed read or write. For rejected arguments it is the status of their refusal.
+    /// for a failed read or write. For rejected arguments it is the status of their rejection.
     ///
     /// ```
     /// use paths_commands::fault::{CommandFault, Fault};

@@ -5,14 +5,14 @@ ghost use Rattle.program_frame.specs.declared.fault.Failure.{Failure};
 ghost use Rattle.program_frame.specs.declared.lists.fault.ListFault.{ListFault};
 ghost use Rattle.program_frame.specs.Marked.{marked_inner, has_failed};
 ghost use Rattle.program_frame.specs.Written.{AppendsBeginning};
-ghost use Rattle.program_frame.specs.Rules.{IsRefused, EndsRun, passing};
+ghost use Rattle.program_frame.specs.Rules.{IsRejected, EndsRun, passing};
 ghost use Rattle.program_frame.specs.Reading.{HasBegun, IsEnded, Reads, Stops, Begins};
 ghost use Rattle.program_frame.specs.ListRun.{WritesOutput, WritesUpTo, WritesBeginning, Finishes, IsLast};
 
 use crate::fault::Failure;
 use crate::lists::fault::ListFault;
 use crate::lists::reading::{read_block, write_at};
-use crate::lists::refusals::{Refusals, Stop};
+use crate::lists::rejections::{Rejections, Stop};
 use crate::lists::task::ListTask;
 use crate::marked::Marked;
 use crate::writing::write_out;
@@ -31,7 +31,7 @@ const BLOCK: usize = 16384;
 ///
 /// # Errors
 ///
-/// [`ListFault::Refused`] and [`ListFault::TooLong`] report the first item that is rejected.
+/// [`ListFault::Rejected`] and [`ListFault::TooLong`] report the first item that is rejected.
 /// [`ListFault::Unended`] reports a last item that must have its end and lacks it. With each of
 /// these, exactly the output for the items before the reported one has been written.
 ///
@@ -58,7 +58,7 @@ pub fn run<T: ListTask, A: Allocator, R: Read, W: Write>(
     task: &T,
     reader: &mut Marked<R>,
     writer: &mut Marked<W>,
-) -> Result<(), ListFault<T::Refusal>>
+) -> Result<(), ListFault<T::Rejection>>
     requires reader_unmarked { has_failed reader.old ≡ false }
     requires writer_unmarked { has_failed writer.old ≡ false }
 
@@ -86,19 +86,19 @@ pub fn run<T: ListTask, A: Allocator, R: Read, W: Write>(
 }
 
 /// Reads all items that the reader has, and writes the output for each, as [`run`] does. What
-/// becomes of an item that is rejected is left to `refusals`: where it passes over it, nothing is
+/// becomes of an item that is rejected is left to `rejections`: where it passes over it, nothing is
 /// written for the item, and the run goes on. Both marks must be unset (test: [`Marked::failed`]).
 ///
 /// # Errors
 ///
-/// Those of [`run`]. [`ListFault::Refused`] is returned only if `refusals` ends the run. An item
+/// Those of [`run`]. [`ListFault::Rejected`] is returned only if `rejections` ends the run. An item
 /// that is too long ends it in any case.
 ///
 /// ```
 /// use os_str_bytes::Unix;
 /// use paths_commands::task::{OnPlatform, Task};
 /// use program_frame::lists::options::ListOptions;
-/// use program_frame::lists::refusals::KeepGoing;
+/// use program_frame::lists::rejections::KeepGoing;
 /// use program_frame::lists::run::run_with;
 /// use program_frame::marked::Marked;
 ///
@@ -106,35 +106,35 @@ pub fn run<T: ListTask, A: Allocator, R: Read, W: Write>(
 /// let mut taken = Vec::new(alloc);
 /// let (mut reader, mut writer) = (Marked::new(paths), Marked::new(&mut taken));
 /// let task = OnPlatform::<Unix>::new(Task::Normalize, ListOptions::new(255));
-/// let mut refusals = KeepGoing::new("paths", &rt);
-/// assert!(rt; run_with(alloc, &task, &mut refusals, &mut reader, &mut writer).is_ok());
-/// assert_eq!(rt; refusals.count(), 1);
+/// let mut rejections = KeepGoing::new("paths", &rt);
+/// assert!(rt; run_with(alloc, &task, &mut rejections, &mut reader, &mut writer).is_ok());
+/// assert_eq!(rt; rejections.count(), 1);
 /// assert_eq!(rt; taken.as_slice(), b"b\0d/e\0".as_slice());
 /// ```
-pub fn run_with<T: ListTask, N: Refusals<T::Refusal>, A: Allocator, R: Read, W: Write>(
+pub fn run_with<T: ListTask, N: Rejections<T::Rejection>, A: Allocator, R: Read, W: Write>(
     alloc: A,
     task: &T,
-    refusals: &mut N,
+    rejections: &mut N,
     reader: &mut Marked<R>,
     writer: &mut Marked<W>,
-) -> Result<(), ListFault<T::Refusal>>
+) -> Result<(), ListFault<T::Rejection>>
     requires reader_unmarked { has_failed reader.old ≡ false }
     requires writer_unmarked { has_failed writer.old ≡ false }
 
     // The output.
     ensures all_read { OnOk result (IsAtEnd (R.remaining (marked_inner reader.new))) }
     ensures written { OnOk result
-        (WritesOutput (passing (N.passed refusals.new) (T.rules task.now))
+        (WritesOutput (passing (N.passed rejections.new) (T.rules task.now))
         (R.remaining (marked_inner reader.old)) (W.contents (marked_inner writer.old))
         (W.contents (marked_inner writer.new))) }
 
     // What was written before a fault.
     ensures stopped { IfErr result (λ fault. fault ≢ ListFault.Run Failure.Write
-        → WritesUpTo (passing (N.passed refusals.new) (T.rules task.now)) fault
+        → WritesUpTo (passing (N.passed rejections.new) (T.rules task.now)) fault
         (R.remaining (marked_inner reader.old)) (W.contents (marked_inner writer.old))
         (W.contents (marked_inner writer.new))) }
     ensures beginning { result ≡ Err (ListFault.Run Failure.Write)
-        → WritesBeginning (passing (N.passed refusals.new) (T.rules task.now))
+        → WritesBeginning (passing (N.passed rejections.new) (T.rules task.now))
         (R.remaining (marked_inner reader.old)) (W.contents (marked_inner writer.old))
         (W.contents (marked_inner writer.new)) }
     ensures ends { IfErr result (λ fault. EndsRun N.stops fault) }
@@ -156,7 +156,7 @@ pub fn run_with<T: ListTask, N: Refusals<T::Refusal>, A: Allocator, R: Read, W: 
                 &mut memory,
                 count,
                 &begun,
-                refusals,
+                rejections,
                 writer,
             ),
             Ok(size) => size,
@@ -174,7 +174,7 @@ pub fn run_with<T: ListTask, N: Refusals<T::Refusal>, A: Allocator, R: Read, W: 
             count,
             block,
             &mut begun,
-            refusals,
+            rejections,
             writer,
         ) {
             Ok(ended) => count = ended,
@@ -185,40 +185,40 @@ pub fn run_with<T: ListTask, N: Refusals<T::Refusal>, A: Allocator, R: Read, W: 
 
 /// Reads a block, and writes the output for the items that end in it. It returns the number of
 /// items that have ended.
-fn write_block<T: ListTask, N: Refusals<T::Refusal>, A: Allocator + Copy, W: Write>(
+fn write_block<T: ListTask, N: Rejections<T::Rejection>, A: Allocator + Copy, W: Write>(
     alloc: A,
     task: &T,
     memory: &mut T::Memory,
     count: u64,
     block: &[u8],
     begun: &mut Vec<u8, A>,
-    refusals: &mut N,
+    rejections: &mut N,
     writer: &mut Marked<W>,
-) -> Result<u64, ListFault<T::Refusal>>
+) -> Result<u64, ListFault<T::Rejection>>
     requires memory { T.remembers task.now memory.old }
     requires counted { count + length begun.old.items + length block.now + 1 < 2 ^ 64 }
-    requires begun { HasBegun (passing (N.passed refusals.old) (T.rules task.now)) begun.old.items }
+    requires begun { HasBegun (passing (N.passed rejections.old) (T.rules task.now)) begun.old.items }
     requires unmarked { has_failed writer.old ≡ false }
     ensures ok { IfOk result (λ ended. (text : List ℕ)
-        × (Reads (passing (N.passed refusals.new) (T.rules task.now))
+        × (Reads (passing (N.passed rejections.new) (T.rules task.now))
         (record { begun = begun.old.items; count = count; output = [] }) block.now
         (record { begun = begun.new.items; count = ended; output = text })
         × Appends (W.contents (marked_inner writer.old)) (W.contents (marked_inner writer.new))
         text)) }
     ensures stopped { IfErr result (λ fault. fault ≢ ListFault.Run Failure.Write → (text : List ℕ)
-        × (((more : List ℕ) → Stops (passing (N.passed refusals.new) (T.rules task.now))
+        × (((more : List ℕ) → Stops (passing (N.passed rejections.new) (T.rules task.now))
         (record { begun = begun.old.items; count = count; output = [] }) (block.now ++ more) text
         fault)
         × Appends (W.contents (marked_inner writer.old)) (W.contents (marked_inner writer.new))
         text)) }
     ensures beginning { result ≡ Err (ListFault.Run Failure.Write) → (text : List ℕ)
-        × (((more : List ℕ) → Begins (passing (N.passed refusals.new) (T.rules task.now))
+        × (((more : List ℕ) → Begins (passing (N.passed rejections.new) (T.rules task.now))
         (record { begun = begun.old.items; count = count; output = [] }) (block.now ++ more) text)
         × AppendsBeginning (W.contents (marked_inner writer.old))
         (W.contents (marked_inner writer.new)) text) }
     ensures no_read { result ≢ Err (ListFault.Run Failure.Read) }
     ensures marked { (result ≡ Err (ListFault.Run Failure.Write)) ↔ (has_failed writer.new ≡ true) }
-    ensures more { N.passed refusals.old ≤ N.passed refusals.new }
+    ensures more { N.passed rejections.old ≤ N.passed rejections.new }
     ensures ends { IfErr result (λ fault. EndsRun N.stops fault) }
     ensures memory { T.remembers task.now memory.new }
 {
@@ -230,7 +230,7 @@ fn write_block<T: ListTask, N: Refusals<T::Refusal>, A: Allocator + Copy, W: Wri
         count,
         block,
         begun,
-        refusals,
+        rejections,
         &mut output,
     );
     match write_output(writer, &output) {
@@ -240,35 +240,35 @@ fn write_block<T: ListTask, N: Refusals<T::Refusal>, A: Allocator + Copy, W: Wri
 }
 
 /// Writes what is to be written for the item that has begun where the input ends.
-fn finish<T: ListTask, N: Refusals<T::Refusal>, A: Allocator + Copy, W: Write>(
+fn finish<T: ListTask, N: Rejections<T::Rejection>, A: Allocator + Copy, W: Write>(
     alloc: A,
     task: &T,
     memory: &mut T::Memory,
     count: u64,
     begun: &[u8],
-    refusals: &mut N,
+    rejections: &mut N,
     writer: &mut Marked<W>,
-) -> Result<(), ListFault<T::Refusal>>
+) -> Result<(), ListFault<T::Rejection>>
     requires memory { T.remembers task.now memory.old }
     requires counted { count + 1 < 2 ^ 64 }
-    requires begun { HasBegun (passing (N.passed refusals.old) (T.rules task.now)) begun.now }
+    requires begun { HasBegun (passing (N.passed rejections.old) (T.rules task.now)) begun.now }
     requires unmarked { has_failed writer.old ≡ false }
     ensures ok { OnOk result ((text : List ℕ)
-        × (Finishes (passing (N.passed refusals.new) (T.rules task.now)) begun.now text
+        × (Finishes (passing (N.passed rejections.new) (T.rules task.now)) begun.now text
         × Appends (W.contents (marked_inner writer.old)) (W.contents (marked_inner writer.new))
         text)) }
     ensures stopped { IfErr result (λ fault. fault ≢ ListFault.Run Failure.Write
-        → IsRefused (T.rules task.now) (count + 1) begun.now fault) }
+        → IsRejected (T.rules task.now) (count + 1) begun.now fault) }
     ensures ended { IfErr result (λ fault. IsEnded (T.rules task.now) fault []) }
     ensures unchanged { IfErr result (λ fault. fault ≢ ListFault.Run Failure.Write
         → writer.new ≡ writer.old) }
     ensures beginning { result ≡ Err (ListFault.Run Failure.Write) → (text : List ℕ)
-        × (IsLast (passing (N.passed refusals.new) (T.rules task.now)) begun.now text
+        × (IsLast (passing (N.passed rejections.new) (T.rules task.now)) begun.now text
         × AppendsBeginning (W.contents (marked_inner writer.old))
         (W.contents (marked_inner writer.new)) text) }
     ensures no_read { result ≢ Err (ListFault.Run Failure.Read) }
     ensures marked { (result ≡ Err (ListFault.Run Failure.Write)) ↔ (has_failed writer.new ≡ true) }
-    ensures more { N.passed refusals.old ≤ N.passed refusals.new }
+    ensures more { N.passed rejections.old ≤ N.passed rejections.new }
     ensures ends { IfErr result (λ fault. EndsRun N.stops fault) }
     ensures memory { T.remembers task.now memory.new }
 {
@@ -279,7 +279,15 @@ fn finish<T: ListTask, N: Refusals<T::Refusal>, A: Allocator + Copy, W: Write>(
         return Err(ListFault::Unended(count + 1, task.end()));
     }
     let mut output = Vec::new(alloc);
-    match write_at::<T, N, A>(alloc, task, memory, count + 1, begun, refusals, &mut output) {
+    match write_at::<T, N, A>(
+        alloc,
+        task,
+        memory,
+        count + 1,
+        begun,
+        rejections,
+        &mut output,
+    ) {
         Ok(()) => write_output(writer, &output),
         Err(fault) => Err(fault),
     }

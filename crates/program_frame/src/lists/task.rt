@@ -10,12 +10,12 @@ use std::alloc::Allocator;
 /// What is done with each item of a list.
 pub trait ListTask {
     /// Why an item is rejected.
-    type Refusal: Copy;
+    type Rejection: Copy;
 
     /// What is kept from one item to the next, so that less is to be done for that.
     type Memory: Drop;
 
-    ghost rules: { Self → ListRules Self.Refusal };
+    ghost rules: { Self → ListRules Self.Rejection };
 
     // the memory is one of this task
     ghost remembers: { Self → Self.Memory → Type 0 };
@@ -114,7 +114,7 @@ pub trait ListTask {
         memory: &mut Self::Memory,
         item: &[u8],
         output: &mut Vec<u8, A>,
-    ) -> Result<(), ItemFault<Self::Refusal>>
+    ) -> Result<(), ItemFault<Self::Rejection>>
         requires memory { remembers self.now memory.old }
         requires short { length item.now ≤ (rules self.now).longest }
         ensures memory { remembers self.now memory.new }

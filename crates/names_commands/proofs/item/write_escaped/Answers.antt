@@ -8,12 +8,12 @@ use Rattle.os_quote.specs.declared.error.QuoteError.TheVariants as quote
 use Rattle.program_frame.specs.ListOptions.{byte_of}
 use Rattle.program_frame.specs.Rules.{IsItemFault}
 use Rattle.program_frame.specs.declared.lists.options.ListOptions.{ListOptions}
-use Rattle.names_commands.specs.declared.fault.Refusal.{Refusal}
-use Rattle.names_commands.specs.declared.fault.Refusal.TheVariants.{NoString, BadEscape, NotCanonical, HasNul, HasNewline, EndsInReturn as InReturn, EmptyLine as IsEmptyLine, BadWords}
+use Rattle.names_commands.specs.declared.fault.Rejection.{Rejection}
+use Rattle.names_commands.specs.declared.fault.Rejection.TheVariants.{NoString, BadEscape, NotCanonical, HasNul, HasNewline, EndsInReturn as InReturn, EmptyLine as IsEmptyLine, BadWords}
 use Rattle.names_commands.specs.declared.task.EmptyLine.{EmptyLine}
 use Rattle.names_commands.specs.declared.task.Task.TheVariants.{Join}
 use Rattle.names_commands.specs.Names.{EndsInReturn, IsFit, IsUnfit}
-use Rattle.names_commands.specs.Task.{IsJoinRefusal, IsNameOf, quote_fault, rules_of}
+use Rattle.names_commands.specs.Task.{IsJoinRejection, IsNameOf, quote_fault, rules_of}
 use Rattle.names_commands.proofs.lemmas.Names.{memory_fault}
 use Rattle.names_commands.proofs.item.write_escaped.Goals as goal
 
@@ -31,7 +31,7 @@ bad_quote P empty list line other utf8 quote.NotCanonical bad = (other, (utf8, b
 bad_quote P empty list line other utf8 quote.Memory bad = tt
 
 -- a line of a name that can't be written is rejected for that
-unfit_line : {E : Type 0} (P : Ghosts E) (empty : EmptyLine) (list : ListOptions) (line name : List ℕ) → IsNameOf P list.max line name → (why : Refusal) → IsUnfit list.end name why → IsJoinRefusal P empty list line why
+unfit_line : {E : Type 0} (P : Ghosts E) (empty : EmptyLine) (list : ListOptions) (line name : List ℕ) → IsNameOf P list.max line name → (why : Rejection) → IsUnfit list.end name why → IsJoinRejection P empty list line why
 unfit_line P empty list line name n HasNul h = (name, n, h)
 unfit_line P empty list line name n HasNewline h = (name, n, h)
 unfit_line P empty list line name n (NoString error) h = absurd h

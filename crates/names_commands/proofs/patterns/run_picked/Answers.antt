@@ -2,7 +2,7 @@ use Rattle.std.proofs.Common.{◌≡◌, ◌≢◌, [], ⊎_elim, inl, inr, map,
 use Rattle.std.specs.Prelude.{MatchOption}
 use Rattle.os_ignore.specs.Ignores.{files_of}
 use Rattle.program_frame.specs.Marked.{marked_inner}
-use Rattle.names_commands.specs.Command.{asked_of, options_of}
+use Rattle.names_commands.specs.Command.{requested_of, options_of}
 use Rattle.names_commands.specs.Ignoring.{AreRead, text_of}
 use Rattle.names_commands.specs.Matching.{IsChosen, IsChosenBy, IsSetOf}
 use Rattle.names_commands.specs.Program.{IsFaultOf, IsOfPatterns}
@@ -11,36 +11,36 @@ use Rattle.names_commands.proofs.patterns.run_picked.Goals as goal
 
 pub returns-in-Err-clause-run : goal.returns-in-Err-clause-run
 returns-in-Err-clause-run g c =
-    let asked = asked_of c.args.request.now in
+    let requested = requested_of c.args.request.now in
     let fault = c.in-Err.fault in
     ⊎_elim
     (λ memory. inl (ap Err memory, (refl, refl)))
     (λ of.
-    let its = subst (λ o. IsOfPatterns g.E.Platform o asked.plain (map string_bytes c.as_slice-patterns.result.now) fault) c.options_of-options.ensures of in
-    let shown = subst (λ items. IsOfPatterns g.E.Platform (options_of c.args.os asked.case_insensitive) asked.plain (map string_bytes items) fault) c.as_slice-patterns.ensures.value its in
+    let its = subst (λ o. IsOfPatterns g.E.Platform o requested.plain (map string_bytes c.as_slice-patterns.result.now) fault) c.options_of-options.ensures of in
+    let shown = subst (λ items. IsOfPatterns g.E.Platform (options_of c.args.os requested.case_insensitive) requested.plain (map string_bytes items) fault) c.as_slice-patterns.ensures.value its in
     inr (inl (shown.0, shown.1, shown.2, fault, shown.3, (refl, (refl, refl)))))
     c.in-Err.ensures
 
 pub returns-in-Err-read_ignore-clause-run : goal.returns-in-Err-read_ignore-clause-run
 returns-in-Err-read_ignore-clause-run g c =
     let P = g.E.Platform in
-    let asked = asked_of c.args.request.now in
-    let o = options_of c.args.os asked.case_insensitive in
+    let requested = requested_of c.args.request.now in
+    let o = options_of c.args.os requested.case_insensitive in
     let set = c.in-Ok.set in
     let compiled = subst (λ z. IsSetOf P g.row.A.Denot z (map string_bytes c.as_slice-patterns.result.now) set) c.options_of-options.ensures c.in-Ok.ensures in
     let made = subst (λ items. IsSetOf P g.row.A.Denot o (map string_bytes items) set) c.as_slice-patterns.ensures.value compiled in
-    let why = subst (λ items. IsFaultOf (g.F.Files.known c.args.files.now) g.row.A.Denot asked.case_insensitive (map text_of items) c.in-Err-read_ignore.fault) c.as_slice.ensures.value c.in-Err-read_ignore.ensures in
+    let why = subst (λ items. IsFaultOf (g.F.Files.known c.args.files.now) g.row.A.Denot requested.case_insensitive (map text_of items) c.in-Err-read_ignore.fault) c.as_slice.ensures.value c.in-Err-read_ignore.ensures in
     ⊎_elim
     (λ memory. inl (ap Err memory, (refl, refl)))
-    (λ of. inr (inr (written_of P o asked.globs set.set.patterns.items made.1, are_written P o asked.globs set.set.patterns.items made.1, inl (of.0, of.1, (ap Err of.2, (refl, refl))))))
+    (λ of. inr (inr (written_of P o requested.globs set.set.patterns.items made.1, are_written P o requested.globs set.set.patterns.items made.1, inl (of.0, of.1, (ap Err of.2, (refl, refl))))))
     why
 
 pub returns-clause-run : goal.returns-clause-run
 returns-clause-run g c =
     let P = g.E.Platform in
-    let asked = asked_of c.args.request.now in
-    let o = options_of c.args.os asked.case_insensitive in
-    let texts = asked.globs in
+    let requested = requested_of c.args.request.now in
+    let o = options_of c.args.os requested.case_insensitive in
+    let texts = requested.globs in
     let set = c.in-Ok.set in
     let compiled = subst (λ z. IsSetOf P g.row.A.Denot z (map string_bytes c.as_slice-patterns.result.now) set) c.options_of-options.ensures c.in-Ok.ensures in
     let made = subst (λ items. IsSetOf P g.row.A.Denot o (map string_bytes items) set) c.as_slice-patterns.ensures.value compiled in
@@ -50,9 +50,9 @@ returns-clause-run g c =
     let choose = chosen P o texts set made.0 made.1 globs (where_texts string_bytes (λ held. held.now ≡ set) c.args.request.now.patterns.items globs held) in
     let known = g.F.Files.known c.args.files.now in
     let files = files_of c.in-Ok-read_ignore.ignore in
-    let read = subst (λ items. AreRead known asked.case_insensitive (map text_of items) files) c.as_slice.ensures.value c.in-Ok-read_ignore.ensures in
+    let read = subst (λ items. AreRead known requested.case_insensitive (map text_of items) files) c.as_slice.ensures.value c.in-Ok-read_ignore.ensures in
     let input = g.R.Read.remaining (marked_inner c.args.reader.now) in
     let left = g.R.Read.remaining (marked_inner c.run_list.new.reader) in
     let old = g.W.Write.contents (marked_inner c.args.writer.now) in
     let new = g.W.Write.contents (marked_inner c.run_list.new.writer) in
-    inr (inr (written, are_written P o texts set.set.patterns.items made.1, same_but known g.row.A.Denot P c.args.form asked.list asked.inverted asked.case_insensitive (IsChosenBy P globs) (IsChosen P o written) choose asked.files input left old new c.run_list.result (inr (files, read, c.run_list.ensures.run))))
+    inr (inr (written, are_written P o texts set.set.patterns.items made.1, same_but known g.row.A.Denot P c.args.form requested.list requested.inverted requested.case_insensitive (IsChosenBy P globs) (IsChosen P o written) choose requested.files input left old new c.run_list.result (inr (files, read, c.run_list.ensures.run))))

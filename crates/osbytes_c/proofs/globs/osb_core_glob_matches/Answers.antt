@@ -2,7 +2,7 @@ use Rattle.std.proofs.Common.{◌≡◌, ℕ, List, sym, subst}
 use Rattle.glob_patterns.specs.declared.options.GlobOptions.{GlobOptions}
 use Rattle.osbytes_c.specs.declared.globs.GlobFault.{GlobFault}
 use Rattle.osbytes_c.specs.Answers.{IsWritten}
-use Rattle.osbytes_c.specs.Globs.{AreMatchesTold, HasUnstring, IsGlobFault}
+use Rattle.osbytes_c.specs.Globs.{AreMatchesReported, HasUnstring, IsGlobFault}
 use Rattle.osbytes_c.specs.ItemLists.{Views}
 use Rattle.osbytes_c.specs.Platforms.{formed_on, units_on}
 use Rattle.osbytes_c.proofs.globs.osb_core_glob_matches.Goals as goal
@@ -13,7 +13,7 @@ named {n} {m} {o} {p} Is number options is = subst (λ k. Is k p) (sym number) (
 
 module _ (patterns paths : Views) where
   abbrev Written : ℕ → List ℕ → List ℕ → ℕ → ℕ → GlobOptions → Type 0
-  Written status old new count n o = IsWritten status (AreMatchesTold (formed_on n) (units_on n) o patterns paths) old new count
+  Written status old new count n o = IsWritten status (AreMatchesReported (formed_on n) (units_on n) o patterns paths) old new count
 
   abbrev Unstring : ℕ → GlobOptions → Type 0
   Unstring n o = HasUnstring (formed_on n) (units_on n) o patterns paths

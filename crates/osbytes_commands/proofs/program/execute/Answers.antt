@@ -45,16 +45,16 @@ without_memory : (command : Command) (input old new : Option (List ℕ))
 without_memory command input old new = record {
   written = tt;
   of_input = λ is. absurd is;
-  refusal = of_known input _ (λ bytes why refusal. inr (inr refl));
+  rejection = of_known input _ (λ bytes why rejection. inr (inr refl));
   beginning_written = λ e. absurd (memory_no_write e);
 }
 
 pub returns-in-Ok : goal.returns-in-Ok
 returns-in-Ok g c =
-    let outcome = c.telling_unless.ensures.outcome in
+    let outcome = c.reporting_unless.ensures.outcome in
     let ran = c.run_words-outcome.ensures in
     let words = ap (map string_bytes) c.deref.ensures.value in record {
-      ok = OnOk-from c.telling_unless.result.outcome c.in-Ok.ensures.ok;
+      ok = OnOk-from c.reporting_unless.result.outcome c.in-Ok.ensures.ok;
       no_words = IfErr-from_ok c.args.args _ c.in-Ok.ensures.ok;
       no_memory = IfErr-from_ok c.args.args _ c.in-Ok.ensures.ok;
       usage = IfOk-weaker c.args.args _ _
@@ -65,49 +65,49 @@ returns-in-Ok g c =
           c.in-Ok.ensures.words;
       run = IfOk-weaker c.args.args _ _
           (λ args same command with_words.
-          rw c.telling_unless.ensures.outcome (ran.run command (words ∙ (same ∙ with_words))))
+          rw c.reporting_unless.ensures.outcome (ran.run command (words ∙ (same ∙ with_words))))
           c.in-Ok.ensures.words;
-      all_read = rw c.telling_unless.ensures.outcome ran.all_read;
-      read = rw c.telling_unless.ensures.outcome ran.read;
-      write = rw c.telling_unless.ensures.outcome ran.write;
-      nothing_written = rw c.telling_unless.ensures.outcome ran.nothing_written;
-      closed = λ closed. c.telling_unless.ensures.closed (c.closed.ensures ∙ closed);
-      quiet = rw c.telling_unless.ensures.outcome c.telling_unless.ensures.quiet;
-      told = rw c.telling_unless.ensures.outcome c.telling_unless.ensures.told;
-      beginning = rw c.telling_unless.ensures.outcome c.telling_unless.ensures.beginning;
+      all_read = rw c.reporting_unless.ensures.outcome ran.all_read;
+      read = rw c.reporting_unless.ensures.outcome ran.read;
+      write = rw c.reporting_unless.ensures.outcome ran.write;
+      nothing_written = rw c.reporting_unless.ensures.outcome ran.nothing_written;
+      closed = λ closed. c.reporting_unless.ensures.closed (c.closed.ensures ∙ closed);
+      quiet = rw c.reporting_unless.ensures.outcome c.reporting_unless.ensures.quiet;
+      reported = rw c.reporting_unless.ensures.outcome c.reporting_unless.ensures.reported;
+      beginning = rw c.reporting_unless.ensures.outcome c.reporting_unless.ensures.beginning;
     }
 
 pub returns-in-Err-Memory : goal.returns-in-Err-Memory
 returns-in-Err-Memory g c =
-    let outcome = c.telling.ensures.outcome in
+    let outcome = c.reporting.ensures.outcome in
     let is = c.in-Err-Memory.is ∙ ap Err c.in-Err-Memory.field-0-is in
     let unread = sym c.requires.reader_unmarked in
     let unwritten = sym c.requires.writer_unmarked in record {
-      ok = rw c.telling.ensures.outcome tt;
+      ok = rw c.reporting.ensures.outcome tt;
       no_words = IfErr-weaker c.args.args _ _
           (λ error unreadable other. absurd (one_reason (sym is ∙ unreadable other)))
           c.words.ensures.no_words;
       no_memory = IfErr-from c.args.args _ (λ error _. outcome);
       usage = IfOk-from c.args.args _ (λ args e. absurd (memory_no_usage (sym outcome ∙ e)));
       no_command = IfOk-from c.args.args _ (λ args _. inr outcome);
-      run = IfOk-from c.args.args _ (λ args command is. rw c.telling.ensures.outcome (without_memory command _ _ _));
-      all_read = rw c.telling.ensures.outcome tt;
+      run = IfOk-from c.args.args _ (λ args command is. rw c.reporting.ensures.outcome (without_memory command _ _ _));
+      all_read = rw c.reporting.ensures.outcome tt;
       read = (λ e. absurd (memory_no_read (sym outcome ∙ e)), λ set. absurd (false≢true (unread ∙ set)));
       write = (λ e. absurd (memory_no_write (sym outcome ∙ e)), λ set. absurd (false≢true (unwritten ∙ set)));
-      nothing_written = rw c.telling.ensures.outcome (λ _. refl);
+      nothing_written = rw c.reporting.ensures.outcome (λ _. refl);
       closed = λ set. absurd (false≢true (sym (and_left _ _ c.requires.writer_unmarked) ∙ set));
-      quiet = rw c.telling.ensures.outcome tt;
-      told = rw c.telling.ensures.outcome c.telling.ensures.told;
-      beginning = rw c.telling.ensures.outcome c.telling.ensures.beginning;
+      quiet = rw c.reporting.ensures.outcome tt;
+      reported = rw c.reporting.ensures.outcome c.reporting.ensures.reported;
+      beginning = rw c.reporting.ensures.outcome c.reporting.ensures.beginning;
     }
 
 pub returns : goal.returns
 returns g c =
-    let outcome = c.telling-in-Err-Unreadable.ensures.outcome in
+    let outcome = c.reporting-in-Err-Unreadable.ensures.outcome in
     let is = c.in-Err-Unreadable.is ∙ ap Err c.in-Err-Unreadable.field-0-is in
     let unread = sym c.requires.reader_unmarked in
     let unwritten = sym c.requires.writer_unmarked in record {
-      ok = rw c.telling-in-Err-Unreadable.ensures.outcome tt;
+      ok = rw c.reporting-in-Err-Unreadable.ensures.outcome tt;
       no_words = IfErr-from c.args.args _ (λ error _. outcome);
       no_memory = IfErr-weaker c.args.args _ _
           (λ error memory kind. absurd (one_reason (sym (memory kind) ∙ is)))
@@ -115,12 +115,12 @@ returns g c =
       usage = IfOk-weaker c.args.args _ _ (λ args memory. absurd (one_cause _ is memory)) c.words.ensures.memory;
       no_command = IfOk-from c.args.args _ (λ args _. inl outcome);
       run = IfOk-weaker c.args.args _ _ (λ args memory. absurd (one_cause _ is memory)) c.words.ensures.memory;
-      all_read = rw c.telling-in-Err-Unreadable.ensures.outcome tt;
+      all_read = rw c.reporting-in-Err-Unreadable.ensures.outcome tt;
       read = (λ e. absurd (usage_no_read (sym outcome ∙ e)), λ set. absurd (false≢true (unread ∙ set)));
       write = (λ e. absurd (usage_no_write (sym outcome ∙ e)), λ set. absurd (false≢true (unwritten ∙ set)));
-      nothing_written = rw c.telling-in-Err-Unreadable.ensures.outcome (λ _. refl);
+      nothing_written = rw c.reporting-in-Err-Unreadable.ensures.outcome (λ _. refl);
       closed = λ set. absurd (false≢true (sym (and_left _ _ c.requires.writer_unmarked) ∙ set));
-      quiet = rw c.telling-in-Err-Unreadable.ensures.outcome tt;
-      told = rw c.telling-in-Err-Unreadable.ensures.outcome c.telling-in-Err-Unreadable.ensures.told;
-      beginning = rw c.telling-in-Err-Unreadable.ensures.outcome c.telling-in-Err-Unreadable.ensures.beginning;
+      quiet = rw c.reporting-in-Err-Unreadable.ensures.outcome tt;
+      reported = rw c.reporting-in-Err-Unreadable.ensures.outcome c.reporting-in-Err-Unreadable.ensures.reported;
+      beginning = rw c.reporting-in-Err-Unreadable.ensures.outcome c.reporting-in-Err-Unreadable.ensures.beginning;
     }

@@ -12,6 +12,6 @@ returns-in-Err g c =
     let fault = subst (λ d. IsAbsoluteFault S path d error) below c.in-Err.ensures.err in
     record {
       ok = tt;
-      fault = ⊎_elim (λ memory. inl memory) (λ told. inr (error, (told.1, (told.0, fault)))) c.unplaced.ensures;
+      fault = ⊎_elim (λ memory. inl memory) (λ reported. inr (error, (reported.1, (reported.0, fault)))) c.unplaced.ensures;
       unchanged = refl;
     }

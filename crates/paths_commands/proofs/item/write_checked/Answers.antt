@@ -23,6 +23,6 @@ returns-in-Err g c =
     let fault = subst (λ p. IsNameFault (base_style c.args.base) p error) raw c.in-Err.ensures.err in
     record {
       ok = tt;
-      fault = ⊎_elim (λ memory. inl memory) (λ told. inr (told.1.0, (told.1.1.0, (error, ((told.0, fault), told.1.1.1))))) c.unjoined.ensures;
+      fault = ⊎_elim (λ memory. inl memory) (λ reported. inr (reported.1.0, (reported.1.1.0, (error, ((reported.0, fault), reported.1.1.1))))) c.unjoined.ensures;
       unchanged = refl;
     }

@@ -2,7 +2,7 @@ use Rattle.std.proofs.Common.{◌≡◌, ⊎_elim, rules, sym, subst}
 use Rattle.std.proofs.lemmas.Result.{IfErr-weaker}
 use Rattle.platform_str.specs.Strings.{path_bytes}
 use Rattle.program_frame.specs.Rules.{IsItemFault}
-use Rattle.paths_commands.specs.Task.{rules_of, IsRefusal}
+use Rattle.paths_commands.specs.Task.{rules_of, IsRejection}
 use Rattle.paths_commands.proofs.item.write_item.Goals as goal
 
 pub returns-in-None-clause-fault : goal.returns-in-None-clause-fault
@@ -17,5 +17,5 @@ returns-in-None-clause-fault g c =
     (λ fault.
     ⊎_elim
     (λ memory. subst (IsItemFault (rules_of P S task list) item) (sym memory) tt)
-    (λ none. subst (IsItemFault (rules_of P S task list) item) (sym none.1.0) (subst (λ s. IsRefusal P S list.end task s none.0) same none.1.1)))
+    (λ none. subst (IsItemFault (rules_of P S task list) item) (sym none.1.0) (subst (λ s. IsRejection P S list.end task s none.0) same none.1.1)))
     c.write_path.ensures.fault

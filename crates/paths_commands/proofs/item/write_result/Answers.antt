@@ -6,10 +6,10 @@ use Rattle.path_rules.specs.declared.rules.Style.{Style}
 use Rattle.os_path.specs.Names.{HasFileStem, HasExtension, LacksExtension}
 use Rattle.platform_str.specs.Strings.{bytes, path_bytes}
 use Rattle.paths_commands.specs.Task.{IsAnswer, IsMade, way_text}
-use Rattle.paths_commands.specs.declared.fault.Refusal.TheVariants.{NoNormalForm, NoRelativePath, NoAbsolutePath}
+use Rattle.paths_commands.specs.declared.fault.Rejection.TheVariants.{NoNormalForm, NoRelativePath, NoAbsolutePath}
 use Rattle.paths_commands.specs.declared.task.Task.{Task}
 use Rattle.paths_commands.proofs.lemmas.Answers.{part_or_nothing}
-use Rattle.paths_commands.proofs.lemmas.Refusals.{unconverted_unanswered, unjoined_unanswered}
+use Rattle.paths_commands.proofs.lemmas.Rejections.{unconverted_unanswered, unjoined_unanswered}
 use Rattle.paths_commands.proofs.item.write_result.Goals as goal
 
 -- what is written is the answer of the task, which is this one

@@ -6,7 +6,7 @@ use Rattle.paths_commands.proofs.program.run_past.Goals as goal
 
 pub returns-clause-run : goal.returns-clause-run
 returns-clause-run g c = record {
-  count = c.run_on-ran.new.refusals.count;
+  count = c.run_on-ran.new.rejections.count;
   ran = c.run_on-ran.result;
   run = c.run_on-ran.ensures.run;
   ends = c.run_on-ran.ensures.stops;

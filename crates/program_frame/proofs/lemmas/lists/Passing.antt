@@ -3,7 +3,7 @@ use Rattle.std.proofs.Common.{⊎_elim, inl, inr, ℕ, ◌≤◌, List, [], ◌�
 use Rattle.std.specs.Prelude.{⊤}
 use Rattle.std.specs.List.{AllByRecursion}
 use Rattle.program_frame.specs.declared.lists.fault.ListFault.{ListFault}
-use Rattle.program_frame.specs.declared.lists.fault.ListFault.TheVariants.{Refused, TooLong, Unended, TooMuch, Run}
+use Rattle.program_frame.specs.declared.lists.fault.ListFault.TheVariants.{Rejected, TooLong, Unended, TooMuch, Run}
 use Rattle.program_frame.specs.Items.{Entry}
 use Rattle.program_frame.specs.Rules.{ListRules, IsEntry, passing, with_texts}
 use Rattle.program_frame.specs.Reading.{State, HasBegun, Reads, Stops, IsUpTo}
@@ -52,7 +52,7 @@ module _ {F : Type 0} (list : ListRules F) (takes other : List ℕ → List ℕ 
   stop_with old bytes output fault s = record { entries = s.entries; are = all_entries s.entries s.are; item = s.item; rest = s.rest; joined = s.joined; whole = s.whole; ended = s.ended; because = s.because; written = s.written }
 
   stops_with : (input output : List ℕ) (fault : ListFault F) → StopsOn ours input output fault → StopsOn theirs input output fault
-  stops_with input output (Refused n why) s = stop_with start input output (Refused n why) s
+  stops_with input output (Rejected n why) s = stop_with start input output (Rejected n why) s
   stops_with input output (TooLong n most) s = stop_with start input output (TooLong n most) s
   stops_with input output (Unended n end) s = stop_with start input output (Unended n end) s
   stops_with input output TooMuch s = (s.0, begins_with input output s.1)

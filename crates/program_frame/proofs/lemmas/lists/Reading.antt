@@ -3,14 +3,14 @@ use Rattle.std.proofs.Common.{◌≡◌, inl, inr, ℕ, ◌+◌, ◌^◌, ◌≤
 use Rattle.std.specs.List.{AllByRecursion}
 use Rattle.std.proofs.lemmas.Grind.{flat_map-append}
 use Rattle.program_frame.specs.declared.lists.fault.ListFault.{ListFault}
-use Rattle.program_frame.specs.declared.lists.fault.ListFault.TheVariants.{Refused, TooLong, Unended, TooMuch, Run}
+use Rattle.program_frame.specs.declared.lists.fault.ListFault.TheVariants.{Rejected, TooLong, Unended, TooMuch, Run}
 use Rattle.program_frame.specs.Items.{Entry, Lacks, IsCutAt, ended, text_of, items_of, texts_of}
-use Rattle.program_frame.specs.Rules.{ListRules, IsFaultAt, IsRefused, IsEntry, EndsRun}
+use Rattle.program_frame.specs.Rules.{ListRules, IsFaultAt, IsRejected, IsEntry, EndsRun}
 use Rattle.program_frame.specs.Reading.{State, HasBegun, Reads, Stops, IsEnded, IsKeepFault, IsUpTo}
 
 -- a fault with which a run may end whatever becomes of rejected items
 pub ends_any : {F : Type 0} (stops : Type 0) (fault : ListFault F) → EndsRun ⊥ fault → EndsRun stops fault
-ends_any stops (Refused n why) e = absurd e
+ends_any stops (Rejected n why) e = absurd e
 ends_any stops (TooLong n most) e = tt
 ends_any stops (Unended n end) e = tt
 ends_any stops TooMuch e = tt
@@ -77,8 +77,8 @@ module _ {F : Type 0} (list : ListRules F) where
   })
 
   -- a fault of the item is one with which the run ends at it
-  pub of_item : (number : ℕ) (item : List ℕ) (fault : ListFault F) → IsFaultAt list number item fault → IsRefused list number item fault
-  of_item number item (Refused n why) h = h
+  pub of_item : (number : ℕ) (item : List ℕ) (fault : ListFault F) → IsFaultAt list number item fault → IsRejected list number item fault
+  of_item number item (Rejected n why) h = h
   of_item number item (TooLong n most) h = h
   of_item number item (Unended n end) h = absurd h
   of_item number item TooMuch h = absurd h
@@ -101,12 +101,12 @@ module _ {F : Type 0} (list : ListRules F) where
         ∙ ap (λ x. items_of end u.reads.entries ++ x) (in_parts mid.begun last (end ∷ (after ++ more)));
     whole = lacks-append end mid.begun last u.reads.begun.whole k.whole;
     ended = then_end fault (after ++ more) f;
-    because = subst (λ n. IsRefused list (n + 1) (mid.begun ++ last) fault) u.reads.counted (of_item (mid.count + 1) (mid.begun ++ last) fault f);
+    because = subst (λ n. IsRejected list (n + 1) (mid.begun ++ last) fault) u.reads.counted (of_item (mid.count + 1) (mid.begun ++ last) fault f);
     written = w ∙ u.reads.written;
   }
     where
       then_end : (f : ListFault F) (r : List ℕ) → IsFaultAt list (mid.count + 1) (mid.begun ++ last) f → IsEnded list f (list.end ∷ r)
-      then_end (Refused n why) r h = inr (r, refl)
+      then_end (Rejected n why) r h = inr (r, refl)
       then_end (TooLong n most) r h = tt
       then_end (Unended n end) r h = absurd h
       then_end TooMuch r h = tt
@@ -151,6 +151,6 @@ module _ {F : Type 0} (list : ListRules F) where
         ∙ ap (λ x. items_of end u.reads.entries ++ x) (in_parts mid.begun rest more);
     whole = lacks-append end mid.begun rest u.reads.begun.whole l;
     ended = ended_kept (mid.count + 1) (mid.begun ++ rest) fault more f;
-    because = subst (λ n. IsRefused list (n + 1) (mid.begun ++ rest) fault) u.reads.counted (of_item (mid.count + 1) (mid.begun ++ rest) fault (of_kept (mid.count + 1) (mid.begun ++ rest) fault f));
+    because = subst (λ n. IsRejected list (n + 1) (mid.begun ++ rest) fault) u.reads.counted (of_item (mid.count + 1) (mid.begun ++ rest) fault (of_kept (mid.count + 1) (mid.begun ++ rest) fault f));
     written = w ∙ u.reads.written;
   }

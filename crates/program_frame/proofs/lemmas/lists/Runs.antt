@@ -8,9 +8,9 @@ use Rattle.std.specs.Io.KnownBytes.{Appends, Consumes, IsAtEnd}
 use Rattle.program_frame.specs.declared.fault.Failure.{Failure}
 use Rattle.program_frame.specs.declared.fault.Failure.TheVariants as failure
 use Rattle.program_frame.specs.declared.lists.fault.ListFault.{ListFault}
-use Rattle.program_frame.specs.declared.lists.fault.ListFault.TheVariants.{Refused, TooLong, Unended, TooMuch, Run}
+use Rattle.program_frame.specs.declared.lists.fault.ListFault.TheVariants.{Rejected, TooLong, Unended, TooMuch, Run}
 use Rattle.program_frame.specs.Items.{Entry, ended, text_of, items_of, texts_of}
-use Rattle.program_frame.specs.Rules.{ListRules, IsFaultAt, IsRefused, IsEntry}
+use Rattle.program_frame.specs.Rules.{ListRules, IsFaultAt, IsRejected, IsEntry}
 use Rattle.program_frame.specs.Written.{AppendsBeginning}
 use Rattle.program_frame.specs.Reading.{State, Reads, Stops, IsEnded, Begins}
 use Rattle.program_frame.specs.ListRun.{start, IsOutput, IsBegun, StopsOn, WritesOutput, WritesUpTo, WritesBeginning, HasRead, IsLast, Finishes}
@@ -97,7 +97,7 @@ module _ {F : Type 0} (list : ListRules F) where
         joined = both_items old mid a b (q.item ++ q.rest) q.entries r q.joined;
         whole = q.whole;
         ended = q.ended;
-        because = subst (λ m. IsRefused list m q.item fault) n q.because;
+        because = subst (λ m. IsRejected list m q.item fault) n q.because;
         written = both_texts old.output mid.output text r.entries q.entries r.written q.written;
       }
 
@@ -126,7 +126,7 @@ module _ {F : Type 0} (list : ListRules F) where
   of_begins input text b = record { entries = b.entries; are = b.are; rest = b.rest; joined = b.joined; written = b.written }
 
   of_stops : (input text : List ℕ) (fault : ListFault F) → Stops list start input text fault → StopsOn list input text fault
-  of_stops input text (Refused n why) q = q
+  of_stops input text (Rejected n why) q = q
   of_stops input text (TooLong n most) q = q
   of_stops input text (Unended n end) q = q
   of_stops input text TooMuch q = absurd q.because
@@ -138,7 +138,7 @@ module _ {F : Type 0} (list : ListRules F) where
 
   -- nothing comes after the last item, which may lack its end
   pub at_end : (f : ListFault F) → (n : ℕ) (item : List ℕ) → list.takes_unended → IsFaultAt list n item f → IsEnded list f []
-  at_end (Refused m why) n item t h = inl (refl, t)
+  at_end (Rejected m why) n item t h = inl (refl, t)
   at_end (TooLong m most) n item t h = tt
   at_end (Unended m end) n item t h = refl
   at_end TooMuch n item t h = tt
@@ -260,7 +260,7 @@ module _ {F : Type 0} (list : ListRules F) where
     finished text c e f w = Consumes-whole input next h.bytes _ (whole c) e (h.text ++ text, (output text f, Appends-trans old mid new h.text text h.written w))
 
     -- the last item is rejected
-    at_last : (fault : ListFault F) → IsRefused list (count + 1) begun fault → IsEnded list fault [] → Stops list start h.bytes h.text fault
+    at_last : (fault : ListFault F) → IsRejected list (count + 1) begun fault → IsEnded list fault [] → Stops list start h.bytes h.text fault
     at_last fault f ended = record {
       entries = h.reads.entries;
       are = h.reads.are;
@@ -269,12 +269,12 @@ module _ {F : Type 0} (list : ListRules F) where
       joined = h.reads.joined ∙ ap (λ x. items_of end h.reads.entries ++ x) (sym (append-nil begun));
       whole = h.reads.begun.whole;
       ended = ended;
-      because = subst (λ n. IsRefused list (n + 1) begun fault) h.reads.counted f;
+      because = subst (λ n. IsRejected list (n + 1) begun fault) h.reads.counted f;
       written = h.reads.written;
     }
 
-    pub last_refused : (fault : ListFault F) → Consumes left next [] → IsAtEnd next → IsRefused list (count + 1) begun fault → IsEnded list fault [] → WritesUpTo list fault input old mid
-    last_refused fault c e f ended = Consumes-whole input next h.bytes _ (whole c) e (h.text, (of_stops h.bytes h.text fault (at_last fault f ended), h.written))
+    pub last_rejected : (fault : ListFault F) → Consumes left next [] → IsAtEnd next → IsRejected list (count + 1) begun fault → IsEnded list fault [] → WritesUpTo list fault input old mid
+    last_rejected fault c e f ended = Consumes-whole input next h.bytes _ (whole c) e (h.text, (of_stops h.bytes h.text fault (at_last fault f ended), h.written))
 
     pub last_half : (text : List ℕ) → Consumes left next [] → IsAtEnd next → IsLast list begun text → AppendsBeginning mid new text → WritesBeginning list input old new
     last_half text c e l w =

@@ -3,7 +3,7 @@ use Rattle.std.proofs.lemmas.Result.{IfErr-weaker}
 use Rattle.path_building.specs.BaseViews.{base_style}
 use Rattle.path_building.specs.Faults.{IsNameFault}
 use Rattle.paths_commands.specs.Task.{component_of, rules_of}
-use Rattle.paths_commands.specs.declared.fault.Refusal.TheVariants.{NoJoin, NoJoinAt}
+use Rattle.paths_commands.specs.declared.fault.Rejection.TheVariants.{NoJoin, NoJoinAt}
 use Rattle.paths_commands.specs.declared.task.Task.TheVariants.{JoinChecked}
 use Rattle.program_frame.specs.ListRun.{StopsOn}
 use Rattle.program_frame.specs.declared.lists.options.ItemEnd.TheVariants.{Nul}

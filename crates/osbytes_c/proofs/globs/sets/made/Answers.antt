@@ -1,13 +1,13 @@
 use Rattle.std.proofs.Common.{◌≡◌, ℕ, sym, subst, arith}
 use Rattle.std.proofs.lemmas.Result.{err_from_is_err_and}
 use Rattle.glob_patterns.specs.declared.options.GlobOptions.{GlobOptions}
-use Rattle.osbytes_c.specs.declared.globs.Refusal.{Refusal}
+use Rattle.osbytes_c.specs.declared.globs.Rejection.{Rejection}
 use Rattle.osbytes_c.specs.Globs.{IsNoSet}
 use Rattle.osbytes_c.specs.ItemLists.{Views}
 use Rattle.osbytes_c.specs.Platforms.{formed_on, units_on}
 use Rattle.osbytes_c.proofs.globs.sets.made.Goals as goal
 
-numbered : (n m : ℕ) (o : GlobOptions) (patterns : Views) (r : Refusal) → m ≡ n → IsNoSet (formed_on n) (units_on n) o patterns r → IsNoSet (formed_on m) (units_on m) o patterns r
+numbered : (n m : ℕ) (o : GlobOptions) (patterns : Views) (r : Rejection) → m ≡ n → IsNoSet (formed_on n) (units_on n) o patterns r → IsNoSet (formed_on m) (units_on m) o patterns r
 numbered n m o patterns r e is = subst (λ k. IsNoSet (formed_on k) (units_on k) o patterns r) (sym e) is
 
 pub returns-in_err-made_on-in-0 : goal.returns-in_err-made_on-in-0

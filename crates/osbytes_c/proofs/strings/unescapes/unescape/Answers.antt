@@ -10,4 +10,4 @@ returns-in-Err-clause-string g c = λ is.
     let escape = c.args.escape.now in
     let fault =
     subst (λ r. MatchResult r (IsUnescaped P.well_formed P.units escape c.args.out.now c.write_unescaped_bytes.new.buffer) (λ fault. IsQuoteFault P.well_formed P.units escape fault × (fault ≢ Memory))) c.in-Err.is c.in-Some.ensures.read in
-    subst (IsQuoteFault P.well_formed P.units escape) (c.refused.ensures.string is fault.1) fault.0
+    subst (IsQuoteFault P.well_formed P.units escape) (c.rejected.ensures.string is fault.1) fault.0

@@ -18,7 +18,7 @@ returns-then-last-longest_item g c =
       ok = on_ok_weaker c.write_at.result
           (λ text. (
             text.0,
-            subst (λ x. IsEntry (passing (g.N.Refusals.passed c.write_at.new.refusals) list) (x ++ last, text.0)) (sym empty) (record { whole = c.requires.whole; short = short; text = text.1.0 }),
+            subst (λ x. IsEntry (passing (g.N.Rejections.passed c.write_at.new.rejections) list) (x ++ last, text.0)) (sym empty) (record { whole = c.requires.whole; short = short; text = text.1.0 }),
             text.1.1,
           ))
           written.ok;
@@ -38,7 +38,7 @@ returns-in-Err g c =
       fault = of_kept list c.args.number (c.args.begun.now.items ++ c.args.last.now) c.in-Err.fault c.in-Err.ensures.fault;
       unchanged = refl;
       more = omega arith;
-      ends = ends_any g.N.Refusals.stops c.in-Err.fault c.in-Err.ensures.ends;
+      ends = ends_any g.N.Rejections.stops c.in-Err.fault c.in-Err.ensures.ends;
       memory = c.requires.memory;
     }
 
@@ -58,7 +58,7 @@ returns-in-Err-write_at g c =
 
 pub returns : goal.returns
 returns g c =
-    let list = passing (g.N.Refusals.passed c.write_at-2.new.refusals) (g.T.ListTask.rules c.args.task.now) in
+    let list = passing (g.N.Rejections.passed c.write_at-2.new.rejections) (g.T.ListTask.rules c.args.task.now) in
     let kept = c.in-Ok.ensures.kept in
     let written = c.in-Ok-write_at.ensures in
     let text = written.ok in record {

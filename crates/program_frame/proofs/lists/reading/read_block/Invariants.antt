@@ -6,9 +6,9 @@ use Rattle.program_frame.proofs.lists.reading.read_block.Given as goal
 abbrev pub invariant-loop-last : goal.invariant-loop-last
 invariant-loop-last g l = record {
   up_to :
-      IsUpTo (passing (g.N.Refusals.passed l.refusals) (g.T.ListTask.rules l.task)) (record { begun = l.fn.begun.items; count = l.count; output = l.fn.output.items }) l.block l.rest
+      IsUpTo (passing (g.N.Rejections.passed l.rejections) (g.T.ListTask.rules l.task)) (record { begun = l.fn.begun.items; count = l.count; output = l.fn.output.items }) l.block l.rest
       (record { begun = l.begun.items; count = l.ended; output = l.output.items });
-  more : g.N.Refusals.passed l.fn.refusals ≤ g.N.Refusals.passed l.refusals;
+  more : g.N.Rejections.passed l.fn.rejections ≤ g.N.Rejections.passed l.rejections;
   memory : g.T.ListTask.remembers l.task l.memory;
 }
 

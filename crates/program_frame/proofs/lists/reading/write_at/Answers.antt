@@ -4,8 +4,8 @@ use Rattle.program_frame.proofs.lists.reading.write_at.Goals as goal
 
 pub returns-then-passes-clause-ok : goal.returns-then-passes-clause-ok
 returns-then-passes-clause-ok g c =
-    let refused = subst (IsItemFault (g.T.ListTask.rules c.args.task.now) c.args.item.now) c.in-Err-Refused.field-0-is c.in-Err-Refused.ensures.fault in
-    ([], (inr (c.passes.ensures.some c.if-passes.true, (refl, (c.in-Err-Refused.why, refused))), c.in-Err-Refused.ensures.unchanged ∙ sym (append-nil c.args.output.now.items)))
+    let rejected = subst (IsItemFault (g.T.ListTask.rules c.args.task.now) c.args.item.now) c.in-Err-Rejected.field-0-is c.in-Err-Rejected.ensures.fault in
+    ([], (inr (c.passes.ensures.some c.if-passes.true, (refl, (c.in-Err-Rejected.why, rejected))), c.in-Err-Rejected.ensures.unchanged ∙ sym (append-nil c.args.output.now.items)))
 
 pub returns-in-Ok : goal.returns-in-Ok
 returns-in-Ok g c =
@@ -21,11 +21,11 @@ returns-in-Ok g c =
 pub returns-else-passes : goal.returns-else-passes
 returns-else-passes g c = record {
   ok = tt;
-  fault = (refl, (c.requires.short, subst (IsItemFault (g.T.ListTask.rules c.args.task.now) c.args.item.now) c.in-Err-Refused.field-0-is c.in-Err-Refused.ensures.fault));
-  unchanged = c.in-Err-Refused.ensures.unchanged;
+  fault = (refl, (c.requires.short, subst (IsItemFault (g.T.ListTask.rules c.args.task.now) c.args.item.now) c.in-Err-Rejected.field-0-is c.in-Err-Rejected.ensures.fault));
+  unchanged = c.in-Err-Rejected.ensures.unchanged;
   more = c.passes.ensures.more;
   ends = c.passes.ensures.ends c.if-passes.false;
-  memory = c.in-Err-Refused.ensures.memory;
+  memory = c.in-Err-Rejected.ensures.memory;
 }
 
 pub returns-in-Err-TooLong : goal.returns-in-Err-TooLong

@@ -34,14 +34,14 @@ returns-then-is_empty g c =
 pub returns : goal.returns
 returns g c =
     let taken = c.takes_unended.ensures.0 c.if-not-takes_unended.false in
-    let refused = λ (why : Failure). item_memory (g.T.ListTask.rules c.args.task.now) {X = ⊤} _ _ _ why c.in-Err.ensures.fault in record {
+    let rejected = λ (why : Failure). item_memory (g.T.ListTask.rules c.args.task.now) {X = ⊤} _ _ _ why c.in-Err.ensures.fault in record {
       ok = tt;
       stopped = λ _. of_item (g.T.ListTask.rules c.args.task.now) _ _ _ c.in-Err.ensures.fault;
       ended = at_end (g.T.ListTask.rules c.args.task.now) _ _ _ taken c.in-Err.ensures.fault;
       unchanged = λ _. refl;
-      beginning = λ e. absurd (write_no_memory (refused Write e));
-      no_read = λ e. read_no_memory (refused Read e);
-      marked = (λ e. absurd (write_no_memory (refused Write e)), λ set. absurd (false≢true (sym c.requires.unmarked ∙ set)));
+      beginning = λ e. absurd (write_no_memory (rejected Write e));
+      no_read = λ e. read_no_memory (rejected Read e);
+      marked = (λ e. absurd (write_no_memory (rejected Write e)), λ set. absurd (false≢true (sym c.requires.unmarked ∙ set)));
       more = c.in-Err.ensures.more;
       ends = c.in-Err.ensures.ends;
       memory = c.in-Err.ensures.memory;
@@ -54,7 +54,7 @@ returns-in-Ok g c =
     let old = g.W.Write.contents (marked_inner c.args.writer.now) in
     let new = g.W.Write.contents (marked_inner c.write_output.new.writer) in
     let same = c.deref.ensures.value ∙ text.1.1 ∙ ap (λ x. x ++ text.0) c.new-output.ensures.items in
-    let last : IsLast (passing (g.N.Refusals.passed c.write_at.new.refusals) (g.T.ListTask.rules c.args.task.now)) c.args.begun.now text.0 = record {
+    let last : IsLast (passing (g.N.Rejections.passed c.write_at.new.rejections) (g.T.ListTask.rules c.args.task.now)) c.args.begun.now text.0 = record {
       some = λ none. false≢true (sym c.if-is_empty.false ∙ c.is_empty.ensures ∙ ap (λ x. length x == 0) none);
       taken = c.takes_unended.ensures.0 c.if-not-takes_unended.false;
       entry = record { whole = c.requires.begun.whole; short = c.requires.begun.short; text = text.1.0 };
@@ -67,6 +67,6 @@ returns-in-Ok g c =
       no_read = written.no_read;
       marked = written.marked;
       more = c.in-Ok.ensures.more;
-      ends = IfErr-weaker c.write_output.result _ _ (λ fault is. subst (EndsRun (g.N.Refusals.stops)) (sym is) tt) written.fault;
+      ends = IfErr-weaker c.write_output.result _ _ (λ fault is. subst (EndsRun (g.N.Rejections.stops)) (sym is) tt) written.fault;
       memory = c.in-Ok.ensures.memory;
     }

@@ -5,11 +5,11 @@ use Rattle.std.specs.Io.KnownBytes.{Consumes}
 use Rattle.std.specs.Prelude.{⊤}
 use Rattle.program_frame.specs.Marked.{marked_inner}
 use Rattle.program_frame.specs.declared.fault.Failure.TheVariants.{Read}
-use Rattle.program_frame.specs.Rules.{IsRefused, passing}
+use Rattle.program_frame.specs.Rules.{IsRejected, passing}
 use Rattle.program_frame.specs.ListRun.{HasRead, WritesUpTo, Finishes, IsLast}
 use Rattle.program_frame.proofs.lemmas.Results.{OnOk-from}
 use Rattle.program_frame.proofs.lemmas.lists.Passing.{later_has_read}
-use Rattle.program_frame.proofs.lemmas.lists.Runs.{no_err, other_err, write_no_read, too_much_no_run, counted, more_read, nothing_read, stopped, half_written, so_far, too_much, finished, last_refused, last_half}
+use Rattle.program_frame.proofs.lemmas.lists.Runs.{no_err, other_err, write_no_read, too_much_no_run, counted, more_read, nothing_read, stopped, half_written, so_far, too_much, finished, last_rejected, last_half}
 use Rattle.program_frame.proofs.lists.run.run_with.Goals as goal
 
 -- a mark that isn't set is unset
@@ -23,7 +23,7 @@ all_err (Err e) P Q R S f h k l = f e h k l
 
 pub loop-alloc-init : goal.loop-alloc-init
 loop-alloc-init g c =
-    let list = passing (g.N.Refusals.passed c.args.refusals.now) (g.T.ListTask.rules c.args.task.now) in
+    let list = passing (g.N.Rejections.passed c.args.rejections.now) (g.T.ListTask.rules c.args.task.now) in
     let input = g.R.Read.remaining (marked_inner c.args.reader.now) in
     let old = g.W.Write.contents (marked_inner c.args.writer.now) in record {
       read = subst (λ begun. HasRead list input input old old begun 0 0) (sym c.new-begun.ensures.items) (nothing_read list input old);
@@ -34,17 +34,17 @@ loop-alloc-init g c =
     }
 
 pub finish-requires-clause-counted : goal.finish-requires-clause-counted
-finish-requires-clause-counted g c = omega (arith, counted (passing (g.N.Refusals.passed c.loop-alloc.refusals) (g.T.ListTask.rules c.args.task.now)) _ _ (g.R.Read.remaining (marked_inner c.loop-alloc.reader)) _ _ (g.W.Write.contents (marked_inner c.loop-alloc.writer)) _ _ _ c.loop-alloc.invariant.read, c.loop-alloc.invariant.within)
+finish-requires-clause-counted g c = omega (arith, counted (passing (g.N.Rejections.passed c.loop-alloc.rejections) (g.T.ListTask.rules c.args.task.now)) _ _ (g.R.Read.remaining (marked_inner c.loop-alloc.reader)) _ _ (g.W.Write.contents (marked_inner c.loop-alloc.writer)) _ _ _ c.loop-alloc.invariant.read, c.loop-alloc.invariant.within)
 
 pub write_block-requires-clause-counted : goal.write_block-requires-clause-counted
 write_block-requires-clause-counted g c =
     let most : length (take c.in-Ok.size c.read.new.buf) ≡ c.in-Ok.size = sym c.in-Ok.ensures.bound.1 in
-    omega (arith, counted (passing (g.N.Refusals.passed c.loop-alloc.refusals) (g.T.ListTask.rules c.args.task.now)) _ _ (g.R.Read.remaining (marked_inner c.loop-alloc.reader)) _ _ (g.W.Write.contents (marked_inner c.loop-alloc.writer)) _ _ _ c.loop-alloc.invariant.read, c.if-size-total.false, most)
+    omega (arith, counted (passing (g.N.Rejections.passed c.loop-alloc.rejections) (g.T.ListTask.rules c.args.task.now)) _ _ (g.R.Read.remaining (marked_inner c.loop-alloc.reader)) _ _ (g.W.Write.contents (marked_inner c.loop-alloc.writer)) _ _ _ c.loop-alloc.invariant.read, c.if-size-total.false, most)
 
 pub returns-in-Ok-eq0 : goal.returns-in-Ok-eq0
 returns-in-Ok-eq0 g c =
-    let list = passing (g.N.Refusals.passed c.finish.new.refusals) (g.T.ListTask.rules c.args.task.now) in
-    let read = later_has_read (g.T.ListTask.rules c.args.task.now) _ (g.N.Refusals.passed c.finish.new.refusals) c.finish.ensures.more _ _ _ _ _ _ _ c.loop-alloc.invariant.read in
+    let list = passing (g.N.Rejections.passed c.finish.new.rejections) (g.T.ListTask.rules c.args.task.now) in
+    let read = later_has_read (g.T.ListTask.rules c.args.task.now) _ (g.N.Rejections.passed c.finish.new.rejections) c.finish.ensures.more _ _ _ _ _ _ _ c.loop-alloc.invariant.read in
     let consumed = subst (λ n. Consumes (g.R.Read.remaining (marked_inner c.loop-alloc.reader)) (g.R.Read.remaining (marked_inner c.read.new.self)) (take n c.read.new.buf)) c.in-Ok-eq0.field-0-test c.in-Ok-eq0.ensures.bytes.0 in
     let room : 0 < length c.read.new.buf = search rules in
     let end = c.in-Ok-eq0.ensures.bytes.1 c.in-Ok-eq0.field-0-test room in
@@ -56,7 +56,7 @@ returns-in-Ok-eq0 g c =
       stopped = all_err c.finish.result _ _ _ _
           (λ fault item same ended not_write.
           subst (λ w. WritesUpTo list fault (g.R.Read.remaining (marked_inner c.args.reader.now)) (g.W.Write.contents (marked_inner c.args.writer.now)) (g.W.Write.contents (marked_inner w))) (sym (same not_write))
-          (last_refused list _ _ _ _ _ (g.W.Write.contents (marked_inner c.loop-alloc.writer)) _ _ _ read fault consumed end (subst (λ x. IsRefused list (c.loop-alloc.count + 1) x fault) c.deref.ensures.value (item not_write)) ended))
+          (last_rejected list _ _ _ _ _ (g.W.Write.contents (marked_inner c.loop-alloc.writer)) _ _ _ read fault consumed end (subst (λ x. IsRejected list (c.loop-alloc.count + 1) x fault) c.deref.ensures.value (item not_write)) ended))
           c.finish.ensures.stopped c.finish.ensures.unchanged c.finish.ensures.ended;
       beginning = λ e.
           let text = c.finish.ensures.beginning e in
@@ -70,7 +70,7 @@ pub returns-in-Err : goal.returns-in-Err
 returns-in-Err g c = record {
   all_read = tt;
   written = tt;
-  stopped = λ not_write. so_far (passing (g.N.Refusals.passed c.loop-alloc.refusals) (g.T.ListTask.rules c.args.task.now)) _ _ (g.R.Read.remaining (marked_inner c.loop-alloc.reader)) _ _ (g.W.Write.contents (marked_inner c.loop-alloc.writer)) _ _ _ c.loop-alloc.invariant.read Read;
+  stopped = λ not_write. so_far (passing (g.N.Rejections.passed c.loop-alloc.rejections) (g.T.ListTask.rules c.args.task.now)) _ _ (g.R.Read.remaining (marked_inner c.loop-alloc.reader)) _ _ (g.W.Write.contents (marked_inner c.loop-alloc.writer)) _ _ _ c.loop-alloc.invariant.read Read;
   beginning = λ e. absurd (write_no_read (sym e));
   ends = tt;
   read = (λ _. c.in-Err.ensures.mark ∙ or_right _ true refl, λ _. refl);
@@ -83,7 +83,7 @@ returns-then-size-total g c =
     let unread = c.in-Ok.ensures.mark ∙ ap (λ x. x || false) c.loop-alloc.invariant.reader_unmarked in record {
       all_read = tt;
       written = tt;
-      stopped = λ not_write. too_much (passing (g.N.Refusals.passed c.loop-alloc.refusals) (g.T.ListTask.rules c.args.task.now)) _ _ _ _ _ (g.W.Write.contents (marked_inner c.loop-alloc.writer)) _ _ _ c.loop-alloc.invariant.read _ c.in-Ok.ensures.bytes.0 (omega (arith, c.if-size-total.true, most));
+      stopped = λ not_write. too_much (passing (g.N.Rejections.passed c.loop-alloc.rejections) (g.T.ListTask.rules c.args.task.now)) _ _ _ _ _ (g.W.Write.contents (marked_inner c.loop-alloc.writer)) _ _ _ c.loop-alloc.invariant.read _ c.in-Ok.ensures.bytes.0 (omega (arith, c.if-size-total.true, most));
       beginning = λ e. absurd (too_much_no_run e);
       ends = tt;
       read = (λ e. absurd (too_much_no_run e), λ set. absurd (false≢true (sym unread ∙ set)));
@@ -92,11 +92,11 @@ returns-then-size-total g c =
 
 pub loop-alloc-preserved : goal.loop-alloc-preserved
 loop-alloc-preserved g c =
-    let read = later_has_read (g.T.ListTask.rules c.args.task.now) _ (g.N.Refusals.passed c.write_block.new.refusals) c.in-Ok-write_block.ensures.more _ _ _ _ _ _ _ c.loop-alloc.invariant.read in
+    let read = later_has_read (g.T.ListTask.rules c.args.task.now) _ (g.N.Rejections.passed c.write_block.new.rejections) c.in-Ok-write_block.ensures.more _ _ _ _ _ _ _ c.loop-alloc.invariant.read in
     let most : length (take c.in-Ok.size c.read.new.buf) ≡ c.in-Ok.size = sym c.in-Ok.ensures.bound.1 in
     let consumed = c.in-Ok.ensures.bytes.0 in
     let text = c.in-Ok-write_block.ensures.ok in record {
-      read = more_read (passing (g.N.Refusals.passed c.write_block.new.refusals) (g.T.ListTask.rules c.args.task.now)) _ _ _ _ _ _ _ _ _ read _ _ text.0 _ _ consumed text.1.0 text.1.1 (omega (arith, most));
+      read = more_read (passing (g.N.Rejections.passed c.write_block.new.rejections) (g.T.ListTask.rules c.args.task.now)) _ _ _ _ _ _ _ _ _ read _ _ text.0 _ _ consumed text.1.0 text.1.1 (omega (arith, most));
       within = omega (arith, c.if-size-total.false, c.loop-alloc.invariant.within);
       reader_unmarked = c.in-Ok.ensures.mark ∙ ap (λ x. x || false) c.loop-alloc.invariant.reader_unmarked;
       writer_unmarked = unset _ (λ set. no_err (c.in-Ok-write_block.ensures.marked.1 set));
@@ -105,8 +105,8 @@ loop-alloc-preserved g c =
 
 pub returns-in-Err-write_block : goal.returns-in-Err-write_block
 returns-in-Err-write_block g c =
-    let list = passing (g.N.Refusals.passed c.write_block.new.refusals) (g.T.ListTask.rules c.args.task.now) in
-    let read = later_has_read (g.T.ListTask.rules c.args.task.now) _ (g.N.Refusals.passed c.write_block.new.refusals) c.in-Err-write_block.ensures.more _ _ _ _ _ _ _ c.loop-alloc.invariant.read in
+    let list = passing (g.N.Rejections.passed c.write_block.new.rejections) (g.T.ListTask.rules c.args.task.now) in
+    let read = later_has_read (g.T.ListTask.rules c.args.task.now) _ (g.N.Rejections.passed c.write_block.new.rejections) c.in-Err-write_block.ensures.more _ _ _ _ _ _ _ c.loop-alloc.invariant.read in
     let consumed = c.in-Ok.ensures.bytes.0 in
     let unread = c.in-Ok.ensures.mark ∙ ap (λ x. x || false) c.loop-alloc.invariant.reader_unmarked in record {
       all_read = tt;

@@ -6,7 +6,7 @@ use Rattle.program_frame.proofs.lists.run.run_with.Given as goal
 
 abbrev pub invariant-loop-alloc : goal.invariant-loop-alloc
 invariant-loop-alloc g l = record {
-  read : HasRead (passing (g.N.Refusals.passed l.refusals) (g.T.ListTask.rules l.task)) (g.R.Read.remaining (marked_inner l.fn.reader)) (g.R.Read.remaining (marked_inner l.reader)) (g.W.Write.contents (marked_inner l.fn.writer)) (g.W.Write.contents (marked_inner l.writer)) l.begun.items l.count l.total;
+  read : HasRead (passing (g.N.Rejections.passed l.rejections) (g.T.ListTask.rules l.task)) (g.R.Read.remaining (marked_inner l.fn.reader)) (g.R.Read.remaining (marked_inner l.reader)) (g.W.Write.contents (marked_inner l.fn.writer)) (g.W.Write.contents (marked_inner l.writer)) l.begun.items l.count l.total;
   within : l.total + 1 < 2 ^ 64;
   reader_unmarked : has_failed l.reader ≡ false;
   writer_unmarked : has_failed l.writer ≡ false;

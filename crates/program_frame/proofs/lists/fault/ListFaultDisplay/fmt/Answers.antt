@@ -4,11 +4,11 @@ use Rattle.os_args.proofs.lemmas.Plain.{plainly}
 use Rattle.program_frame.specs.ListFault.{text_of}
 use Rattle.program_frame.proofs.lists.fault.ListFaultDisplay.fmt.Goals as goal
 
-pub returns-in_ok-write_index-in-Refused-clause-styled : goal.returns-in_ok-write_index-in-Refused-clause-styled
-returns-in_ok-write_index-in-Refused-clause-styled g c = λ flush ok.
-    let head = c.in_ok-write_index-in-Refused.ensures flush (refl {a = true}) in
+pub returns-in_ok-write_index-in-Rejected-clause-styled : goal.returns-in_ok-write_index-in-Rejected-clause-styled
+returns-in_ok-write_index-in-Rejected-clause-styled g c = λ flush ok.
+    let head = c.in_ok-write_index-in-Rejected.ensures flush (refl {a = true}) in
     let text = c.write.ensures head.flush ok in
-    has_written_styled_of_eq _ _ _ _ _ (sym (ap (text_of g.F.ItemRefusal.item g.F.ItemRefusal.text_of) c.in-Refused.is)) (has_written_styled_append _ _ _ _ _ _ head text)
+    has_written_styled_of_eq _ _ _ _ _ (sym (ap (text_of g.F.ItemRejection.item g.F.ItemRejection.text_of) c.in-Rejected.is)) (has_written_styled_append _ _ _ _ _ _ head text)
 
 pub returns-in_ok-write_number-in-TooLong-clause-styled : goal.returns-in_ok-write_number-in-TooLong-clause-styled
 returns-in_ok-write_number-in-TooLong-clause-styled g c = λ flush ok.
@@ -16,10 +16,10 @@ returns-in_ok-write_number-in-TooLong-clause-styled g c = λ flush ok.
     let longer = c.in_ok-write_str-in-TooLong.ensures.styled head.flush (refl {a = true}) in
     let number = c.in_ok-write_number-in-TooLong.ensures longer.flush (refl {a = true}) in
     let end = c.write_str-in-TooLong.ensures.styled number.flush ok in
-    has_written_styled_of_eq _ _ _ _ _ (sym (ap (text_of g.F.ItemRefusal.item g.F.ItemRefusal.text_of) c.in-TooLong.is)) (has_written_styled_append _ _ _ _ _ _ head (has_written_styled_append _ _ _ _ _ _ longer (has_written_styled_append _ _ _ _ _ _ number end)))
+    has_written_styled_of_eq _ _ _ _ _ (sym (ap (text_of g.F.ItemRejection.item g.F.ItemRejection.text_of) c.in-TooLong.is)) (has_written_styled_append _ _ _ _ _ _ head (has_written_styled_append _ _ _ _ _ _ longer (has_written_styled_append _ _ _ _ _ _ number end)))
 
-pub returns-in_ok-write_index-in-Refused-clause-writes : goal.returns-in_ok-write_index-in-Refused-clause-writes
-returns-in_ok-write_index-in-Refused-clause-writes g c = λ plain ok. plainly plain (returns-in_ok-write_index-in-Refused-clause-styled g c plain.flush ok)
+pub returns-in_ok-write_index-in-Rejected-clause-writes : goal.returns-in_ok-write_index-in-Rejected-clause-writes
+returns-in_ok-write_index-in-Rejected-clause-writes g c = λ plain ok. plainly plain (returns-in_ok-write_index-in-Rejected-clause-styled g c plain.flush ok)
 
 pub returns-in_ok-write_number-in-TooLong-clause-writes : goal.returns-in_ok-write_number-in-TooLong-clause-writes
 returns-in_ok-write_number-in-TooLong-clause-writes g c = λ plain ok. plainly plain (returns-in_ok-write_number-in-TooLong-clause-styled g c plain.flush ok)
