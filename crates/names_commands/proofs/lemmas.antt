@@ -12,3 +12,4 @@ pub mod WordsBack
 pub mod Decided
 pub mod Pointed
 pub mod Wide
+pub mod Entries

@@ -18,6 +18,7 @@ use Rattle.program_frame.specs.declared.misuse.Misuse.{Misuse}
 use Rattle.program_frame.specs.declared.misuse.Misuse.TheVariants.{Argument, Missing, Invalid, Misplaced}
 use Rattle.program_frame.specs.declared.os.Os.{Os}
 use Rattle.program_frame.specs.declared.os.Os.TheVariants.{Unix, Windows, Wasm}
+use Rattle.names_commands.specs.Operands.{HasPlatform}
 use Rattle.names_commands.specs.Options.{word_of}
 use Rattle.names_commands.specs.Pick.{ArePatterns, TakesIgnore}
 use Rattle.names_commands.specs.declared.command.Command.{Command}
@@ -28,7 +29,7 @@ use Rattle.names_commands.specs.declared.command.Request.{Request}
 use Rattle.names_commands.specs.declared.command.RequestError.{RequestError}
 use Rattle.names_commands.specs.declared.command.RequestError.TheVariants.{Memory, Misuse as OfMisuse}
 use Rattle.names_commands.specs.declared.command.Work.{Work}
-use Rattle.names_commands.specs.declared.command.Work.TheVariants.{Each, Picked, Why}
+use Rattle.names_commands.specs.declared.command.Work.TheVariants.{Each, Picked, Tar, Why}
 use Rattle.names_commands.specs.declared.matching.Form.{Form}
 use Rattle.names_commands.specs.declared.matching.Form.TheVariants as form
 use Rattle.names_commands.specs.declared.option.NamesOption.{NamesOption}
@@ -51,6 +52,7 @@ name_word name.Filter = codes "filter"
 name_word name.Why = codes "why"
 name_word name.Join = codes "join"
 name_word name.Check = codes "check"
+name_word name.Tar = codes "tar"
 
 -- the command takes the option
 abbrev pub TakesOption : Name → NamesOption → Type 0
@@ -62,43 +64,56 @@ TakesOption name.Join option.Sh = Unit {0}
 TakesOption name.Filter option.Sh = ⊥
 TakesOption name.Why option.Sh = ⊥
 TakesOption name.Check option.Sh = ⊥
+TakesOption name.Tar option.Sh = ⊥
 TakesOption name.List option.ShLine = Unit {0}
 TakesOption name.Join option.ShLine = Unit {0}
 TakesOption name.Filter option.ShLine = ⊥
 TakesOption name.Why option.ShLine = ⊥
 TakesOption name.Check option.ShLine = ⊥
+TakesOption name.Tar option.ShLine = ⊥
 TakesOption command option.Lines = Unit {0}
-TakesOption command option.Unterminated = Unit {0}
+TakesOption name.List option.Unterminated = Unit {0}
+TakesOption name.Join option.Unterminated = Unit {0}
+TakesOption name.Filter option.Unterminated = Unit {0}
+TakesOption name.Why option.Unterminated = Unit {0}
+TakesOption name.Check option.Unterminated = Unit {0}
+TakesOption name.Tar option.Unterminated = ⊥
 TakesOption name.List option.Empty = ⊥
 TakesOption name.Join option.Empty = Unit {0}
 TakesOption name.Filter option.Empty = ⊥
 TakesOption name.Why option.Empty = ⊥
 TakesOption name.Check option.Empty = ⊥
+TakesOption name.Tar option.Empty = ⊥
 TakesOption name.List option.Glob = Unit {0}
 TakesOption name.Join option.Glob = ⊥
 TakesOption name.Filter option.Glob = Unit {0}
 TakesOption name.Why option.Glob = ⊥
 TakesOption name.Check option.Glob = ⊥
+TakesOption name.Tar option.Glob = ⊥
 TakesOption name.List option.Name = Unit {0}
 TakesOption name.Join option.Name = ⊥
 TakesOption name.Filter option.Name = Unit {0}
 TakesOption name.Why option.Name = ⊥
 TakesOption name.Check option.Name = ⊥
+TakesOption name.Tar option.Name = ⊥
 TakesOption name.List option.Ignore = Unit {0}
 TakesOption name.Join option.Ignore = ⊥
 TakesOption name.Filter option.Ignore = Unit {0}
 TakesOption name.Why option.Ignore = Unit {0}
 TakesOption name.Check option.Ignore = ⊥
+TakesOption name.Tar option.Ignore = ⊥
 TakesOption name.List option.Invert = Unit {0}
 TakesOption name.Join option.Invert = ⊥
 TakesOption name.Filter option.Invert = Unit {0}
 TakesOption name.Why option.Invert = ⊥
 TakesOption name.Check option.Invert = ⊥
+TakesOption name.Tar option.Invert = ⊥
 TakesOption name.List option.IgnoreCase = Unit {0}
 TakesOption name.Join option.IgnoreCase = ⊥
 TakesOption name.Filter option.IgnoreCase = Unit {0}
 TakesOption name.Why option.IgnoreCase = Unit {0}
 TakesOption name.Check option.IgnoreCase = ⊥
+TakesOption name.Tar option.IgnoreCase = ⊥
 
 -- the command takes the option, if this is one
 abbrev pub FitsOne : Name → Given NamesOption → Type 0
@@ -111,9 +126,9 @@ abbrev pub Fits : Name → Line → Type 0
 Fits command [] = Unit {0}
 Fits command (one ∷ given) = FitsOne command one × Fits command given
 
--- the operands are the command, a platform and these
+-- the operands are the command, a platform, which may be left out, and these
 abbrev pub HasOperands : Line → Name → Os → List (List ℕ) → Type 0
-HasOperands given command os more = operands_of given ≡ name_word command ∷ os_word os ∷ more
+HasOperands given command os more = (after : List (List ℕ)) × ((operands_of given ≡ name_word command ∷ after) × HasPlatform after os more)
 
 -- options pick some names: by patterns, or by ignore files
 abbrev pub OptionsPick : Line → Type 0
@@ -171,6 +186,7 @@ MakesUpWork given os (Each JoinWords) = HasOperands given name.Join os [] × (Fi
 MakesUpWork given os (Picked form.Line) = Lists given os true × NoWords given
 MakesUpWork given os (Picked (form.Word words)) = Lists given os true × ((os ≡ Unix) × IsForm given words)
 MakesUpWork given os (Picked form.Name) = (more : List (List ℕ)) × (HasOperands given name.Filter os more × (Fits name.Filter given × Picks given os more true))
+MakesUpWork given os Tar = HasOperands given name.Tar os [] × Fits name.Tar given
 MakesUpWork given os Why = HasOperands given name.Why os [] × (Fits name.Why given × (HasOption option.Ignore given × TakesIgnore os))
 
 -- the command that these make up
@@ -230,20 +246,18 @@ IsRequestFor given a =
     ⊎ ((¬ (HasOption option.Version given)) × (IsListed given a.list × (MakesUp given a.command × StatesPicks given a)))
     ))
 
--- what is missing: a command, a platform after it, what picks names, or an ignore file
+-- what is missing: a command, what picks names, or an ignore file
 abbrev pub IsMissing : Line → List ℕ → Type 0
 IsMissing given what =
-    ((what ≡ codes "command (list, filter, why, join or check)") × (operands_of given ≡ []))
-    ⊎ (((what ≡ codes "platform (unix, windows or wasm)") × ((word : List ℕ) × (operands_of given ≡ word ∷ [])))
+    ((what ≡ codes "command (list, filter, why, join, check or tar)") × (operands_of given ≡ []))
     ⊎ (((what ≡ codes "GLOB, --glob, --name or --ignore") × ((command : Name) × (os : Os) × (HasOperands given command os [] × (NeedsPick given command × (¬ (SomePicked given []))))))
-    ⊎ ((what ≡ codes "--ignore") × ((os : Os) × (HasOperands given name.Why os [] × (¬ (HasOption option.Ignore given)))))))
+    ⊎ ((what ≡ codes "--ignore") × ((os : Os) × (HasOperands given name.Why os [] × (¬ (HasOption option.Ignore given))))))
 
--- which word is no command, no platform or no number of bytes
+-- which word is no command or no number of bytes
 abbrev pub IsInvalid : Line → List ℕ → List ℕ → Type 0
 IsInvalid given what word =
     ((what ≡ codes "command") × (((command : Name) → word ≢ name_word command) × ((more : List (List ℕ)) × (operands_of given ≡ word ∷ more))))
-    ⊎ (((what ≡ codes "platform") × (((os : Os) → word ≢ os_word os) × ((command : List ℕ) × (more : List (List ℕ)) × (operands_of given ≡ command ∷ word ∷ more))))
-    ⊎ ((what ≡ codes "number of bytes") × (LastValue option.Max given None (Some word) × ((max : ℕ) → ¬ (IsLimit word max)))))
+    ⊎ ((what ≡ codes "number of bytes") × (LastValue option.Max given None (Some word) × ((max : ℕ) → ¬ (IsLimit word max))))
 
 -- the platform takes the option: words of a shell are for Unix, and ignore files aren't for Windows
 abbrev pub IsForPlatform : Os → NamesOption → Type 0

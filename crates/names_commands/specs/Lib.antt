@@ -1,9 +1,11 @@
 pub mod Names
 pub mod Task
+pub mod Tar
 pub mod Ignoring
 pub mod Matching
 pub mod Fault
 pub mod Options
+pub mod Operands
 pub mod Files
 pub mod Command
 pub mod Pick

@@ -8,7 +8,7 @@ use Rattle.program_frame.specs.declared.lists.fault.ItemFault.TheVariants as ite
 use Rattle.program_frame.specs.declared.lists.options.ItemEnd.{ItemEnd}
 use Rattle.program_frame.specs.declared.lists.options.ItemEnd.TheVariants.{Newline}
 use Rattle.names_commands.specs.declared.fault.Rejection.{Rejection}
-use Rattle.names_commands.specs.declared.fault.Rejection.TheVariants.{NoString, BadEscape, NotCanonical, HasNul, HasNewline, EndsInReturn as InReturn, EmptyLine, BadWords}
+use Rattle.names_commands.specs.declared.fault.Rejection.TheVariants.{NoString, BadEscape, NotCanonical, HasNul, HasNewline, EndsInReturn as InReturn, EmptyLine, BadWords, BadArchive}
 
 -- a name that can be written with this end: it has neither a NUL nor that end
 pub record IsFit (end : ItemEnd) (name : List ℕ) : Type 0 where
@@ -25,6 +25,7 @@ IsUnfit end name HasNewline = (end ≡ Newline) × (¬ (Lacks 0x0A name))
 IsUnfit end name InReturn = ⊥
 IsUnfit end name EmptyLine = ⊥
 IsUnfit end name (BadWords fault) = ⊥
+IsUnfit end name (BadArchive fault) = ⊥
 
 -- the line's last byte is a carriage return
 abbrev pub EndsInReturn : List ℕ → Type 0
@@ -42,6 +43,7 @@ module _ {E : Type 0} (p : Ghosts E) where
   IsNameRejection name InReturn = ⊥
   IsNameRejection name EmptyLine = ⊥
   IsNameRejection name (BadWords fault) = ⊥
+  IsNameRejection name (BadArchive fault) = ⊥
 
   -- why nothing is written for it: that, or an allocation failed
   abbrev pub IsNoName : List ℕ → ItemFault Rejection → Type 0

@@ -5,6 +5,7 @@ use Rattle.glob_text.specs.declared.fault.PatternFault.{PatternFault}
 use Rattle.program_frame.specs.Arguments.{AreValues, operands_of}
 use Rattle.program_frame.specs.declared.arguments.Given.{Given}
 use Rattle.program_frame.specs.declared.os.Os.{Os}
+use Rattle.names_commands.specs.Operands.{IsGlobOperand}
 use Rattle.names_commands.specs.declared.option.NamesOption.{NamesOption}
 use Rattle.program_frame.specs.declared.os.Os.TheVariants.{Unix, Windows, Wasm}
 use Rattle.names_commands.specs.declared.option.NamesOption.TheVariants.{Glob, Name}
@@ -20,13 +21,6 @@ abbrev pub glob_words : Option (Bor (List ℕ)) → List (List ℕ)
 glob_words None = []
 glob_words (Some glob) = glob.now ∷ []
 
--- of operands, the one after the command and the platform, which is a pattern
-abbrev pub glob_operand : List (List ℕ) → List (List ℕ)
-glob_operand [] = []
-glob_operand (command ∷ []) = []
-glob_operand (command ∷ platform ∷ []) = []
-glob_operand (command ∷ platform ∷ glob ∷ more) = glob ∷ []
-
 -- the pattern for names whose last component this pattern matches: any folders are before it
 abbrev pub in_any_folder : List ℕ → List ℕ
 in_any_folder glob = codes "**/" ++ glob
@@ -41,4 +35,4 @@ typed_fault added fault = record { kind = fault.kind; index = fault.index - adde
 
 -- the patterns, with the number of plain ones: the operand and those of `--glob` are plain, and then come those of `--name`, in any folder, each in order
 abbrev pub ArePatterns : List (Given NamesOption) → ℕ → List (List ℕ) → Type 0
-ArePatterns given plain globs = (more : List (List ℕ)) × (of_names : List (List ℕ)) × (AreValues Glob given more × (AreValues Name given of_names × ((globs ≡ (glob_operand (operands_of given) ++ more) ++ map in_any_folder of_names) × (plain ≡ length (glob_operand (operands_of given) ++ more)))))
+ArePatterns given plain globs = (own : List (List ℕ)) × (more : List (List ℕ)) × (of_names : List (List ℕ)) × (IsGlobOperand (operands_of given) own × (AreValues Glob given more × (AreValues Name given of_names × ((globs ≡ (own ++ more) ++ map in_any_folder of_names) × (plain ≡ length (own ++ more))))))

@@ -1,5 +1,6 @@
 -- The whole program, from the words after its name to its exit status.
-use Rattle.std.specs.Prelude.{◌≡◌, ◌⊎◌, ◌+◌, ℕ, Bool, List, drop, Option, Result, Err, ⊤}
+use Rattle.std.specs.Prelude.{◌≡◌, ◌⊎◌, ◌+◌, ℕ, Bool, List, drop, Option, None, Some, IfSome, Result, Ok, Err, ⊤}
+use Rattle.std.specs.Io.KnownBytes.{Appends, IsAtEnd}
 use Rattle.std.specs.Fmt.InlineText.{inline_text}
 use Rattle.os_str_bytes.specs.Platform.{Ghosts}
 use Rattle.os_ignore.specs.declared.file.File.{File}
@@ -21,15 +22,16 @@ use Rattle.program_frame.specs.Marked.{marked_inner}
 use Rattle.program_frame.specs.declared.marked.Marked.{Marked}
 use Rattle.program_frame.specs.Strings.{strings}
 use Rattle.program_frame.specs.declared.os.Os.{Os}
-use Rattle.program_frame.specs.Written.{WritesText}
+use Rattle.program_frame.specs.Written.{AppendsBeginning, WritesText}
 use Rattle.program_frame.specs.ListRun.{Runs}
-use Rattle.program_frame.specs.declared.fault.Failure.TheVariants.{Memory, Write}
+use Rattle.program_frame.specs.declared.fault.Failure.TheVariants.{Memory, Read, Write}
+use Rattle.program_frame.specs.declared.lists.fault.ListFault.{ListFault}
 use Rattle.program_frame.specs.declared.lists.fault.ListFault.TheVariants.{Run}
 use Rattle.program_frame.specs.declared.lists.options.ListOptions.{ListOptions}
 use Rattle.names_commands.specs.declared.command.Command.{Command}
 use Rattle.names_commands.specs.declared.command.Command.TheVariants.{Help, Version, On}
 use Rattle.names_commands.specs.declared.command.Work.{Work}
-use Rattle.names_commands.specs.declared.command.Work.TheVariants.{Each, Picked, Why}
+use Rattle.names_commands.specs.declared.command.Work.TheVariants.{Each, Picked, Tar, Why}
 use Rattle.program_frame.specs.declared.lists.program_fault.Fault as program_fault
 use Rattle.program_frame.specs.declared.lists.program_fault.Fault.TheVariants.{List as OfList, Words}
 use Rattle.names_commands.specs.declared.fault.Rejection.{Rejection}
@@ -42,6 +44,7 @@ use Rattle.names_commands.specs.Matching.{picking, AreWrittenOut, IsChosen, IsFi
 use Rattle.names_commands.specs.Pick.{added_before, typed_fault}
 use Rattle.names_commands.specs.Why.{deciding}
 use Rattle.names_commands.specs.Command.{Requested, IsRequestFor, IsRejected, Line, options_of}
+use Rattle.names_commands.specs.Tar.{IsTarOutput}
 use Rattle.names_commands.specs.Task.{rules_of}
 
 -- what keeps the program from its output
@@ -84,6 +87,23 @@ IsOfPattern added number text fault why = (lines : _) × IsPointed (drop added t
 abbrev pub IsOfPatterns : {E : Type 0} → Ghosts E → GlobOptions → ℕ → List (List ℕ) → Fault → Type 0
 IsOfPatterns p o plain texts why = (index : ℕ) × (fault : PatternFault) × (first : IsFirstFault p o texts index fault) × IsOfPattern (added_before plain index) (index + 1) first.text fault why
 
+-- the result where this is the first entry of an archive that is rejected, if one is
+abbrev pub tar_outcome : Option (ListFault Rejection) → Result ⊤ Fault
+tar_outcome None = Ok tt
+tar_outcome (Some fault) = Err (OfList fault)
+
+-- the names of an archive's entries are written, on a platform that states this of its strings, and the result is the first entry that is rejected. Or a write fails
+abbrev pub WritesTar : {E : Type 0} → Ghosts E → ListOptions → List ℕ → Option (List ℕ) → Option (List ℕ) → Result ⊤ Fault → Type 0
+WritesTar p list archive old new answer = (output : List ℕ) × (first : Option (ListFault Rejection)) × (IsTarOutput p list archive output first × (
+    ((answer ≡ tar_outcome first) × Appends old new output)
+    ⊎ ((answer ≡ Err (OfList (Run Write))) × AppendsBeginning old new output)))
+
+-- nothing is written, since memory is refused or a read fails. Or all is read, and the names of the archive that it is are written
+abbrev pub RunsTar : {E : Type 0} → Ghosts E → ListOptions → Doing
+RunsTar p list input left old new answer =
+    (((answer ≡ Err (OfList (Run Memory))) ⊎ (answer ≡ Err (OfList (Run Read)))) × (new ≡ old))
+    ⊎ (IsAtEnd left × IfSome input (λ archive. WritesTar p list archive old new answer))
+
 -- where this is known of files, and memory is taken of an allocator of this type:
 module _ (known : KnownFiles) (A : Type 0) where
   -- why an ignore file can't be read: no file has the name, or it isn't read
@@ -123,6 +143,7 @@ module _ (known : KnownFiles) (A : Type 0) where
     DoesWork os (Each what) input left old new answer = Runs (rules_of p (record { task = what; list = requested.list })) OfList input left old new answer
     DoesWork os (Picked shape) input left old new answer = UnlessOutOfMemory (RunsPicked os shape) input left old new answer
     DoesWork os Why input left old new answer = UnlessOutOfMemory RunsReasons input left old new answer
+    DoesWork os Tar input left old new answer = RunsTar p requested.list input left old new answer
 
   -- what a command does
   abbrev pub DoesCommand : Requested → Command → Doing

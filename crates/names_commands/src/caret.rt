@@ -28,7 +28,8 @@ pub(crate) fn pointed<A: Allocator + Copy>(
 
 /// The escape on one line of bytes and a `^`, in which a space before the `^` isn't at the end.
 fn marked_line<A: Allocator + Copy>(alloc: A, bytes: &[u8]) -> Result<String<A>, AllocError>
-    ensures { IfOk result (λ line. IsLineEscape unix.units (bytes.now ++ codes "^") (string_bytes line)) }
+    ensures { IfOk result
+        (λ line. IsLineEscape unix.units (bytes.now ++ codes "^") (string_bytes line)) }
 {
     let mut marked = Vec::new(alloc);
     marked.extend_from_slice(bytes)?;

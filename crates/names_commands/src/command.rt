@@ -6,7 +6,7 @@ ghost use Rattle.names_commands.specs.declared.command.Name.{Name as DeclaredNam
 ghost use Rattle.names_commands.specs.declared.command.Name.TheVariants.{Filter as FilterName, Join as JoinName, List as ListName, Why as WhyName};
 
 use crate::fitting::{fits, ignores, no_operand, words};
-use crate::given::{LONGEST_NAME, empty_line, form_of, listed, picks};
+use crate::given::{LONGEST_NAME, empty_line, form_of, listed, picks, platform_of};
 use crate::matching::Form;
 use crate::option::NamesOption;
 use crate::pick::patterns_of;
@@ -66,7 +66,8 @@ impl<'a, A: Allocator + Copy> Request<'a, A> {
     /// The request that options and operands make up.
     ///
     /// `--help` and `--version` are requests wherever they stand. Otherwise the operands are a
-    /// command, a platform and, for `list` and `filter`, a pattern. Options stand anywhere. The last
+    /// command, a platform and, for `list` and `filter`, a pattern. A first operand after the command
+    /// that names no platform isn't one, and the platform is Unix. Options stand anywhere. The last
     /// `--max` counts, and without one a name may have 1,048,576 bytes. Without `--lines` each name is
     /// ended by NUL, and without `--unterminated` the last item has its end, too.
     ///
@@ -88,12 +89,14 @@ impl<'a, A: Allocator + Copy> Request<'a, A> {
     /// let Ok(request) = Request::parse(alloc, &given) else { return Ok(()) };
     /// assert!(rt; request.command == Command::On(Os::Wasm, Work::Each(Task::Check)));
     /// assert!(rt; request.list == ListOptions::new(255));
-    /// let Err(RequestError::Misuse(misuse)) = Request::parse(alloc, &given[..1]) else { return Ok(()) };
-    /// let text = "missing platform (unix, windows or wasm)";
+    /// let given = [Given::Operand("check"), Given::Operand("x")];
+    /// let Err(RequestError::Misuse(misuse)) = Request::parse(alloc, &given) else { return Ok(()) };
+    /// let text = "unexpected argument 'x'";
     /// assert_eq!(rt; format!(in alloc; "{misuse}")?.as_str(), text);
     /// ```
     pub fn parse(alloc: A, given: Line<'_, 'a>) -> Result<Request<'a, A>, RequestError<'a>>
-        ensures request { IfOk result (λ request. IsRequestFor given.entry.now (requested_of request)) }
+        ensures request { IfOk result
+            (λ request. IsRequestFor given.entry.now (requested_of request)) }
         ensures error { IfErr result (λ error. IsRequestError given.entry.now error) }
     {
         if has(given, NamesOption::Help) {
@@ -154,6 +157,8 @@ pub enum Name {
     Join,
     /// `check`.
     Check,
+    /// `tar`.
+    Tar,
 }
 
 impl Name {
@@ -168,6 +173,7 @@ impl Name {
             "why" => Some(Name::Why),
             "join" => Some(Name::Join),
             "check" => Some(Name::Check),
+            "tar" => Some(Name::Tar),
             _ => None,
         }
     }
@@ -182,6 +188,7 @@ impl Name {
             Name::Why => "why",
             Name::Join => "join",
             Name::Check => "check",
+            Name::Tar => "tar",
         }
     }
 
@@ -190,26 +197,27 @@ impl Name {
         ensures { IsTrue result ↔ TakesOption self option }
     {
         match option {
-            NamesOption::Help
-            | NamesOption::Version
-            | NamesOption::Max
-            | NamesOption::Lines
-            | NamesOption::Unterminated => true,
+            NamesOption::Help | NamesOption::Version | NamesOption::Max | NamesOption::Lines =>
+                true,
+            NamesOption::Unterminated => match self {
+                Name::List | Name::Filter | Name::Why | Name::Join | Name::Check => true,
+                Name::Tar => false,
+            },
             NamesOption::Sh | NamesOption::ShLine => match self {
                 Name::List | Name::Join => true,
-                Name::Filter | Name::Why | Name::Check => false,
+                Name::Filter | Name::Why | Name::Check | Name::Tar => false,
             },
             NamesOption::Empty => match self {
                 Name::Join => true,
-                Name::List | Name::Filter | Name::Why | Name::Check => false,
+                Name::List | Name::Filter | Name::Why | Name::Check | Name::Tar => false,
             },
             NamesOption::Ignore | NamesOption::IgnoreCase => match self {
                 Name::List | Name::Filter | Name::Why => true,
-                Name::Join | Name::Check => false,
+                Name::Join | Name::Check | Name::Tar => false,
             },
             NamesOption::Glob | NamesOption::Name | NamesOption::Invert => match self {
                 Name::List | Name::Filter => true,
-                Name::Why | Name::Join | Name::Check => false,
+                Name::Why | Name::Join | Name::Check | Name::Tar => false,
             },
         }
     }
@@ -237,6 +245,8 @@ pub enum Work {
     /// `why`: the line of an ignore file that decides a name is written, with the escape of the name. The
     /// names that no line decides are left out.
     Why,
+    /// `tar`: the input is an archive, and the names of its entries are written.
+    Tar,
 }
 
 impl Command {
@@ -246,17 +256,12 @@ impl Command {
         ensures misuse { IfErr result (λ misuse. IsMisuse given.entry.now misuse) }
     {
         let Some((name, after)) = next_operand(given) else {
-            return Err(Misuse::Missing("command (list, filter, why, join or check)"));
+            return Err(Misuse::Missing("command (list, filter, why, join, check or tar)"));
         };
         let Some(command) = Name::named(name) else {
             return Err(Misuse::Invalid("command", name));
         };
-        let Some((platform, more)) = next_operand(after) else {
-            return Err(Misuse::Missing("platform (unix, windows or wasm)"));
-        };
-        let Some(os) = Os::named(platform) else {
-            return Err(Misuse::Invalid("platform", platform));
-        };
+        let (os, more) = platform_of(after);
         fits(given, command)?;
         Command::of(given, command, os, more)
     }
@@ -281,6 +286,10 @@ impl Command {
             Name::Check => {
                 no_operand(given, Name::Check, os, more)?;
                 Ok(Command::On(os, Work::Each(Task::Check)))
+            }
+            Name::Tar => {
+                no_operand(given, Name::Tar, os, more)?;
+                Ok(Command::On(os, Work::Tar))
             }
         }
     }

@@ -14,6 +14,7 @@ use program_frame::lists::program_fault::WordsRejection;
 use program_frame::misuse::Misuse;
 use std::fmt;
 use std::fmt::{Display as _, InlineText};
+use tar_names::TarFault;
 
 /// Why an item is rejected.
 #[derive(Clone, Copy, PartialEq, Eq)]
@@ -35,6 +36,8 @@ pub enum Rejection {
     EmptyLine,
     /// The line isn't words of a shell: its fault.
     BadWords(WordsFault),
+    /// The archive ends before its end, after the entries that were read: its fault.
+    BadArchive(TarFault),
 }
 
 /// How many bytes the text of a misuse may have; a longer one is cut, and ends in three dots.
@@ -101,6 +104,7 @@ impl ItemRejection for Rejection {
                 "the line is empty; --empty reads it as an empty name",
             ),
             Rejection::BadWords(fault) => fault.fmt(f),
+            Rejection::BadArchive(fault) => fault.fmt(f),
         }
     }
 }

@@ -2,6 +2,7 @@
 ghost use Rattle.std.specs.Prelude.{◌≡◌, ◌↔◌, [], IfOk, IfErr, IsTrue, MatchOption};
 ghost use Rattle.program_frame.specs.Arguments.{HasOption, operands_of};
 ghost use Rattle.names_commands.specs.Command.{HasOperands, IsEmptyLine, IsForm, IsListed, IsMax, IsMisuse, IsWordOption, NoWords, OptionsPick, Picks, TakesOption, options_of, separators_of};
+ghost use Rattle.names_commands.specs.Operands.{HasPlatform};
 ghost use Rattle.names_commands.specs.Pick.{TakesIgnore};
 ghost use Rattle.names_commands.specs.declared.option.NamesOption.TheVariants.{Glob, Ignore};
 
@@ -39,6 +40,20 @@ fn limit<'a>(given: Line<'_, 'a>) -> Result<usize, Misuse<'a>>
     match number.parse::<usize>() {
         Ok(max) => Ok(max),
         Err(_) => Err(Misuse::Invalid("number of bytes", number)),
+    }
+}
+
+/// The platform that operands after a command begin with, and what comes after it. Without one it is
+/// Unix.
+pub(crate) fn platform_of<'s, 'a>(after: Line<'s, 'a>) -> (Os, Line<'s, 'a>)
+    ensures { HasPlatform (operands_of after.entry.now) result.0 (operands_of result.1.now) }
+{
+    let Some((word, more)) = next_operand(after) else {
+        return (Os::Unix, after);
+    };
+    match Os::named(word) {
+        Some(os) => (os, more),
+        None => (Os::Unix, after),
     }
 }
 

@@ -7,17 +7,20 @@ pub const VERSION: &str = "names 0.3.0\n";
 pub const HELP: &str = "\
 names: lists of file names, one on each line, and back
 
-  find . -print0 | names list unix >list     an escaped name on each line
-  names join unix <list | xargs -0 ls        the names again, byte for byte
-  find . -print0 | names filter unix --name '*.c' --ignore .gitignore | xargs -0 wc -l
+  find . -print0 | names list >list     an escaped name on each line
+  names join <list | xargs -0 ls        the names again, byte for byte
+  find . -print0 | names filter --name '*.c' --ignore .gitignore | xargs -0 wc -l
+  names tar <a.tar | names filter --name '*.c' | xargs -0 ls -d
 
-names list   PLATFORM [GLOB] [OPTION..]   reads names ended by NUL; writes the escape of each on a line
-names filter PLATFORM [GLOB] [OPTION..]   reads names ended by NUL; writes those that are picked, ended by NUL
-names why    PLATFORM --ignore FILE..     reads names ended by NUL; writes FILE:LINE:PATTERN, a tab and the name, escaped
-names join   PLATFORM [OPTION..]          reads lines that list wrote; writes the names, ended by NUL
-names check  PLATFORM [OPTION..]          reads names ended by NUL; writes nothing
+names list   [PLATFORM] [GLOB] [OPTION..]  reads names ended by NUL; writes the escape of each on a line
+names filter [PLATFORM] [GLOB] [OPTION..]  reads names ended by NUL; writes those that are picked, ended by NUL
+names why    [PLATFORM] --ignore FILE..    reads names ended by NUL; writes FILE:LINE:PATTERN, a tab and the name, escaped
+names join   [PLATFORM] [OPTION..]         reads lines that list wrote; writes the names, ended by NUL
+names check  [PLATFORM] [OPTION..]         reads names ended by NUL; writes nothing
+names tar    [PLATFORM] [OPTION..]         reads a tar archive; writes the names of its entries, ended by NUL
 
-PLATFORM is unix, windows or wasm. Options may stand anywhere; -- ends them.
+PLATFORM is unix, windows or wasm, and unix where it is left out: a GLOB of such a name is written after PLATFORM.
+Options may stand anywhere; -- ends them.
 
   --glob GLOB      list, filter: pick the names that GLOB matches, beside those of other GLOBs
   --name GLOB      list, filter: pick by the last component, in any folder: --glob '**/GLOB'
@@ -30,7 +33,7 @@ PLATFORM is unix, windows or wasm. Options may stand anywhere; -- ends them.
   --sh             list, join: words that every POSIX shell reads as the names (unix)
   --sh-line        list, join: words on one line, for bash, zsh, ksh93, mksh and busybox (unix)
   --lines          a newline ends each name that is read or written, and not NUL; names with a newline are rejected
-  --unterminated   the last name, or the last line, may lack its end
+  --unterminated   all but tar: the last name, or the last line, may lack its end
   --empty          join: an empty line is an empty name
   --max N          a name may have N bytes, not 1048576
   -h, --help       this text
@@ -54,6 +57,9 @@ one over those before it. DIR ends at the first =, so a FILE whose name has one 
 the top, with or without ./ at the start. A name that ends with / is a directory, another isn't: out/ ignores ./out/
 and ./out/a, but not ./out.
 
-Status: 0; 1 for an invalid name or line, with its number, from 1; 2 for wrong arguments or an invalid GLOB; 3 if
+tar reads the whole archive into memory. It writes each name of an entry that --lines and --max permit, and ends at the
+first entry that readers of archives may read in different ways. The message has the first entry that is rejected.
+
+Status: 0; 1 for an invalid name, line or entry, with its number, from 1; 2 for wrong arguments or an invalid GLOB; 3 if
 out of memory; 4 if a read or write fails, or a FILE can't be read.
 ";

@@ -12,8 +12,8 @@
 //! So it keeps one item and what a block becomes. Where it ends early, the text of a
 //! [`Fault`](fault::Fault) states why, and for which item ([`program_frame::lists::program::execute`]).
 //!
-//! One of its calls has a `requires`: [`program_frame::lists::program::execute`] takes a reader and a
-//! writer whose marks are unset, as `Marked::new` makes them.
+//! Two calls have a `requires`: [`program_frame::lists::program::execute`] and [`tar::run_tar`] take a
+//! reader and a writer whose marks are unset, as `Marked::new` makes them.
 #![tactic(auto)]
 
 mod caret;
@@ -31,6 +31,7 @@ mod patterns;
 mod pick;
 pub mod program;
 mod reasons;
+pub mod tar;
 pub mod task;
 mod why;
 mod words;

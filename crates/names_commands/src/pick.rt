@@ -2,9 +2,11 @@
 ghost use Rattle.std.specs.Prelude.{◌≡◌, ◌++◌, ◌∷◌, [], map, length, drop, string_bytes, IfOk, OnOk};
 ghost use Rattle.os_str_bytes.specs.Strings.{bytes};
 ghost use Rattle.program_frame.specs.Arguments.{operands_of, text_of};
-ghost use Rattle.names_commands.specs.Pick.{ArePatterns, added_before, glob_operand, glob_words, in_any_folder, typed_fault};
+ghost use Rattle.names_commands.specs.Operands.{IsGlobOperand};
+ghost use Rattle.names_commands.specs.Pick.{ArePatterns, added_before, glob_words, in_any_folder, typed_fault};
 
 use crate::command::Line;
+use crate::given::platform_of;
 use crate::option::NamesOption;
 use glob_patterns::PatternFault;
 use os_str_bytes::{OsStr, Platform};
@@ -33,10 +35,10 @@ pub(crate) fn patterns_of<A: Allocator + Copy>(
 
 /// The operand after the command and the platform, which is a pattern.
 fn glob_operand<'a>(given: Line<'_, 'a>) -> Option<&'a str>
-    ensures { glob_words result ≡ glob_operand (operands_of given.entry.now) }
+    ensures { IsGlobOperand (operands_of given.entry.now) (glob_words result) }
 {
     let (_, after) = next_operand(given)?;
-    let (_, more) = next_operand(after)?;
+    let (_, more) = platform_of(after);
     let (glob, _) = next_operand(more)?;
     Some(glob)
 }

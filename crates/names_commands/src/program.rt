@@ -11,6 +11,7 @@ use crate::help::{HELP, VERSION};
 use crate::option::NamesOption;
 use crate::patterns::run_picked;
 use crate::reasons::run_why;
+use crate::tar::run_tar;
 use crate::task::{OnPlatform, Settings};
 use os_str_bytes::{Platform, Unix, Wasm, Windows};
 use program_frame::arguments::{ReadFault, read_arguments};
@@ -165,5 +166,6 @@ fn run_on<E: Platform, F: Files, A: Allocator + Copy, R: Read, W: Write>(
             run_picked::<E, F, A, R, W>(alloc, files, os, form, request, reader, writer)
         }
         Work::Why => run_why::<E, F, A, R, W>(alloc, files, request, reader, writer),
+        Work::Tar => run_tar::<E, A, R, W>(alloc, request.list, reader, writer),
     }
 }

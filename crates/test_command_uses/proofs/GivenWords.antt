@@ -148,6 +148,7 @@ command_next name.Filter file = operand_next name.Filter file 0 102 (codes "ilte
 command_next name.Why file = operand_next name.Why file 0 119 (codes "hy") (codes "unix" ∷ codes "--ignore" ∷ file ∷ []) refl (omega arith)
 command_next name.Join file = operand_next name.Join file 0 106 (codes "oin") (codes "unix" ∷ codes "--ignore" ∷ file ∷ []) refl (omega arith)
 command_next name.Check file = operand_next name.Check file 0 99 (codes "heck") (codes "unix" ∷ codes "--ignore" ∷ file ∷ []) refl (omega arith)
+command_next name.Tar file = operand_next name.Tar file 0 116 (codes "ar") (codes "unix" ∷ codes "--ignore" ∷ file ∷ []) refl (omega arith)
 
 -- two operands, the command and the platform, and the option with its file
 pub record AreAsking (which : Name) (file : List ℕ) (given : Line) : Type 0 where

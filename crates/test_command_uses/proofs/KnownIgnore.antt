@@ -26,6 +26,7 @@ use Rattle.names_commands.specs.Fault.{words_status}
 use Rattle.names_commands.specs.Ignoring.{AreAdded, AreRead, FileRead, IsFileIn, IsFirstUnread, IsIgnored, WasRead, value_of}
 use Rattle.names_commands.specs.Matching.{AreWrittenOut, IsChosen, IsPicked, picking}
 use Rattle.names_commands.specs.Options.{has_value, spelled}
+use Rattle.names_commands.specs.Operands.{HasPlatform, IsGlobOperand, first_of}
 use Rattle.names_commands.specs.Pick.{in_any_folder}
 use Rattle.names_commands.specs.Program.{Does, DoesCommand, DoesWork, EndsAtOnce, Fault, IsFileFault, RejectsLine, RunsBut, RunsLine, RunsPicked, RunsTo, UnlessOutOfMemory}
 use Rattle.names_commands.specs.declared.command.Command.{Command}
@@ -33,7 +34,7 @@ use Rattle.names_commands.specs.declared.command.Command.TheVariants.{Help, Vers
 use Rattle.names_commands.specs.declared.command.Name.{Name as DeclaredName}
 use Rattle.names_commands.specs.declared.command.Name.TheVariants as name
 use Rattle.names_commands.specs.declared.command.Work.{Work}
-use Rattle.names_commands.specs.declared.command.Work.TheVariants.{Each, Picked, Why}
+use Rattle.names_commands.specs.declared.command.Work.TheVariants.{Each, Picked, Tar, Why}
 use Rattle.names_commands.specs.declared.fault.CommandFault.{CommandFault}
 use Rattle.names_commands.specs.declared.fault.CommandFault.TheVariants.{Unreadable, Misuse, Pattern, NoFile, Unread}
 use Rattle.names_commands.specs.declared.fault.Rejection.{Rejection}
@@ -43,7 +44,7 @@ use Rattle.names_commands.specs.declared.task.Task.TheVariants.{ListAll, ListWor
 use Rattle.names_commands.specs.declared.option.NamesOption.{NamesOption}
 use Rattle.names_commands.specs.declared.option.NamesOption.TheVariants as option
 use Rattle.os_args.specs.Views.{fault_of}
-use Rattle.program_frame.specs.Arguments.{AreGiven, AreValues, HasOption, LastValue}
+use Rattle.program_frame.specs.Arguments.{AreGiven, AreValues, HasOption, LastValue, operands_of}
 use Rattle.program_frame.specs.declared.arguments.Given.TheVariants.{Operand, Valued}
 use Rattle.test_command_uses.specs.OneFile.{only, filtering, usual, IsFilteredBy, IsUnread}
 use Rattle.test_command_uses.proofs.GivenWords.{OneValue, OneWord, are_asking, no_fault_of}
@@ -78,6 +79,12 @@ not_check : codes "filter" ≡ codes "check" → ⊥
 not_check e =
     let n : 102 ≡ 99 = ap (λ l. get_or l 0 0) e in
     let no : 102 ≢ 99 = omega arith in
+    no n
+
+not_tar : codes "filter" ≡ codes "tar" → ⊥
+not_tar e =
+    let n : 102 ≡ 116 = ap (λ l. get_or l 0 0) e in
+    let no : 102 ≢ 116 = omega arith in
     no n
 
 pub not_windows : codes "unix" ≡ codes "windows" → ⊥
@@ -192,10 +199,19 @@ module _ (command platform value : Bor (List ℕ)) where
   none_stated : (it : NamesOption) → (option.Ignore ≡ it → ⊥) → AreValues it given_of []
   none_stated it other = inr (λ v h. h, inr (λ v h. h, inr (λ v h. other h.0, refl)))
 
+  -- the only operand after the command is the platform
+  pub is_unix : platform.now ≡ codes "unix" → (os : Os) (more : List (List ℕ)) → HasPlatform (platform.now ∷ []) os more → (codes "unix" ≡ os_word os) × (more ≡ [])
+  is_unix is os more (inl has) = (sym is ∙ first has, sym (later has))
+  is_unix is os more (inr has) = absurd (has.1.0 Unix is)
+
+  -- so no pattern is an operand
+  no_operand : platform.now ≡ codes "unix" → (own : List (List ℕ)) → IsGlobOperand (operands_of given_of) own → own ≡ []
+  no_operand is own has = has.2.1 ∙ ap first_of (is_unix is has.0 has.1 has.2.0).1
+
   -- no pattern is stated, and this ignore file
-  pub states_one : (requested : Command) (list : ListOptions) → StatesPicks given_of (record { command = requested; list = list; plain = 0; globs = []; files = value.now ∷ []; inverted = false; case_insensitive = false })
-  states_one requested list = (
-    ([], [], (none_stated option.Glob (λ e. cc), (none_stated option.Name (λ e. cc), (refl, refl)))),
+  pub states_one : platform.now ≡ codes "unix" → (requested : Command) (list : ListOptions) → StatesPicks given_of (record { command = requested; list = list; plain = 0; globs = []; files = value.now ∷ []; inverted = false; case_insensitive = false })
+  states_one is requested list = (
+    ([], [], [], ((Unix, [], (inl (ap (λ x. x ∷ []) is), refl)), (none_stated option.Glob (λ e. cc), (none_stated option.Name (λ e. cc), (refl, refl))))),
     (inr (λ v h. h, inr (λ v h. h, inl (value.now, [], ((refl, refl), (refl, refl))))), (none_is_stated option.Invert (λ e. cc), none_is_stated option.IgnoreCase (λ e. cc))),
   )
 
@@ -227,18 +243,19 @@ module _ (known : KnownFiles) (A : Type 0) (file : List ℕ) (input left old new
     picked requested is_usual states (inl memory) = inl memory
     picked requested is_usual states (inr runs) =
         let patterns = states.0 in
-        let more : patterns.0 ≡ [] = no_values command platform value option.Glob (λ e. cc) patterns.0 patterns.2.0 in
-        let of_names : patterns.1 ≡ [] = no_values command platform value option.Name (λ e. cc) patterns.1 patterns.2.1.0 in
-        let globs_are : requested.globs ≡ [] = patterns.2.1.1.0 ∙ ap (λ x. x ++ map in_any_folder patterns.1) more ∙ ap (map in_any_folder) of_names in
+        let own : patterns.0 ≡ [] = no_operand command platform value is_platform patterns.0 patterns.3.0 in
+        let more : patterns.1 ≡ [] = no_values command platform value option.Glob (λ e. cc) patterns.1 patterns.3.1.0 in
+        let of_names : patterns.2 ≡ [] = no_values command platform value option.Name (λ e. cc) patterns.2 patterns.3.1.1.0 in
+        let globs_are : requested.globs ≡ [] = patterns.3.1.1.1.0 ∙ ap (λ x. (x ++ patterns.1) ++ map in_any_folder patterns.2) own ∙ ap (λ x. x ++ map in_any_folder patterns.2) more ∙ ap (map in_any_folder) of_names in
         let files_are : requested.files ≡ file ∷ [] = one_file command platform value requested.files states.1.0 ∙ ap (λ x. x ∷ []) is_file in
         ran requested globs_are is_usual (not_stated command platform value option.Invert (λ e. cc) requested.inverted states.1.1.0) (not_stated command platform value option.IgnoreCase (λ e. cc) requested.case_insensitive states.1.1.1) files_are runs
 
     -- the operands are those of one command
     operands : HasOperands given name.Filter Unix []
-    operands = ap (λ x. x ∷ platform.now ∷ []) is_command ∙ ap (λ x. codes "filter" ∷ x ∷ []) is_platform
+    operands = (platform.now ∷ [], (ap (λ x. x ∷ platform.now ∷ []) is_command, inl (ap (λ x. x ∷ []) is_platform)))
 
     is_word : (c : DeclaredName) (os : Os) (more : List (List ℕ)) → HasOperands given c os more → codes "filter" ≡ name_word c
-    is_word c os more has = sym is_command ∙ first has
+    is_word c os more has = sym is_command ∙ first has.1.0
 
     by_platform : (os : Os) (requested : Requested) → codes "unix" ≡ os_word os → requested.list ≡ usual → StatesPicks given requested → DoesWork known A (strings os) requested os (Picked Name) input left old new answer → Filters
     by_platform Unix requested e listed states runs = picked requested listed states runs
@@ -251,9 +268,10 @@ module _ (known : KnownFiles) (A : Type 0) (file : List ℕ) (input left old new
     by_work os (Each Check) requested listed states m does = absurd (not_check (is_word name.Check os [] m.0))
     by_work os (Each (Join empty)) requested listed states m does = absurd (not_join (is_word name.Join os [] m.0))
     by_work os (Each JoinWords) requested listed states m does = absurd (not_join (is_word name.Join os [] m.0))
+    by_work os Tar requested listed states m does = absurd (not_tar (is_word name.Tar os [] m.0))
     by_work os (Picked form.Line) requested listed states m does = absurd (not_list (is_word name.List os m.0.0 m.0.1.0))
     by_work os (Picked (form.Word words)) requested listed states m does = absurd (not_list (is_word name.List os m.0.0 m.0.1.0))
-    by_work os (Picked form.Name) requested listed states m does = by_platform os requested (sym is_platform ∙ first (later m.1.0)) listed states does
+    by_work os (Picked form.Name) requested listed states m does = by_platform os requested (is_unix command platform value is_platform os m.0 (subst (λ after. HasPlatform after os m.0) (sym (later m.1.0.1.0)) m.1.0.1.1)).0 listed states does
     by_work os Why requested listed states m does = absurd (not_why (is_word name.Why os [] m.0))
 
     by_command : (command : Command) (requested : Requested) → requested.list ≡ usual → StatesPicks given requested → MakesUp given command → DoesCommand known A requested command input left old new answer → Filters
@@ -274,7 +292,7 @@ module _ (known : KnownFiles) (A : Type 0) (file : List ℕ) (input left old new
     makes_up = ([], (operands, ((tt, (tt, (tt, tt))), (tt, (inr (inr (inl (inr (inr (inl refl))))), λ h. tt)))))
 
     some : (requested : Requested) × IsRequestFor given requested
-    some = (record { command = On Unix (Picked Name); list = usual; plain = 0; globs = []; files = value.now ∷ []; inverted = false; case_insensitive = false }, inr (no_help command platform value, inr (no_version command platform value, (is_usual command platform value, (makes_up, states_one command platform value (On Unix (Picked Name)) usual)))))
+    some = (record { command = On Unix (Picked Name); list = usual; plain = 0; globs = []; files = value.now ∷ []; inverted = false; case_insensitive = false }, inr (no_help command platform value, inr (no_version command platform value, (is_usual command platform value, (makes_up, states_one command platform value is_platform (On Unix (Picked Name)) usual)))))
 
     not_rejected : RejectsLine known A given input left old new answer → ⊥
     not_rejected r = r.2.0.0.no_request some.0 some.1

@@ -26,12 +26,13 @@ use Rattle.names_commands.specs.Ignoring.{AreRead}
 use Rattle.names_commands.specs.Options.{has_value, spelled}
 use Rattle.names_commands.specs.Program.{Does, DoesCommand, DoesWork, Fault, RejectsLine, RunsLine, RunsReasons, RunsTo, UnlessOutOfMemory}
 use Rattle.names_commands.specs.Why.{IsDecidedText, IsNameAt, IsTextOfNumbers, deciding}
+use Rattle.names_commands.specs.Operands.{HasPlatform}
 use Rattle.names_commands.specs.declared.command.Command.{Command}
 use Rattle.names_commands.specs.declared.command.Command.TheVariants.{Help, Version, On}
 use Rattle.names_commands.specs.declared.command.Name.{Name as DeclaredName}
 use Rattle.names_commands.specs.declared.command.Name.TheVariants as name
 use Rattle.names_commands.specs.declared.command.Work.{Work}
-use Rattle.names_commands.specs.declared.command.Work.TheVariants.{Each, Picked, Why}
+use Rattle.names_commands.specs.declared.command.Work.TheVariants.{Each, Picked, Tar, Why}
 use Rattle.names_commands.specs.declared.matching.Form.TheVariants as form
 use Rattle.names_commands.specs.declared.task.Task.TheVariants.{ListAll, ListWords, Check, Join, JoinWords}
 use Rattle.names_commands.specs.declared.fault.Rejection.{Rejection}
@@ -40,7 +41,7 @@ use Rattle.os_args.specs.Views.{fault_of}
 use Rattle.program_frame.specs.Arguments.{AreGiven, HasOption}
 use Rattle.test_command_uses.specs.OneFile.{IsExplainedBy, IsReasonOf, explaining, only, usual}
 use Rattle.test_command_uses.proofs.GivenWords.{OneValue, OneWord, are_asking, no_fault_of}
-use Rattle.test_command_uses.proofs.KnownIgnore.{at_top, first, given_of, is_usual, later, no_help, no_version, not_stated, not_wasm, not_windows, one_file, only_read, states_one, usual_list}
+use Rattle.test_command_uses.proofs.KnownIgnore.{at_top, first, given_of, is_unix, is_usual, later, no_help, no_version, not_stated, not_wasm, not_windows, one_file, only_read, states_one, usual_list}
 use Rattle.test_command_uses.proofs.KnownNames.{all_whole, one_ended}
 
 not_list : codes "why" ≡ codes "list" → ⊥
@@ -67,6 +68,12 @@ not_check e =
     let no : 119 ≢ 99 = omega arith in
     no n
 
+not_tar : codes "why" ≡ codes "tar" → ⊥
+not_tar e =
+    let n : 119 ≡ 116 = ap (λ l. get_or l 0 0) e in
+    let no : 119 ≢ 116 = omega arith in
+    no n
+
 module _ (known : KnownFiles) (A : Type 0) (file : List ℕ) (input left old new : Option (List ℕ)) (answer : Result ⊤ Fault) where
   -- the lines of these files that decide names are written
   abbrev Reasons : ListOptions → Bool → List (List ℕ) → Type 0
@@ -88,10 +95,10 @@ module _ (known : KnownFiles) (A : Type 0) (file : List ℕ) (input left old new
 
     -- the operands are those of one command
     operands : HasOperands given name.Why Unix []
-    operands = ap (λ x. x ∷ platform.now ∷ []) is_command ∙ ap (λ x. codes "why" ∷ x ∷ []) is_platform
+    operands = (platform.now ∷ [], (ap (λ x. x ∷ platform.now ∷ []) is_command, inl (ap (λ x. x ∷ []) is_platform)))
 
     is_word : (c : DeclaredName) (os : Os) (more : List (List ℕ)) → HasOperands given c os more → codes "why" ≡ name_word c
-    is_word c os more has = sym is_command ∙ first has
+    is_word c os more has = sym is_command ∙ first has.1.0
 
     by_platform : (os : Os) (requested : Requested) → codes "unix" ≡ os_word os → requested.list ≡ usual → StatesPicks given requested → DoesWork known A (strings os) requested os Why input left old new answer → Explains
     by_platform Unix requested e listed states runs = decided requested listed states runs
@@ -104,10 +111,11 @@ module _ (known : KnownFiles) (A : Type 0) (file : List ℕ) (input left old new
     by_work os (Each Check) requested listed states m does = absurd (not_check (is_word name.Check os [] m.0))
     by_work os (Each (Join empty)) requested listed states m does = absurd (not_join (is_word name.Join os [] m.0))
     by_work os (Each JoinWords) requested listed states m does = absurd (not_join (is_word name.Join os [] m.0))
+    by_work os Tar requested listed states m does = absurd (not_tar (is_word name.Tar os [] m.0))
     by_work os (Picked form.Line) requested listed states m does = absurd (not_list (is_word name.List os m.0.0 m.0.1.0))
     by_work os (Picked (form.Word words)) requested listed states m does = absurd (not_list (is_word name.List os m.0.0 m.0.1.0))
     by_work os (Picked form.Name) requested listed states m does = absurd (not_filter (is_word name.Filter os m.0 m.1.0))
-    by_work os Why requested listed states m does = by_platform os requested (sym is_platform ∙ first (later m.0)) listed states does
+    by_work os Why requested listed states m does = by_platform os requested (is_unix command platform value is_platform os [] (subst (λ after. HasPlatform after os []) (sym (later m.0.1.0)) m.0.1.1)).0 listed states does
 
     by_command : (command : Command) (requested : Requested) → requested.list ≡ usual → StatesPicks given requested → MakesUp given command → DoesCommand known A requested command input left old new answer → Explains
     by_command (On os work) requested listed states m does = by_work os work requested listed states m does
@@ -127,7 +135,7 @@ module _ (known : KnownFiles) (A : Type 0) (file : List ℕ) (input left old new
     makes_up = (operands, ((tt, (tt, (tt, tt))), (inr (inr (inl refl)), tt)))
 
     some : (requested : Requested) × IsRequestFor given requested
-    some = (record { command = On Unix Why; list = usual; plain = 0; globs = []; files = value.now ∷ []; inverted = false; case_insensitive = false }, inr (no_help command platform value, inr (no_version command platform value, (is_usual command platform value, (makes_up, states_one command platform value (On Unix Why) usual)))))
+    some = (record { command = On Unix Why; list = usual; plain = 0; globs = []; files = value.now ∷ []; inverted = false; case_insensitive = false }, inr (no_help command platform value, inr (no_version command platform value, (is_usual command platform value, (makes_up, states_one command platform value is_platform (On Unix Why) usual)))))
 
     not_rejected : RejectsLine known A given input left old new answer → ⊥
     not_rejected r = r.2.0.0.no_request some.0 some.1

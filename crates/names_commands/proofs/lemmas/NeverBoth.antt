@@ -9,13 +9,14 @@ use Rattle.program_frame.specs.declared.misuse.Misuse.TheVariants.{Argument, Mis
 use Rattle.program_frame.specs.declared.os.Os.{Os}
 use Rattle.program_frame.specs.declared.os.Os.TheVariants.{Unix, Windows, Wasm}
 use Rattle.names_commands.specs.Command.{Requested, IsRequestFor, AtMostOne, Fits, FitsOne, HasOperands, IsForPlatform, IsInvalid, IsLimit, IsListed, IsMax, IsMisplaced, IsMissing, IsMisuse, IsTooMany, Line, Lists, MakesUp, MakesUpWork, NeedsPick, NoWords, Picks, SomePicked, StatesPicks, TakesOption, name_word}
+use Rattle.names_commands.specs.Operands.{HasPlatform, LacksPlatform}
 use Rattle.names_commands.specs.Pick.{TakesIgnore}
 use Rattle.names_commands.specs.declared.command.Command.{Command}
 use Rattle.names_commands.specs.declared.command.Command.TheVariants.{Help, Version, On}
 use Rattle.names_commands.specs.declared.command.Name.{Name}
 use Rattle.names_commands.specs.declared.command.Name.TheVariants as name
 use Rattle.names_commands.specs.declared.command.Work.{Work}
-use Rattle.names_commands.specs.declared.command.Work.TheVariants.{Each, Picked, Why}
+use Rattle.names_commands.specs.declared.command.Work.TheVariants.{Each, Picked, Tar, Why}
 use Rattle.names_commands.specs.declared.matching.Form.TheVariants as form
 use Rattle.names_commands.specs.declared.option.NamesOption.{NamesOption}
 use Rattle.names_commands.specs.declared.option.NamesOption.TheVariants as option
@@ -33,7 +34,7 @@ not_nil e = cc
 
 -- a command is that of its word's first letter, and a platform that of the second
 abbrev name_at : ℕ → Name
-name_at letter = cond (nat_eq letter 108) name.List (cond (nat_eq letter 102) name.Filter (cond (nat_eq letter 119) name.Why (cond (nat_eq letter 106) name.Join name.Check)))
+name_at letter = cond (nat_eq letter 108) name.List (cond (nat_eq letter 102) name.Filter (cond (nat_eq letter 119) name.Why (cond (nat_eq letter 106) name.Join (cond (nat_eq letter 116) name.Tar name.Check))))
 
 name_back : (c : Name) → name_at (get_or (name_word c) 0 0) ≡ c
 name_back name.List = refl
@@ -41,6 +42,7 @@ name_back name.Filter = refl
 name_back name.Why = refl
 name_back name.Join = refl
 name_back name.Check = refl
+name_back name.Tar = refl
 
 pub one_name : (c d : Name) → name_word c ≡ name_word d → c ≡ d
 one_name c d e = sym (name_back c) ∙ ap (λ word. name_at (get_or word 0 0)) e ∙ name_back d
@@ -56,11 +58,17 @@ os_back Wasm = refl
 pub one_os : (a b : Os) → os_word a ≡ os_word b → a ≡ b
 one_os a b e = sym (os_back a) ∙ ap (λ word. os_at (get_or word 1 0)) e ∙ os_back b
 
+one_platform : (after : List (List ℕ)) (os other : Os) (more rest : List (List ℕ)) → HasPlatform after os more → HasPlatform after other rest → (os ≡ other) × (more ≡ rest)
+one_platform after os other more rest (inl h) (inl k) = let same = sym h ∙ k in (one_os os other (head_is same), tail_is same)
+one_platform after os other more rest (inl h) (inr k) = absurd (subst LacksPlatform h k.1.0 os refl)
+one_platform after os other more rest (inr h) (inl k) = absurd (subst LacksPlatform k h.1.0 other refl)
+one_platform after os other more rest (inr h) (inr k) = (h.0 ∙ sym k.0, sym h.1.1 ∙ k.1.1)
+
 -- operands are those of one command on one platform
 pub one_command : (given : Line) (c d : Name) (os other : Os) (more rest : List (List ℕ)) → HasOperands given c os more → HasOperands given d other rest → (c ≡ d) × ((os ≡ other) × (more ≡ rest))
 one_command given c d os other more rest h k =
-    let same = sym h ∙ k in
-    (one_name c d (head_is same), (one_os os other (head_is (tail_is same)), tail_is (tail_is same)))
+    let same = sym h.1.0 ∙ k.1.0 in
+    (one_name c d (head_is same), one_platform k.0 os other more rest (subst (λ after. HasPlatform after os more) (tail_is same) h.1.1) k.1.1)
 
 -- the last value of an option is one
 module _ (it : NamesOption) where
@@ -203,6 +211,7 @@ module _ (given : Line) (os : Os) where
     states = λ e. cc;
     for_platform = plain os given (no_words name.Filter given m.1.1.0 (λ t. t) (λ t. t)) m.1.1.1.1.1;
   }
+  made_work Tar m = bare name.Tar m.0 m.1 (λ t. t) (λ e. cc) (λ t. t) (λ e. cc) (plain os given (no_words name.Tar given m.1 (λ t. t) (λ t. t)) (λ h. absurd (all_fit name.Tar given m.1 option.Ignore h)))
   made_work Why m = bare name.Why m.0 m.1.0 (λ t. t) (λ e. cc) (λ t. t) (λ e. m.1.1.0) (plain os given (no_words name.Why given m.1.0 (λ t. t) (λ t. t)) (λ h. m.1.1.1))
 
 made : (given : Line) (command : Command) → MakesUp given command → IsMade given
@@ -212,20 +221,18 @@ made given Version m = absurd m
 
 module _ (given : Line) (m : IsMade given) where
   not_missing : (what : List ℕ) → IsMissing given what → ⊥
-  not_missing what (inl k) = not_nil (sym k.1 ∙ m.operands)
-  not_missing what (inr (inl k)) = not_nil (tail_is (sym k.1.1 ∙ m.operands))
-  not_missing what (inr (inr (inl k))) =
+  not_missing what (inl k) = not_nil (sym k.1 ∙ m.operands.1.0)
+  not_missing what (inr (inl k)) =
       let same = one_command given m.command k.1.0 m.os k.1.1 m.more [] m.operands k.1.2.0 in
       k.1.2.1.1 (subst (SomePicked given) same.1.1 (m.needs (subst (NeedsPick given) (sym same.0) k.1.2.1.0)))
-  not_missing what (inr (inr (inr k))) = k.1.1.1 (m.states (one_command given m.command name.Why m.os k.1.0 m.more [] m.operands k.1.1.0).0)
+  not_missing what (inr (inr k)) = k.1.1.1 (m.states (one_command given m.command name.Why m.os k.1.0 m.more [] m.operands k.1.1.0).0)
 
   not_invalid : (max : ℕ) → IsMax given max → (what word : List ℕ) → IsInvalid given what word → ⊥
-  not_invalid max limit what word (inl k) = k.1.0 m.command (head_is (sym k.1.1.1 ∙ m.operands))
-  not_invalid max limit what word (inr (inl k)) = k.1.0 m.os (head_is (tail_is (sym k.1.1.2 ∙ m.operands)))
-  not_invalid max (inl limit) what word (inr (inr k)) =
+  not_invalid max limit what word (inl k) = k.1.0 m.command (head_is (sym k.1.1.1 ∙ m.operands.1.0))
+  not_invalid max (inl limit) what word (inr k) =
       let never = one_last option.Max given None None (Some word) limit.0 k.1.0 in
       cc
-  not_invalid max (inr limit) what word (inr (inr k)) =
+  not_invalid max (inr limit) what word (inr k) =
       let same = one_last option.Max given None (Some limit.0) (Some word) limit.1.0 k.1.0 in
       let is : limit.0 ≡ word = cc in
       k.1.1 max (subst (λ n. IsLimit n max) is limit.1.1)

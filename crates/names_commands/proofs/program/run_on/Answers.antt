@@ -28,3 +28,9 @@ returns-in-Why-clause-run g c =
     subst (λ work. DoesWork (g.F.Files.known c.args.files.now) g.row.A.Denot g.E.Platform (requested_of c.args.request.now) c.args.os work (g.R.Read.remaining (marked_inner c.args.reader.now)) (g.R.Read.remaining (marked_inner c.run_why.new.reader)) (g.W.Write.contents (marked_inner c.args.writer.now)) (g.W.Write.contents (marked_inner c.run_why.new.writer)) c.run_why.result)
     (sym c.in-Why.is)
     c.run_why.ensures.run
+
+pub returns-in-Tar-clause-run : goal.returns-in-Tar-clause-run
+returns-in-Tar-clause-run g c =
+    subst (λ work. DoesWork (g.F.Files.known c.args.files.now) g.row.A.Denot g.E.Platform (requested_of c.args.request.now) c.args.os work (g.R.Read.remaining (marked_inner c.args.reader.now)) (g.R.Read.remaining (marked_inner c.run_tar.new.reader)) (g.W.Write.contents (marked_inner c.args.writer.now)) (g.W.Write.contents (marked_inner c.run_tar.new.writer)) c.run_tar.result)
+    (sym c.in-Tar.is)
+    c.run_tar.ensures.run

@@ -1,7 +1,6 @@
-use Rattle.std.proofs.Common.{◌∷◌, inl, inr, refl, ap, ◌∙◌, subst}
+use Rattle.std.proofs.Common.{inl, inr, refl, subst}
 use Rattle.program_frame.specs.Arguments.{operands_of}
-use Rattle.program_frame.specs.Os.{os_word}
-use Rattle.names_commands.specs.Command.{Picks, SomePicked, name_word}
+use Rattle.names_commands.specs.Command.{HasOperands, Picks, SomePicked}
 use Rattle.names_commands.specs.declared.command.Name.TheVariants.{Filter}
 use Rattle.names_commands.proofs.lemmas.Commands.{none_picked}
 use Rattle.names_commands.proofs.command.Command.filter.Goals as goal
@@ -12,7 +11,7 @@ returns-else-picked-clause-misuse c =
     let more = operands_of c.args.more.now in
     let none = subst (Picks given c.args.os more) c.if-picked.false c.in_ok-picked.ensures.picks in
     let no_more = none_picked given more none.0 in
-    inr (inr (inl (refl, (Filter, c.args.os, (c.requires.operands ∙ ap (λ m. name_word Filter ∷ os_word c.args.os ∷ m) no_more, (inl refl, subst (λ m. ¬ (SomePicked given m)) no_more none.0))))))
+    inr (inl (refl, (Filter, c.args.os, (subst (HasOperands given Filter c.args.os) no_more c.requires.operands, (inl refl, subst (λ m. ¬ (SomePicked given m)) no_more none.0)))))
 
 pub returns-then-picked-clause-command : goal.returns-then-picked-clause-command
 returns-then-picked-clause-command c =

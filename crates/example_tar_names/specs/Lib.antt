@@ -1,3 +1,0 @@
-pub mod Fault
-pub mod Line
-pub mod Run
