@@ -1,10 +1,10 @@
 -- What is written of an archive: the names of its entries (`AreNames` of `tar_names`), each with its end.
 use Rattle.std.specs.Prelude.{◌≡◌, ◌⊎◌, ℕ, ◌+◌, ◌<◌, List, [], ◌∷◌, ◌++◌, length, false, Option, None, Some}
 use Rattle.os_str_bytes.specs.Platform.{Ghosts}
-use Rattle.program_frame.specs.ListOptions.{byte_of}
-use Rattle.program_frame.specs.declared.lists.fault.ListFault.{ListFault}
-use Rattle.program_frame.specs.declared.lists.fault.ListFault.TheVariants.{Rejected, TooLong, Unended, TooMuch, Run}
-use Rattle.program_frame.specs.declared.lists.options.ListOptions.{ListOptions}
+use Rattle.list_programs.specs.ListOptions.{byte_of}
+use Rattle.list_programs.specs.declared.fault.ListFault.{ListFault}
+use Rattle.list_programs.specs.declared.fault.ListFault.TheVariants.{Rejected, TooLong, Unended, TooMuch, Run}
+use Rattle.list_programs.specs.declared.options.ListOptions.{ListOptions}
 use Rattle.tar_names.specs.Names.{AreNames}
 use Rattle.tar_names.specs.declared.fault.TarFault.{TarFault}
 use Rattle.names_commands.specs.Names.{IsNameRejection, IsUnfit}

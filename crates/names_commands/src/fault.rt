@@ -8,10 +8,10 @@ use glob_patterns::{GlobSetError, PatternFault};
 use os_command_line::shell::WordsFault;
 use os_quote::QuoteError;
 use os_str_bytes::{EncodingError, write_number};
-use program_frame::lists::fault::ItemRejection;
-use program_frame::lists::program_fault;
-use program_frame::lists::program_fault::WordsRejection;
-use program_frame::misuse::Misuse;
+use list_programs::fault::ItemRejection;
+use list_programs::program_fault;
+use list_programs::program_fault::WordsRejection;
+use list_programs::misuse::Misuse;
 use std::fmt;
 use std::fmt::{Display as _, InlineText};
 use tar_names::TarFault;
@@ -64,7 +64,7 @@ impl CommandFault {
     ///
     /// ```
     /// use names_commands::fault::{CommandFault, Fault};
-    /// use program_frame::misuse::Misuse;
+    /// use list_programs::misuse::Misuse;
     ///
     /// let fault: Fault = Fault::Words(CommandFault::of(Misuse::Invalid("platform", "linux")));
     /// let text = "invalid platform 'linux'; names --help lists the commands";

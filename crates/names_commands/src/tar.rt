@@ -1,8 +1,8 @@
 //! Runs that write the names of the entries of an archive.
 ghost use Rattle.std.specs.Prelude.{◌≡◌, ◌∷◌, ◌++◌, [], ℕ, false, IfErr, IfOk, MatchOption, OnErr, OnOk, length};
-ghost use Rattle.program_frame.specs.ListOptions.{byte_of};
+ghost use Rattle.list_programs.specs.ListOptions.{byte_of};
 ghost use Rattle.program_frame.specs.Marked.{has_failed};
-ghost use Rattle.program_frame.specs.ProgramFault.{BlamesEnds};
+ghost use Rattle.list_programs.specs.ProgramFault.{BlamesEnds};
 ghost use Rattle.tar_names.specs.Name.{name_bytes};
 ghost use Rattle.names_commands.specs.Program.{Did, RunsTar, tar_outcome};
 ghost use Rattle.names_commands.specs.Tar.{IsItem, IsNoItem, IsTarOutput, earlier};
@@ -12,9 +12,9 @@ use crate::item::unfit;
 use os_str_bytes::{OsStr, Platform};
 use program_frame::fault::Failure;
 use program_frame::input::read_all;
-use program_frame::lists::fault::ListFault;
-use program_frame::lists::items::push_ended;
-use program_frame::lists::options::ListOptions;
+use list_programs::fault::ListFault;
+use list_programs::items::push_ended;
+use list_programs::options::ListOptions;
 use program_frame::marked::Marked;
 use program_frame::writing::write_out;
 use std::alloc::{AllocError, Allocator};
@@ -34,7 +34,7 @@ use tar_names::{Entries, Name};
 /// ```
 /// use names_commands::tar::run_tar;
 /// use os_str_bytes::Unix;
-/// use program_frame::lists::options::ListOptions;
+/// use list_programs::options::ListOptions;
 /// use program_frame::marked::Marked;
 ///
 /// let mut taken = Vec::new(alloc);

@@ -3,11 +3,11 @@ use Rattle.std.proofs.Common.{◌≡◌, ◌≢◌, ℕ, ◌+◌, List, [], ◌�
 use Rattle.std.specs.Prelude.{MatchOption, ⊤}
 use Rattle.os_str_bytes.specs.Platform.{Ghosts}
 use Rattle.program_frame.specs.declared.fault.Failure.{Failure}
-use Rattle.program_frame.specs.declared.lists.fault.ListFault.{ListFault}
-use Rattle.program_frame.specs.declared.lists.fault.ListFault.TheVariants.{Run}
-use Rattle.program_frame.specs.declared.lists.options.ListOptions.{ListOptions}
-use Rattle.program_frame.specs.ListOptions.{byte_of}
-use Rattle.program_frame.specs.declared.lists.program_fault.Fault.TheVariants.{List as OfList}
+use Rattle.list_programs.specs.declared.fault.ListFault.{ListFault}
+use Rattle.list_programs.specs.declared.fault.ListFault.TheVariants.{Run}
+use Rattle.list_programs.specs.declared.options.ListOptions.{ListOptions}
+use Rattle.list_programs.specs.ListOptions.{byte_of}
+use Rattle.list_programs.specs.declared.program_fault.Fault.TheVariants.{List as OfList}
 use Rattle.tar_names.specs.declared.fault.TarFault.{TarFault}
 use Rattle.names_commands.specs.Program.{Fault, tar_outcome}
 use Rattle.names_commands.specs.Tar.{AreWritten, IsItem, IsNoItem, IsTarOutput, earlier, ended, faulty, rejected, written}

@@ -1,5 +1,5 @@
 use Rattle.std.proofs.Common.{◌+◌, ◌≤◌, ℕ, List, ◌++◌, Option, length}
-use Rattle.program_frame.specs.declared.lists.fault.ListFault.{ListFault}
+use Rattle.list_programs.specs.declared.fault.ListFault.{ListFault}
 use Rattle.tar_names.specs.declared.fault.TarFault.{TarFault}
 use Rattle.tar_names.specs.Left.{AreLeft, left_of}
 use Rattle.names_commands.specs.Tar.{AreWritten, IsTarOutput, earlier}

@@ -1,5 +1,5 @@
 use Rattle.std.proofs.Common.{inl, inr, refl, subst}
-use Rattle.program_frame.specs.Arguments.{operands_of}
+use Rattle.list_programs.specs.Arguments.{operands_of}
 use Rattle.names_commands.specs.Command.{HasOperands, Picks, SomePicked}
 use Rattle.names_commands.specs.declared.command.Name.TheVariants.{Filter}
 use Rattle.names_commands.proofs.lemmas.Commands.{none_picked}
