@@ -249,14 +249,14 @@ module _ {E : Type 0} (p : Ghosts E) (style : Style) where
   IsRejection end task path rejection.HasNul = ¬ (Lacks 0 path)
   IsRejection end task path (rejection.ResultHas byte) = (byte ≡ end) × IsCutShort end task path
 
-  -- what is done with each path of a list that is written so
-  abbrev pub rules_of : Task → ListOptions → ListRules Rejection
-  rules_of task list = record {
+  -- what is done with each path of a list that is written so, where this byte ends each result
+  abbrev pub rules_of : Task → ListOptions → ItemEnd → ListRules Rejection
+  rules_of task list end = record {
     end = byte_of list.end;
     takes_unended = MayLack list.last;
     max = list.max;
     longest = list.max;
-    is_text = IsText list.end task;
-    rejects = IsRejection list.end task;
+    is_text = IsText end task;
+    rejects = IsRejection end task;
     is_of_long = λ path. ⊥;
   }

@@ -24,13 +24,13 @@ ghost use Rattle.platform_str.specs.Strings.{path_bytes};
 use crate::answers::{parent, part};
 use crate::components::{push_components, shown_component};
 use crate::fault::Rejection;
-use crate::task::Task;
+use crate::task::{OnPlatform, Task};
 use os_path::{AbsoluteError, ConvertError, NameError, NormalizeError, PathExt, PathStyle};
 use os_str_bytes::{OsStr, Path, Platform, Unix, Wasm, Windows};
 use path_building::Base;
 use program_frame::lists::fault::ItemFault;
 use program_frame::lists::items::split_at_end;
-use program_frame::lists::options::{ItemEnd, ListOptions};
+use program_frame::lists::options::ItemEnd;
 use program_frame::os::Os;
 use std::alloc::{AllocError, Allocator};
 
@@ -38,22 +38,21 @@ use std::alloc::{AllocError, Allocator};
 #[tactic(auto, using(program_frame::proofs::lemmas::lists::Items::has_end))]
 pub fn write_item<E: PathStyle, A: Allocator + Copy>(
     alloc: A,
-    task: Task<'_>,
-    list: ListOptions,
+    on: &OnPlatform<'_, E>,
     item: &[u8],
     output: &mut Vec<u8, A>,
 ) -> Result<(), ItemFault<Rejection>>
     ensures ok { OnOk result ((text : List ℕ)
-        × (IsText ⟦<E as Platform>⟧ E.follows list.end task.entry item.now text
+        × (IsText ⟦<E as Platform>⟧ E.follows on.now.end on.now.task item.now text
         × (output.new.items ≡ output.old.items ++ text))) }
     ensures fault { IfErr result (λ fault.
-        IsItemFault (rules_of ⟦<E as Platform>⟧ E.follows task.entry list) item.now fault) }
+        IsItemFault (rules_of ⟦<E as Platform>⟧ E.follows on.now.task on.now.list on.now.end) item.now fault) }
     ensures unchanged { OnErr result (output.new.items ≡ output.old.items) }
 {
     match OsStr::<E>::checked(item) {
         Ok(string) => match split_at_end(0, item) {
             Some(_) => Err(ItemFault::Rejected(Rejection::HasNul)),
-            None => write_path::<E, A>(alloc, task, list.end, Path::new(string), output),
+            None => write_path::<E, A>(alloc, on.task, on.end, Path::new(string), output),
         },
         Err(error) => Err(ItemFault::Rejected(Rejection::NoString(error))),
     }

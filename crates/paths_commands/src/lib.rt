@@ -14,6 +14,7 @@ mod answers;
 pub mod command;
 mod components;
 pub mod fault;
+mod given;
 pub mod help;
 mod item;
 pub mod option;

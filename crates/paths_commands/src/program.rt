@@ -1,23 +1,26 @@
 //! The whole program, over ends of any kind.
-ghost use Rattle.std.specs.Prelude.{◌≡◌, false, IfErr};
+ghost use Rattle.std.specs.Prelude.{◌≡◌, map, string_bytes, false, IfErr};
+ghost use Rattle.program_frame.specs.Arguments.{operands_of};
 ghost use Rattle.program_frame.specs.ListRun.{Runs};
 ghost use Rattle.program_frame.specs.Marked.{marked_inner, has_failed};
 ghost use Rattle.program_frame.specs.ProgramFault.{BlamesEnds, EndsRunOf};
 ghost use Rattle.program_frame.specs.Rules.{passing};
 ghost use Rattle.program_frame.specs.declared.lists.program_fault.Fault.TheVariants.{List as OfList};
-ghost use Rattle.paths_commands.specs.Program.{Does, IsAfter, RunsLine, RunsPast, rules_on};
+ghost use Rattle.paths_commands.specs.Command.{AreAfterEnd};
+ghost use Rattle.paths_commands.specs.Program.{Does, IsAfter, RunsLine, RunsOver, RunsPast, RunsTask, rules_on};
 
-use crate::command::Command;
+use crate::command::{Command, Line};
 use crate::fault::{CommandFault, Fault, Rejection};
+use crate::given::run_given;
 use crate::help::{HELP, VERSION};
 use crate::option::PathsOption;
 use crate::task::{OnPlatform, Task};
 use os_str_bytes::{Unix, Wasm, Windows};
-use program_frame::arguments::{Given, ReadFault, read_arguments};
+use program_frame::arguments::{Given, ReadFault, next_operand, read_arguments};
 use program_frame::fault::Failure;
 use program_frame::lists::answers::{run_list_with, write_help};
 use program_frame::lists::fault::ListFault;
-use program_frame::lists::options::ListOptions;
+use program_frame::lists::options::{ItemEnd, ListOptions};
 use program_frame::lists::program::ListProgram;
 use program_frame::lists::rejections::{KeepGoing, Rejections, Stop};
 use program_frame::marked::Marked;
@@ -76,7 +79,7 @@ impl<'a, P: Eprint> ListProgram for Paths<'a, P> {
         writer: &mut Marked<W>,
     ) -> Result<(), Fault> {
         match read_arguments::<PathsOption, A>(alloc, words) {
-            Ok(given) => run_line(alloc, self.errors, &given, reader, writer),
+            Ok(given) => run_line(alloc, self.errors, &given, after_end(words), reader, writer),
             Err(ReadFault::Misuse(error)) => {
                 Err(Fault::Words(CommandFault::of(Misuse::Argument(error))))
             }
@@ -85,32 +88,47 @@ impl<'a, P: Eprint> ListProgram for Paths<'a, P> {
     }
 }
 
-/// Returns the result for options and operands.
+/// How many arguments come after the first `--`.
+fn after_end(words: &[String]) -> usize
+    ensures { AreAfterEnd (map string_bytes words.entry.now) result }
+{
+    let mut left = words;
+    while let Some((word, rest)) = left.split_first() {
+        if word.as_str() == "--" {
+            return rest.len();
+        }
+        left = rest;
+    }
+    0
+}
+
+/// Returns the result for options and operands, of which the last come after `--`.
 fn run_line<P: Eprint, A: Allocator + Copy, R: Read, W: Write>(
     alloc: A,
     errors: &P,
-    given: &[Given<'_, PathsOption>],
+    given: Line<'_, '_>,
+    after_end: usize,
     reader: &mut Marked<R>,
     writer: &mut Marked<W>,
 ) -> Result<(), Fault>
     requires reader_unmarked { has_failed reader.old ≡ false }
     requires writer_unmarked { has_failed writer.old ≡ false }
-    ensures run { RunsLine given.now (R.remaining (marked_inner reader.old))
+    ensures run { RunsLine after_end given.now (R.remaining (marked_inner reader.old))
         (R.remaining (marked_inner reader.new)) (W.contents (marked_inner writer.old))
         (W.contents (marked_inner writer.new)) result }
     ensures ends { BlamesEnds result (has_failed reader.new) (has_failed writer.new) }
 {
-    match Command::parse(given) {
+    match Command::parse(given, after_end) {
         Ok(command) => run_command(alloc, errors, command, reader, writer),
         Err(misuse) => Err(Fault::Words(CommandFault::of(misuse))),
     }
 }
 
 /// Returns the result of the run of a command.
-fn run_command<P: Eprint, A: Allocator, R: Read, W: Write>(
+fn run_command<P: Eprint, A: Allocator + Copy, R: Read, W: Write>(
     alloc: A,
     errors: &P,
-    command: Command<'_>,
+    command: Command<'_, '_>,
     reader: &mut Marked<R>,
     writer: &mut Marked<W>,
 ) -> Result<(), Fault>
@@ -122,20 +140,28 @@ fn run_command<P: Eprint, A: Allocator, R: Read, W: Write>(
     ensures ends { BlamesEnds result (has_failed reader.new) (has_failed writer.new) }
 {
     match command {
-        Command::Ask(task, os, list, true) => run_past(
-            alloc, errors, os, task, list, reader, writer,
-        ),
-        Command::Ask(task, os, list, false) => run_to_rejection(
-            alloc, os, task, list, reader, writer,
+        Command::Ask(task, os, list, keeps_going, paths) => run_over(
+            alloc,
+            errors,
+            paths,
+            keeps_going,
+            os,
+            task,
+            list,
+            reader,
+            writer,
         ),
         Command::Help => write_help(HELP, writer),
         Command::Version => write_help(VERSION, writer),
     }
 }
 
-/// Returns the result of the run that ends at the first path that is rejected.
-fn run_to_rejection<A: Allocator, R: Read, W: Write>(
+/// Returns the result of the run over the paths that are given, or else over those that are read.
+fn run_over<P: Eprint, A: Allocator + Copy, R: Read, W: Write>(
     alloc: A,
+    errors: &P,
+    paths: Line<'_, '_>,
+    keeps_going: bool,
     os: Os,
     task: Task<'_>,
     list: ListOptions,
@@ -144,12 +170,79 @@ fn run_to_rejection<A: Allocator, R: Read, W: Write>(
 ) -> Result<(), Fault>
     requires reader_unmarked { has_failed reader.old ≡ false }
     requires writer_unmarked { has_failed writer.old ≡ false }
-    ensures run { Runs (rules_on os task.entry list) OfList
+    ensures run { RunsOver (operands_of paths.entry.now) keeps_going os task.entry list
         (R.remaining (marked_inner reader.old)) (R.remaining (marked_inner reader.new))
         (W.contents (marked_inner writer.old)) (W.contents (marked_inner writer.new)) result }
     ensures ends { BlamesEnds result (has_failed reader.new) (has_failed writer.new) }
 {
-    run_on(alloc, os, task, list, &mut Stop, reader, writer)
+    match next_operand(paths) {
+        None => run_task(
+            alloc,
+            errors,
+            keeps_going,
+            os,
+            task,
+            list,
+            list.end,
+            reader,
+            writer,
+        ),
+        Some(_) => run_given(
+            alloc,
+            errors,
+            paths,
+            keeps_going,
+            os,
+            task,
+            list.end,
+            writer,
+        ),
+    }
+}
+
+/// Returns the result of the run of a task, where rejected paths may be passed over.
+pub fn run_task<P: Eprint, A: Allocator, R: Read, W: Write>(
+    alloc: A,
+    errors: &P,
+    keeps_going: bool,
+    os: Os,
+    task: Task<'_>,
+    list: ListOptions,
+    end: ItemEnd,
+    reader: &mut Marked<R>,
+    writer: &mut Marked<W>,
+) -> Result<(), Fault>
+    requires reader_unmarked { has_failed reader.old ≡ false }
+    requires writer_unmarked { has_failed writer.old ≡ false }
+    ensures run { RunsTask keeps_going os task.entry list end
+        (R.remaining (marked_inner reader.old)) (R.remaining (marked_inner reader.new))
+        (W.contents (marked_inner writer.old)) (W.contents (marked_inner writer.new)) result }
+    ensures ends { BlamesEnds result (has_failed reader.new) (has_failed writer.new) }
+{
+    if keeps_going {
+        return run_past(alloc, errors, os, task, list, end, reader, writer);
+    }
+    run_to_rejection(alloc, os, task, list, end, reader, writer)
+}
+
+/// Returns the result of the run that ends at the first path that is rejected.
+fn run_to_rejection<A: Allocator, R: Read, W: Write>(
+    alloc: A,
+    os: Os,
+    task: Task<'_>,
+    list: ListOptions,
+    end: ItemEnd,
+    reader: &mut Marked<R>,
+    writer: &mut Marked<W>,
+) -> Result<(), Fault>
+    requires reader_unmarked { has_failed reader.old ≡ false }
+    requires writer_unmarked { has_failed writer.old ≡ false }
+    ensures run { Runs (rules_on os task.entry list end) OfList
+        (R.remaining (marked_inner reader.old)) (R.remaining (marked_inner reader.new))
+        (W.contents (marked_inner writer.old)) (W.contents (marked_inner writer.new)) result }
+    ensures ends { BlamesEnds result (has_failed reader.new) (has_failed writer.new) }
+{
+    run_on(alloc, os, task, list, end, &mut Stop, reader, writer)
 }
 
 /// Returns the result of the run that passes over the paths that are rejected.
@@ -159,18 +252,19 @@ fn run_past<P: Eprint, A: Allocator, R: Read, W: Write>(
     os: Os,
     task: Task<'_>,
     list: ListOptions,
+    end: ItemEnd,
     reader: &mut Marked<R>,
     writer: &mut Marked<W>,
 ) -> Result<(), Fault>
     requires reader_unmarked { has_failed reader.old ≡ false }
     requires writer_unmarked { has_failed writer.old ≡ false }
-    ensures run { RunsPast (rules_on os task.entry list)
+    ensures run { RunsPast (rules_on os task.entry list end)
         (R.remaining (marked_inner reader.old)) (R.remaining (marked_inner reader.new))
         (W.contents (marked_inner writer.old)) (W.contents (marked_inner writer.new)) result }
     ensures ends { BlamesEnds result (has_failed reader.new) (has_failed writer.new) }
 {
     let mut rejections = KeepGoing::new("paths", errors);
-    let ran = run_on(alloc, os, task, list, &mut rejections, reader, writer);
+    let ran = run_on(alloc, os, task, list, end, &mut rejections, reader, writer);
     after(rejections.count(), ran)
 }
 
@@ -195,13 +289,15 @@ fn run_on<N: Rejections<Rejection>, A: Allocator, R: Read, W: Write>(
     os: Os,
     task: Task<'_>,
     list: ListOptions,
+    end: ItemEnd,
     rejections: &mut N,
     reader: &mut Marked<R>,
     writer: &mut Marked<W>,
 ) -> Result<(), Fault>
     requires reader_unmarked { has_failed reader.old ≡ false }
     requires writer_unmarked { has_failed writer.old ≡ false }
-    ensures run { Runs (passing (N.passed rejections.new) (rules_on os task.entry list)) OfList
+    ensures run { Runs (passing (N.passed rejections.new) (rules_on os task.entry list end))
+        OfList
         (R.remaining (marked_inner reader.old)) (R.remaining (marked_inner reader.new))
         (W.contents (marked_inner writer.old)) (W.contents (marked_inner writer.new)) result }
     ensures stops { IfErr result (λ fault. EndsRunOf N.stops fault) }
@@ -210,21 +306,21 @@ fn run_on<N: Rejections<Rejection>, A: Allocator, R: Read, W: Write>(
     match os {
         Os::Unix => run_list_with(
             alloc,
-            &OnPlatform::<Unix>::new(task, list),
+            &OnPlatform::<Unix>::ended(task, list, end),
             rejections,
             reader,
             writer,
         ),
         Os::Windows => run_list_with(
             alloc,
-            &OnPlatform::<Windows>::new(task, list),
+            &OnPlatform::<Windows>::ended(task, list, end),
             rejections,
             reader,
             writer,
         ),
         Os::Wasm => run_list_with(
             alloc,
-            &OnPlatform::<Wasm>::new(task, list),
+            &OnPlatform::<Wasm>::ended(task, list, end),
             rejections,
             reader,
             writer,

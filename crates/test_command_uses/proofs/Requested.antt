@@ -16,7 +16,7 @@ use Rattle.test_command_uses.specs.Requests.{RequestsSome, RunsSome}
 -- they aren't rejected
 pub requested : (words : List (List ℕ)) (input left old new : Option (List ℕ)) (answer : Result ⊤ Fault) → RequestsSome words → RunsTo words input left old new answer → RunsSome words input left old new answer
 requested words input left old new answer some (inl memory) = inl memory.0
-requested words input left old new answer some (inr (inl rejects)) = absurd (rejects.0 some.0 some.1.0 some.1.1.0 some.1.1.1)
+requested words input left old new answer some (inr (inl rejects)) = absurd (rejects.0 some.0 some.1.0 some.1.1.0 some.1.1.1.0 some.1.1.1.1)
 requested words input left old new answer some (inr (inr runs)) = inr runs
 
 -- the result of the program with such arguments

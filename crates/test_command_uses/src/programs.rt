@@ -10,7 +10,7 @@ ghost use Rattle.program_frame.specs.declared.fault.Failure.{Failure};
 ghost use Rattle.program_frame.specs.declared.lists.program_fault.Fault.TheVariants.{List as OfList, Words};
 ghost use Rattle.paths_commands.specs.Command.{RequestNothing};
 ghost use Rattle.paths_commands.specs.declared.fault.CommandFault.{CommandFault};
-ghost use Rattle.test_command_uses.specs.Requests.{RequestsSome, RunsSome};
+ghost use Rattle.test_command_uses.specs.Requests.{GivesPaths, RequestsSome, RunsSome};
 
 use names_commands::fault::Fault as NamesFault;
 use names_commands::program::Names;
@@ -225,6 +225,31 @@ pub fn paths_requested<P: Eprint, A: Allocator + Copy, R: Read, W: Output, E: Me
     ensures { RunsSome (words_after_name arguments) (R.remaining (marked_inner reader.old))
         (R.remaining (marked_inner reader.new)) (W.contents (marked_inner writer.old))
         (W.contents (marked_inner writer.new)) result }
+{
+    execute_list(
+        &Paths::new(rt),
+        alloc,
+        Ok(arguments),
+        reader,
+        writer,
+        errors,
+    )
+    .outcome()
+}
+
+/// The program for paths with arguments that give paths: it reads nothing.
+pub fn paths_given<P: Eprint, A: Allocator + Copy, R: Read, W: Output, E: Messages>(
+    rt: &P,
+    alloc: A,
+    arguments: Args,
+    reader: &mut Marked<R>,
+    writer: &mut Marked<W>,
+    errors: &mut E,
+) -> Result<(), PathsFault>
+    requires words { GivesPaths (words_after_name arguments) }
+    requires reader_unmarked { has_failed reader.old ≡ false }
+    requires writer_unmarked { has_failed writer.old ≡ false }
+    ensures { R.remaining (marked_inner reader.new) ≡ R.remaining (marked_inner reader.old) }
 {
     execute_list(
         &Paths::new(rt),

@@ -11,7 +11,7 @@ use Rattle.paths_commands.proofs.program.PathsListProgram.run_words.Goals as goa
 pub returns-in-Ok-clause-run : goal.returns-in-Ok-clause-run
 returns-in-Ok-clause-run g c =
     let same : c.deref.result.now ≡ c.in-Ok.given.items = search rules in
-    line_runs _ _ _ _ _ _ c.deref.result.now (subst (AreGiven spelled has_value (map string_bytes c.args.words.now)) (sym same) c.in-Ok.ensures.given) c.run_line.ensures.run
+    line_runs _ _ _ _ _ _ c.after_end.result c.deref.result.now (subst (AreGiven spelled has_value (map string_bytes c.args.words.now)) (sym same) c.in-Ok.ensures.given, c.after_end.ensures) c.run_line.ensures.run
 
 pub returns-in-Err-Misuse-clause-run : goal.returns-in-Err-Misuse-clause-run
 returns-in-Err-Misuse-clause-run g c =
