@@ -96,7 +96,8 @@ fn ask<E: PathStyle, A: Allocator, W: Write>(
         output)) }
     ensures stopped { IfErr result (λ fault. fault ≢ Run WriteFailure → (output : List ℕ)
         × (StopsOn (rules_of ⟦<E as Platform>⟧ E.follows task.entry list list.end) input.now output
-        fault × Appends (W.contents (marked_inner writer.old)) (W.contents (marked_inner writer.new))
+        fault
+        × Appends (W.contents (marked_inner writer.old)) (W.contents (marked_inner writer.new))
         output)) }
 {
     let mut reader = Marked::new(input);
@@ -120,7 +121,8 @@ pub fn requested_on<E: PathStyle, P: Eprint, A: Allocator, W: Write>(
 ) -> (u64, Result<(), ListFault<Rejection>>)
     requires { has_failed writer.old ≡ false }
     ensures written { OnOk result.1 ((output : List ℕ) × (IsOutput
-        (passing result.0 (rules_of ⟦<E as Platform>⟧ E.follows task.entry list list.end)) input.now output
+        (passing result.0 (rules_of ⟦<E as Platform>⟧ E.follows task.entry list list.end))
+        input.now output
         × Appends (W.contents (marked_inner writer.old)) (W.contents (marked_inner writer.new))
         output)) }
     ensures ends { IfErr result.1 (λ fault. EndsRun ⊥ fault) }
