@@ -11,6 +11,7 @@
 #![tactic(auto)]
 
 mod answers;
+mod checked;
 pub mod command;
 mod components;
 pub mod fault;

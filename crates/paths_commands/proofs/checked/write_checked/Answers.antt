@@ -4,7 +4,7 @@ use Rattle.platform_str.specs.Strings.{path_bytes}
 use Rattle.path_building.specs.BaseViews.{base_style}
 use Rattle.path_building.specs.Faults.{IsNameFault}
 use Rattle.paths_commands.specs.Task.{IsJoinedBelow}
-use Rattle.paths_commands.proofs.item.write_checked.Goals as goal
+use Rattle.paths_commands.proofs.checked.write_checked.Goals as goal
 
 pub returns-in-Ok-clause-ok : goal.returns-in-Ok-clause-ok
 returns-in-Ok-clause-ok g c =
