@@ -201,7 +201,7 @@ fn run_over<P: Eprint, A: Allocator + Copy, R: Read, W: Write>(
 }
 
 /// Returns the result of the run of a task, where rejected paths may be passed over.
-pub fn run_task<P: Eprint, A: Allocator, R: Read, W: Write>(
+pub(crate) fn run_task<P: Eprint, A: Allocator, R: Read, W: Write>(
     alloc: A,
     errors: &P,
     keeps_going: bool,
