@@ -5,22 +5,22 @@ use Rattle.os_args.specs.declared.error.ArgumentError.{ArgumentError}
 use Rattle.os_str_bytes.specs.Wasm.{Wasm}
 use Rattle.os_str_bytes.specs.WasmPlatform.TheImpl as wasm
 use Rattle.platform_str.specs.declared.os_str.OsStr.{OsStr}
-use Rattle.program_frame.specs.Arguments.{HasFault, operands_of}
-use Rattle.program_frame.specs.ListRun.{Runs}
-use Rattle.program_frame.specs.ProgramFault.{EndsRunOf}
-use Rattle.program_frame.specs.Rules.{ListRules, passing}
+use Rattle.list_programs.specs.Arguments.{HasFault, operands_of}
+use Rattle.list_programs.specs.ListRun.{Runs}
+use Rattle.list_programs.specs.ProgramFault.{EndsRunOf}
+use Rattle.list_programs.specs.Rules.{ListRules, passing}
 use Rattle.program_frame.specs.Strings.{strings}
 use Rattle.program_frame.specs.Written.{WritesText}
 use Rattle.program_frame.specs.declared.fault.Failure.TheVariants.{Memory, Read, Write}
-use Rattle.program_frame.specs.declared.lists.fault.ListFault.TheVariants.{Run}
-use Rattle.program_frame.specs.declared.lists.options.ItemEnd.{ItemEnd}
-use Rattle.program_frame.specs.declared.lists.options.ItemEnd.TheVariants.{Nul}
-use Rattle.program_frame.specs.declared.lists.options.LastItem.TheVariants.{MustEnd}
-use Rattle.program_frame.specs.declared.lists.options.ListOptions.{ListOptions}
-use Rattle.program_frame.specs.declared.lists.program_fault.Fault as program_fault
-use Rattle.program_frame.specs.declared.lists.program_fault.Fault.TheVariants.{List as OfList, Words}
-use Rattle.program_frame.specs.declared.misuse.Misuse as misuse
-use Rattle.program_frame.specs.declared.misuse.Misuse.TheVariants.{Argument}
+use Rattle.list_programs.specs.declared.fault.ListFault.TheVariants.{Run}
+use Rattle.list_programs.specs.declared.options.ItemEnd.{ItemEnd}
+use Rattle.list_programs.specs.declared.options.ItemEnd.TheVariants.{Nul}
+use Rattle.list_programs.specs.declared.options.LastItem.TheVariants.{MustEnd}
+use Rattle.list_programs.specs.declared.options.ListOptions.{ListOptions}
+use Rattle.list_programs.specs.declared.program_fault.Fault as program_fault
+use Rattle.list_programs.specs.declared.program_fault.Fault.TheVariants.{List as OfList, Words}
+use Rattle.list_programs.specs.declared.misuse.Misuse as misuse
+use Rattle.list_programs.specs.declared.misuse.Misuse.TheVariants.{Argument}
 use Rattle.program_frame.specs.declared.os.Os.{Os}
 use Rattle.paths_commands.specs.Command.{AreRead, IsRequestFor, IsMisuse, Line, RequestNothing, RequestsNothing, longest_path}
 use Rattle.paths_commands.specs.Fault.{IsOfMisuse}

@@ -1,7 +1,7 @@
 //! Paths below a base that no path may leave.
 ghost use Rattle.std.specs.Prelude.{◌≡◌, ◌≢◌, ◌⊎◌, ◌++◌, ℕ, List, OnOk, OnErr, IfOk, IfErr};
 ghost use Rattle.platform_str.specs.Strings.{path_bytes};
-ghost use Rattle.program_frame.specs.declared.lists.fault.ItemFault.TheVariants.{Rejected, Memory};
+ghost use Rattle.list_programs.specs.declared.fault.ItemFault.TheVariants.{Rejected, Memory};
 ghost use Rattle.path_building.specs.declared.walk.NameError.TheVariants as name_error;
 ghost use Rattle.paths_commands.specs.declared.fault.Rejection as why;
 ghost use Rattle.paths_commands.specs.Task.{component_of, IsJoinedBelow, IsReasonOf, IsUnjoined};
@@ -12,7 +12,7 @@ use crate::item::write_answer;
 use os_path::{NameError, PathStyle};
 use os_str_bytes::{Path, Platform};
 use path_building::Base;
-use program_frame::lists::fault::ItemFault;
+use list_programs::fault::ItemFault;
 use std::alloc::{AllocError, Allocator};
 
 /// Appends a path below a base.

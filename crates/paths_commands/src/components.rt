@@ -11,7 +11,7 @@ use crate::fault::SHOWN;
 use os_path::{Component, Components, PathExt, PathStyle, Style};
 use os_quote::escape_line;
 use os_str_bytes::{OsStr, Path, Platform};
-use program_frame::lists::lines::push_line;
+use list_programs::lines::push_line;
 use std::alloc::{AllocError, Allocator};
 use std::fmt::InlineText;
 

@@ -1,20 +1,20 @@
 //! Runs over paths that are given as arguments: they are one list in memory.
 ghost use Rattle.std.specs.Prelude.{◌≡◌, ◌≢◌, ◌↔◌, Err, true, false, IfOk};
-ghost use Rattle.program_frame.specs.Arguments.{operands_of};
+ghost use Rattle.list_programs.specs.Arguments.{operands_of};
 ghost use Rattle.program_frame.specs.Marked.{marked_inner, has_failed};
 ghost use Rattle.program_frame.specs.declared.fault.Failure.{Failure};
-ghost use Rattle.program_frame.specs.declared.lists.fault.ListFault.TheVariants.{Run};
-ghost use Rattle.program_frame.specs.declared.lists.program_fault.Fault.TheVariants.{List as OfList};
+ghost use Rattle.list_programs.specs.declared.fault.ListFault.TheVariants.{Run};
+ghost use Rattle.list_programs.specs.declared.program_fault.Fault.TheVariants.{List as OfList};
 ghost use Rattle.paths_commands.specs.Program.{IsInMemory, RunsGiven, list_text};
 
 use crate::command::{LONGEST_PATH, Line};
 use crate::fault::Fault;
 use crate::program::run_task;
 use crate::task::Task;
-use program_frame::arguments::Given;
+use list_programs::arguments::Given;
 use program_frame::fault::Failure;
-use program_frame::lists::fault::ListFault;
-use program_frame::lists::options::{ItemEnd, ListOptions};
+use list_programs::fault::ListFault;
+use list_programs::options::{ItemEnd, ListOptions};
 use program_frame::marked::Marked;
 use program_frame::os::Os;
 use std::alloc::{AllocError, Allocator};

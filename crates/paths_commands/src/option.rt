@@ -6,7 +6,7 @@ ghost use Rattle.paths_commands.specs.declared.option.PathsOption.{PathsOption};
 
 use os_args::Word;
 use os_str_bytes::{OsStr, Wasm};
-use program_frame::arguments::ProgramOption;
+use list_programs::arguments::ProgramOption;
 
 /// An option of the program.
 #[derive(Clone, Copy, PartialEq, Eq)]

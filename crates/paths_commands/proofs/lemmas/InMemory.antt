@@ -1,16 +1,16 @@
 -- The result of a run over a list in memory.
 use Rattle.std.proofs.Common.{◌≡◌, ◌∙◌, inl, inr, ℕ, List, [], ◌∷◌, ◌++◌, Option, Result, Ok, Err, refl, sym, ap, subst, append_assoc}
 use Rattle.std.specs.Prelude.{Bool, true, false, ⊤, IsOk}
-use Rattle.program_frame.specs.ListRun.{IsRun, Runs, WritesUpTo, answer_of}
-use Rattle.program_frame.specs.Rules.{ListRules, passing}
+use Rattle.list_programs.specs.ListRun.{IsRun, Runs, WritesUpTo, answer_of}
+use Rattle.list_programs.specs.Rules.{ListRules, passing}
 use Rattle.program_frame.specs.declared.fault.Failure.TheVariants.{Memory, Read, Write}
-use Rattle.program_frame.specs.declared.lists.fault.ListFault.{ListFault}
-use Rattle.program_frame.specs.declared.lists.fault.ListFault.TheVariants.{Run}
-use Rattle.program_frame.specs.declared.lists.options.ItemEnd.{ItemEnd}
-use Rattle.program_frame.specs.declared.lists.options.ListOptions.{ListOptions}
-use Rattle.program_frame.specs.declared.lists.program_fault.Fault.TheVariants.{List as OfList, Words}
+use Rattle.list_programs.specs.declared.fault.ListFault.{ListFault}
+use Rattle.list_programs.specs.declared.fault.ListFault.TheVariants.{Run}
+use Rattle.list_programs.specs.declared.options.ItemEnd.{ItemEnd}
+use Rattle.list_programs.specs.declared.options.ListOptions.{ListOptions}
+use Rattle.list_programs.specs.declared.program_fault.Fault.TheVariants.{List as OfList, Words}
 use Rattle.program_frame.specs.declared.os.Os.{Os}
-use Rattle.program_frame.proofs.lemmas.lists.Runs.{no_err}
+use Rattle.list_programs.proofs.lemmas.Runs.{no_err}
 use Rattle.paths_commands.specs.Program.{Fault, IsAfter, IsInMemory, RunsPast, RunsTask, rules_on}
 use Rattle.paths_commands.specs.declared.fault.CommandFault.{CommandFault}
 use Rattle.paths_commands.specs.declared.fault.Rejection.{Rejection}

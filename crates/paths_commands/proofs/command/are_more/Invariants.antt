@@ -1,5 +1,5 @@
 use Rattle.std.proofs.Common.{◌≡◌, ◌+◌, length}
-use Rattle.program_frame.specs.Arguments.{operands_of}
+use Rattle.list_programs.specs.Arguments.{operands_of}
 use Rattle.paths_commands.proofs.command.are_more.Given as goal
 
 -- as many operands have been passed as there is less room

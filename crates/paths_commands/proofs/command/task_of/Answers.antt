@@ -1,6 +1,6 @@
 use Rattle.std.proofs.Common.{rules, ◌≡◌, ◌∷◌, [], refl}
 use Rattle.std.specs.Prelude.{false}
-use Rattle.program_frame.specs.Arguments.{HasOption, operands_of}
+use Rattle.list_programs.specs.Arguments.{HasOption, operands_of}
 use Rattle.paths_commands.specs.declared.option.PathsOption.TheVariants.{Checked}
 use Rattle.paths_commands.proofs.lemmas.Found.{task_found, unchecked_by}
 use Rattle.paths_commands.proofs.lemmas.Surplus.{surplus_first, surplus_second}

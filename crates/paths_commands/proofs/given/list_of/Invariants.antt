@@ -1,5 +1,5 @@
 use Rattle.std.proofs.Common.{◌≡◌, ◌++◌, length}
-use Rattle.program_frame.specs.Arguments.{operands_of}
+use Rattle.list_programs.specs.Arguments.{operands_of}
 use Rattle.paths_commands.specs.Program.{list_text}
 use Rattle.paths_commands.proofs.given.list_of.Given as goal
 
