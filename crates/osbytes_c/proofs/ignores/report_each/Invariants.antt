@@ -3,7 +3,7 @@ use Rattle.os_ignore.specs.Ignores.{files_of}
 use Rattle.osbytes_c.specs.declared.ignores.Report.{Report}
 use Rattle.osbytes_c.specs.Ignores.{ArePathsReported, IsReportTruncated}
 use Rattle.osbytes_c.specs.ItemLists.{items_of}
-use Rattle.osbytes_c.proofs.ignores.report.Given as goal
+use Rattle.osbytes_c.proofs.ignores.report_each.Given as goal
 
 -- what is reported so far is of the first items
 abbrev pub invariant-loop-path : goal.invariant-loop-path

@@ -3,7 +3,7 @@ use Rattle.os_ignore.specs.Ignores.{files_of}
 use Rattle.osbytes_c.specs.Ignores.{IsPathReported}
 use Rattle.osbytes_c.proofs.lemmas.Ignores.{one_more_path}
 use Rattle.osbytes_c.proofs.lemmas.ItemLists.{one_more_item}
-use Rattle.osbytes_c.proofs.ignores.report.Goals as goal
+use Rattle.osbytes_c.proofs.ignores.report_each.Goals as goal
 
 pub loop-path-preserved : goal.loop-path-preserved
 loop-path-preserved c =
