@@ -4,11 +4,11 @@
 //! states what is done.
 #![tactic(auto)]
 
+use list_programs::program::execute;
 use names_commands::fault::Fault;
 use names_commands::program::Names;
 use program_frame::ended::Ended;
 use program_frame::files::Disk;
-use program_frame::lists::program::execute;
 use program_frame::marked::Marked;
 use std::env;
 

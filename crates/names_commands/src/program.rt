@@ -1,7 +1,7 @@
 //! The whole program, over ends of any kind.
 ghost use Rattle.std.specs.Prelude.{◌≡◌, false};
 ghost use Rattle.program_frame.specs.Marked.{has_failed};
-ghost use Rattle.program_frame.specs.ProgramFault.{BlamesEnds};
+ghost use Rattle.list_programs.specs.ProgramFault.{BlamesEnds};
 ghost use Rattle.names_commands.specs.Command.{requested_of};
 ghost use Rattle.names_commands.specs.Program.{Did, Does, DoesWork, RunsLine, UnlessOutOfMemory};
 
@@ -12,21 +12,21 @@ use crate::option::NamesOption;
 use crate::patterns::run_picked;
 use crate::reasons::run_why;
 use crate::task::{OnPlatform, Settings};
+use list_programs::answers::{run_list, write_help};
+use list_programs::arguments::{ReadFault, read_arguments};
+use list_programs::fault::ListFault;
+use list_programs::misuse::Misuse;
+use list_programs::program::ListProgram;
 use os_str_bytes::{Platform, Unix, Wasm, Windows};
-use program_frame::arguments::{ReadFault, read_arguments};
 use program_frame::fault::Failure;
 use program_frame::files::Files;
-use program_frame::lists::answers::{run_list, write_help};
-use program_frame::lists::fault::ListFault;
-use program_frame::lists::program::ListProgram;
 use program_frame::marked::Marked;
-use program_frame::misuse::Misuse;
 use program_frame::os::Os;
 use std::alloc::Allocator;
 use std::io::{Read, Write};
 
 /// The program `names`: its words are those of a request ([`Request::parse`]).
-/// [`program_frame::lists::program::execute`] runs it.
+/// [`list_programs::program::execute`] runs it.
 #[derive(Drop)]
 pub struct Names<F> {
     files: F,
@@ -41,7 +41,7 @@ impl<F: Files> Names<F> {
     /// use names_commands::fault::{CommandFault, Fault};
     /// use names_commands::program::Names;
     /// use program_frame::files::Disk;
-    /// use program_frame::lists::program::ListProgram;
+    /// use list_programs::program::ListProgram;
     /// use program_frame::marked::Marked;
     ///
     /// let mut taken = Vec::new(alloc);

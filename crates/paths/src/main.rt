@@ -3,10 +3,10 @@
 //! It passes its arguments and its three streams to [`execute`], whose contract states what is done.
 #![tactic(auto)]
 
+use list_programs::program::execute;
 use paths_commands::fault::Fault;
 use paths_commands::program::Paths;
 use program_frame::ended::Ended;
-use program_frame::lists::program::execute;
 use program_frame::marked::Marked;
 use std::env;
 

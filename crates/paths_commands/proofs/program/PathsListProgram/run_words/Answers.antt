@@ -1,8 +1,8 @@
 use Rattle.std.proofs.Common.{◌≡◌, rules, map, refl, sym, subst}
 use Rattle.std.specs.Prelude.{string_bytes}
 use Rattle.os_args.specs.Views.{fault_of}
-use Rattle.program_frame.specs.Arguments.{AreGiven, HasFault}
-use Rattle.program_frame.specs.declared.misuse.Misuse.TheVariants.{Argument}
+use Rattle.list_programs.specs.Arguments.{AreGiven, HasFault}
+use Rattle.list_programs.specs.declared.misuse.Misuse.TheVariants.{Argument}
 use Rattle.paths_commands.specs.Fault.{IsOfMisuse}
 use Rattle.paths_commands.specs.Options.{has_value, spelled}
 use Rattle.paths_commands.proofs.lemmas.Requests.{fault_ends, line_runs}
