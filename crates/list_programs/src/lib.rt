@@ -6,9 +6,9 @@
 //! A [`task::ListTask`] defines what is done with each item. [`run::run`] reads the list and writes
 //! the output for its items. If it ends early, a [`fault::ListFault`] states why and, for a fault
 //! of an item, the item's number. [`options::ListOptions`] states which byte ends an item and whether
-//! the last may lack it. [`rejections`] has what becomes of rejected items. A program for
-//! lists is a [`program::ListProgram`], which [`program::execute`] runs. [`answers`] has the calls
-//! that make its outcome.
+//! the last may lack it. [`rejections`] has what becomes of rejected items. [`answers`] has the calls
+//! that make the outcome of a program for lists, and [`program_fault::Fault`] is what keeps it from
+//! its output.
 #![tactic(auto)]
 
 pub mod answers;
@@ -18,7 +18,6 @@ pub mod items;
 pub mod lines;
 pub mod misuse;
 pub mod options;
-pub mod program;
 pub mod program_fault;
 mod reading;
 pub mod rejections;

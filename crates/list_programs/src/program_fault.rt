@@ -9,25 +9,11 @@ use std::fmt::Display as _;
 
 /// Why a program's arguments are rejected.
 pub trait WordsRejection: Copy {
-    // they request no command
-    ghost usage: { Self };
-
     // what the program prints of the reason
     ghost text_of: { Self → List ℕ };
 
     // the status that the program ends with
     ghost status_of: { Self → ℕ };
-
-    /// The rejection of arguments that name no command.
-    ///
-    /// ```
-    /// use paths_commands::fault::CommandFault;
-    /// use list_programs::program_fault::WordsRejection;
-    ///
-    /// assert!(rt; matches!(CommandFault::usage(), CommandFault::Unreadable));
-    /// ```
-    fn usage() -> Self
-        ensures { result ≡ usage };
 
     /// The status that the program ends with.
     ///

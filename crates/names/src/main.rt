@@ -4,12 +4,12 @@
 //! states what is done.
 #![tactic(auto)]
 
-use list_programs::program::execute;
 use names_commands::fault::Fault;
 use names_commands::program::Names;
 use program_frame::ended::Ended;
 use program_frame::files::Disk;
 use program_frame::marked::Marked;
+use program_frame::program::execute;
 use std::env;
 
 fn main(rt: HostRuntime) -> Ended<Fault> {

@@ -107,17 +107,10 @@ impl ItemRejection for Rejection {
 
 impl WordsRejection for CommandFault {
     ghost use Rattle.names_commands.specs.Fault.{words_status, words_text};
-    ghost use Rattle.names_commands.specs.declared.fault.CommandFault.{CommandFault};
-
-    ghost usage = { CommandFault.Unreadable };
 
     ghost text_of = { words_text };
 
     ghost status_of = { words_status };
-
-    fn usage() -> CommandFault {
-        CommandFault::Unreadable
-    }
 
     fn status(&self) -> u8 {
         match self {

@@ -3,11 +3,11 @@
 //! It passes its arguments and its three streams to [`execute`], whose contract states what is done.
 #![tactic(auto)]
 
-use list_programs::program::execute;
 use paths_commands::fault::Fault;
 use paths_commands::program::Paths;
 use program_frame::ended::Ended;
 use program_frame::marked::Marked;
+use program_frame::program::execute;
 use std::env;
 
 fn main(rt: HostRuntime) -> Ended<Fault> {

@@ -186,17 +186,10 @@ fn write_quoted<W: fmt::Write>(text: &str, f: &mut fmt::Formatter<W>) -> fmt::Re
 
 impl WordsRejection for CommandFault {
     ghost use Rattle.paths_commands.specs.Fault.{words_status, words_text};
-    ghost use Rattle.paths_commands.specs.declared.fault.CommandFault.{CommandFault};
-
-    ghost usage = { CommandFault.Unreadable };
 
     ghost text_of = { words_text };
 
     ghost status_of = { words_status };
-
-    fn usage() -> CommandFault {
-        CommandFault::Unreadable
-    }
 
     fn status(&self) -> u8 {
         match self {

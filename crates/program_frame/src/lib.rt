@@ -18,6 +18,7 @@ pub mod files;
 pub mod input;
 pub mod marked;
 pub mod os;
+pub mod program;
 pub mod reporting;
 pub mod words;
 pub mod writing;

@@ -7,13 +7,13 @@ ghost use Rattle.program_frame.specs.Marked.{marked_inner, has_failed};
 ghost use Rattle.program_frame.specs.Words.{words_after_name};
 ghost use Rattle.test_command_uses.specs.OneFile.{explaining, filtering, IsExplainedBy, IsFilteredBy, IsUnread};
 
-use list_programs::program::execute;
 use names_commands::fault::Fault;
 use names_commands::program::Names;
 use os_args::laws::one_outcome;
 use program_frame::ends::{Messages, Output};
 use program_frame::files::{FileFault, Files};
 use program_frame::marked::Marked;
+use program_frame::program::execute;
 use std::alloc::Allocator;
 use std::env::Args;
 use std::io::{Eprint, Read};
