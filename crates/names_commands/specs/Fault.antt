@@ -3,8 +3,8 @@ use Rattle.std.specs.Prelude.{ℕ, List, ◌++◌, codes, decimal}
 use Rattle.glob_patterns.specs.ErrorText as glob
 use Rattle.std.specs.Fmt.Cut.{IsTextOrCut}
 use Rattle.std.specs.Fmt.InlineText.{inline_text}
-use Rattle.program_frame.specs.Misuse.{misuse_text}
-use Rattle.program_frame.specs.declared.misuse.Misuse as misuse
+use Rattle.list_programs.specs.Misuse.{misuse_text}
+use Rattle.list_programs.specs.declared.misuse.Misuse as misuse
 use Rattle.glob_patterns.specs.declared.set_error.GlobSetError.TheVariants as set_error
 use Rattle.os_command_line.specs.ErrorText as words
 use Rattle.os_quote.specs.ErrorText.{error_text}

@@ -11,10 +11,10 @@ use Rattle.os_args.specs.declared.error.ArgumentError.{ArgumentError}
 use Rattle.os_str_bytes.specs.Wasm.{Wasm}
 use Rattle.os_str_bytes.specs.WasmPlatform.TheImpl as wasm
 use Rattle.platform_str.specs.declared.os_str.OsStr.{OsStr}
-use Rattle.program_frame.specs.Arguments.{AreGiven, HasFault}
+use Rattle.list_programs.specs.Arguments.{AreGiven, HasFault}
 use Rattle.program_frame.specs.Files.{KnownFiles}
-use Rattle.program_frame.specs.declared.misuse.Misuse as misuse
-use Rattle.program_frame.specs.declared.misuse.Misuse.TheVariants.{Argument}
+use Rattle.list_programs.specs.declared.misuse.Misuse as misuse
+use Rattle.list_programs.specs.declared.misuse.Misuse.TheVariants.{Argument}
 use Rattle.names_commands.specs.Fault.{IsOfMisuse}
 use Rattle.names_commands.specs.Options.{has_value, spelled}
 use Rattle.program_frame.specs.Marked.{marked_inner}
@@ -22,16 +22,16 @@ use Rattle.program_frame.specs.declared.marked.Marked.{Marked}
 use Rattle.program_frame.specs.Strings.{strings}
 use Rattle.program_frame.specs.declared.os.Os.{Os}
 use Rattle.program_frame.specs.Written.{WritesText}
-use Rattle.program_frame.specs.ListRun.{Runs}
+use Rattle.list_programs.specs.ListRun.{Runs}
 use Rattle.program_frame.specs.declared.fault.Failure.TheVariants.{Memory, Write}
-use Rattle.program_frame.specs.declared.lists.fault.ListFault.TheVariants.{Run}
-use Rattle.program_frame.specs.declared.lists.options.ListOptions.{ListOptions}
+use Rattle.list_programs.specs.declared.fault.ListFault.TheVariants.{Run}
+use Rattle.list_programs.specs.declared.options.ListOptions.{ListOptions}
 use Rattle.names_commands.specs.declared.command.Command.{Command}
 use Rattle.names_commands.specs.declared.command.Command.TheVariants.{Help, Version, On}
 use Rattle.names_commands.specs.declared.command.Work.{Work}
 use Rattle.names_commands.specs.declared.command.Work.TheVariants.{Each, Picked, Why}
-use Rattle.program_frame.specs.declared.lists.program_fault.Fault as program_fault
-use Rattle.program_frame.specs.declared.lists.program_fault.Fault.TheVariants.{List as OfList, Words}
+use Rattle.list_programs.specs.declared.program_fault.Fault as program_fault
+use Rattle.list_programs.specs.declared.program_fault.Fault.TheVariants.{List as OfList, Words}
 use Rattle.names_commands.specs.declared.fault.Rejection.{Rejection}
 use Rattle.names_commands.specs.declared.fault.CommandFault.{CommandFault}
 use Rattle.names_commands.specs.declared.fault.CommandFault.TheVariants.{Unreadable, Misuse, Pattern, NoFile, Unread}

@@ -5,13 +5,13 @@ ghost use Rattle.std.specs.Fmt.InlineText.{inline_text};
 ghost use Rattle.names_commands.specs.Fault.{IsOfMisuse};
 
 use glob_patterns::{GlobSetError, PatternFault};
+use list_programs::fault::ItemRejection;
+use list_programs::misuse::Misuse;
+use list_programs::program_fault;
+use list_programs::program_fault::WordsRejection;
 use os_command_line::shell::WordsFault;
 use os_quote::QuoteError;
 use os_str_bytes::{EncodingError, write_number};
-use program_frame::lists::fault::ItemRejection;
-use program_frame::lists::program_fault;
-use program_frame::lists::program_fault::WordsRejection;
-use program_frame::misuse::Misuse;
 use std::fmt;
 use std::fmt::{Display as _, InlineText};
 
@@ -61,7 +61,7 @@ impl CommandFault {
     ///
     /// ```
     /// use names_commands::fault::{CommandFault, Fault};
-    /// use program_frame::misuse::Misuse;
+    /// use list_programs::misuse::Misuse;
     ///
     /// let fault: Fault = Fault::Words(CommandFault::of(Misuse::Invalid("platform", "linux")));
     /// let text = "invalid platform 'linux'; names --help lists the commands";
@@ -107,17 +107,10 @@ impl ItemRejection for Rejection {
 
 impl WordsRejection for CommandFault {
     ghost use Rattle.names_commands.specs.Fault.{words_status, words_text};
-    ghost use Rattle.names_commands.specs.declared.fault.CommandFault.{CommandFault};
-
-    ghost usage = { CommandFault.Unreadable };
 
     ghost text_of = { words_text };
 
     ghost status_of = { words_status };
-
-    fn usage() -> CommandFault {
-        CommandFault::Unreadable
-    }
 
     fn status(&self) -> u8 {
         match self {

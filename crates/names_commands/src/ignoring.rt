@@ -5,17 +5,17 @@ ghost use Rattle.os_ignore.specs.Walks.{files_of_walk};
 ghost use Rattle.names_commands.specs.Ignoring.{AreRead, IsDirectory, IsFileIn, IsIgnored, IsPath, text_of, without_dot};
 ghost use Rattle.names_commands.specs.Why.{IsDecided, numbers_of};
 ghost use Rattle.program_frame.specs.declared.fault.Failure.TheVariants.{Memory};
-ghost use Rattle.program_frame.specs.declared.lists.fault.ListFault.TheVariants.{Run};
-ghost use Rattle.program_frame.specs.declared.lists.program_fault.Fault.TheVariants.{List as OfList, Words};
+ghost use Rattle.list_programs.specs.declared.fault.ListFault.TheVariants.{Run};
+ghost use Rattle.list_programs.specs.declared.program_fault.Fault.TheVariants.{List as OfList, Words};
 ghost use Rattle.names_commands.specs.Program.{IsFaultOf, IsFaultOfOne};
 ghost use Rattle.names_commands.specs.declared.fault.CommandFault.TheVariants.{NoFile, Unread};
 
 use crate::fault::{CommandFault, Fault};
+use list_programs::fault::ListFault;
+use list_programs::items::split_at_end;
 use os_ignore::{Ignore, IgnoreOptions, Verdict, Walk};
 use program_frame::fault::Failure;
 use program_frame::files::{FileFault, Files};
-use program_frame::lists::fault::ListFault;
-use program_frame::lists::items::split_at_end;
 use std::alloc::{AllocError, Allocator};
 
 /// The name without one `./` before it.

@@ -3,12 +3,12 @@ use Rattle.std.specs.Prelude.{◌≡◌, ◌≢◌, ◌↔◌, ◌⊎◌, ℕ, B
 use Rattle.os_args.specs.Reading.{UnexpectedArgument}
 use Rattle.os_args.specs.Views.{fault_of}
 use Rattle.os_args.specs.Word.{Value}
-use Rattle.program_frame.specs.Arguments.{AreGiven, HasOption, operands_of}
-use Rattle.program_frame.specs.ListOptions.{AreStated}
+use Rattle.list_programs.specs.Arguments.{AreGiven, HasOption, operands_of}
+use Rattle.list_programs.specs.ListOptions.{AreStated}
 use Rattle.program_frame.specs.Os.{os_word}
-use Rattle.program_frame.specs.declared.arguments.Given.{Given}
-use Rattle.program_frame.specs.declared.misuse.Misuse.{Misuse}
-use Rattle.program_frame.specs.declared.misuse.Misuse.TheVariants.{Argument, Missing, Invalid, Misplaced}
+use Rattle.list_programs.specs.declared.arguments.Given.{Given}
+use Rattle.list_programs.specs.declared.misuse.Misuse.{Misuse}
+use Rattle.list_programs.specs.declared.misuse.Misuse.TheVariants.{Argument, Missing, Invalid, Misplaced}
 use Rattle.program_frame.specs.declared.os.Os.{Os}
 use Rattle.path_building.specs.BaseViews.{base_style}
 use Rattle.path_building.specs.Faults.{IsBaseFault}

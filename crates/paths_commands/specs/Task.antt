@@ -27,14 +27,14 @@ use Rattle.path_rules.specs.StyleRules.{main_separator}
 use Rattle.os_path.specs.Names.{HasFileStem, HasExtension, LacksExtension}
 use Rattle.os_path.specs.Converted.{IsConvertFault}
 use Rattle.os_path.specs.declared.styles.ConvertError.TheVariants as convert
-use Rattle.program_frame.specs.Items.{Lacks}
-use Rattle.program_frame.specs.ListOptions.{MayLack, byte_of}
+use Rattle.list_programs.specs.Items.{Lacks}
+use Rattle.list_programs.specs.ListOptions.{MayLack, byte_of}
 use Rattle.program_frame.specs.Os.{os_word}
 use Rattle.program_frame.specs.Strings.{strings}
-use Rattle.program_frame.specs.declared.lists.options.ItemEnd.{ItemEnd}
-use Rattle.program_frame.specs.declared.lists.options.ListOptions.{ListOptions}
+use Rattle.list_programs.specs.declared.options.ItemEnd.{ItemEnd}
+use Rattle.list_programs.specs.declared.options.ListOptions.{ListOptions}
 use Rattle.program_frame.specs.declared.os.Os.{Os}
-use Rattle.program_frame.specs.Rules.{ListRules}
+use Rattle.list_programs.specs.Rules.{ListRules}
 use Rattle.paths_commands.specs.Styles.{style_of}
 use Rattle.paths_commands.specs.declared.fault.Rejection.{Rejection}
 use Rattle.paths_commands.specs.declared.fault.Rejection.TheVariants as rejection

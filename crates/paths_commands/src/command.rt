@@ -1,7 +1,7 @@
 //! Commands, and the options and operands that make them up.
 ghost use Rattle.std.specs.Prelude.{◌≡◌, ◌≢◌, ◌↔◌, ◌∷◌, [], true, false, IfErr, IfOk, MatchOption, OnErr};
-ghost use Rattle.program_frame.specs.Arguments.{HasOption, operands_of};
-ghost use Rattle.program_frame.specs.ListOptions.{AreStated};
+ghost use Rattle.list_programs.specs.Arguments.{HasOption, operands_of};
+ghost use Rattle.list_programs.specs.ListOptions.{AreStated};
 ghost use Rattle.paths_commands.specs.Command.{IsRequestFor, HasOperands, HasStyle, base_word, IsMisuse, IsOfPaths, IsSurplus, IsTaskOf, RequestsNothing, longest_path};
 ghost use Rattle.path_rules.specs.Root.{IsAbsolute};
 ghost use Rattle.paths_commands.specs.Styles.{style_of};
@@ -12,14 +12,14 @@ ghost use Rattle.paths_commands.specs.declared.option.PathsOption.TheVariants.{C
 
 use crate::option::PathsOption;
 use crate::task::Task;
+use list_programs::arguments::{Given, has, next_operand};
+use list_programs::misuse::Misuse;
+use list_programs::options::ListOptions;
 use os_args::Word;
 use os_path::Style;
 use os_str_bytes::OsStr;
 use path_building::{Base, BaseError};
 use path_rules::is_absolute;
-use program_frame::arguments::{Given, has, next_operand};
-use program_frame::lists::options::ListOptions;
-use program_frame::misuse::Misuse;
 use program_frame::os::Os;
 
 /// How many bytes a path may have.
@@ -58,8 +58,8 @@ impl<'a> Command<'a> {
     /// use paths_commands::command::Command;
     /// use paths_commands::option::PathsOption;
     /// use paths_commands::task::Task;
-    /// use program_frame::arguments::Given;
-    /// use program_frame::lists::options::ListOptions;
+    /// use list_programs::arguments::Given;
+    /// use list_programs::options::ListOptions;
     /// use program_frame::os::Os;
     ///
     /// let going = Given::Flag(PathsOption::KeepGoing);

@@ -1,6 +1,6 @@
 //! What is written for one path.
 ghost use Rattle.std.specs.Prelude.{◌≡◌, ◌≢◌, ◌⊎◌, ◌∷◌, ◌++◌, ◌≤◌, [], ℕ, List, Some, None, OnOk, OnErr, IfOk, IfErr, drop, length, take};
-ghost use Rattle.program_frame.specs.declared.lists.fault.ItemFault.TheVariants.{Rejected, Memory};
+ghost use Rattle.list_programs.specs.declared.fault.ItemFault.TheVariants.{Rejected, Memory};
 ghost use Rattle.path_building.specs.Cleaned.{IsCleaned};
 ghost use Rattle.path_building.specs.FullPath.{IsFullPath, IsAbsoluteFault};
 ghost use Rattle.path_building.specs.Join.{IsJoin};
@@ -13,9 +13,9 @@ ghost use Rattle.path_building.specs.declared.walk.NameError.TheVariants as name
 ghost use Rattle.path_building.specs.BaseViews.{base_path, base_style};
 ghost use Rattle.paths_commands.specs.declared.fault.Rejection as why;
 ghost use Rattle.paths_commands.specs.declared.fault.Rejection.TheVariants.{NoNormalForm, NoRelativePath, NoAbsolutePath, ResultHas};
-ghost use Rattle.program_frame.specs.Items.{Lacks};
-ghost use Rattle.program_frame.specs.ListOptions.{byte_of};
-ghost use Rattle.program_frame.specs.Rules.{IsItemFault};
+ghost use Rattle.list_programs.specs.Items.{Lacks};
+ghost use Rattle.list_programs.specs.ListOptions.{byte_of};
+ghost use Rattle.list_programs.specs.Rules.{IsItemFault};
 ghost use Rattle.program_frame.specs.Strings.{strings};
 ghost use Rattle.paths_commands.specs.Styles.{style_of};
 ghost use Rattle.paths_commands.specs.Task.{component_of, rules_of, IsText, IsPathText, IsComponentsText, IsJoinedBelow, IsMade, IsReasonOf, IsRejection, IsUnanswered, IsUnconverted, IsUnjoined, way_text};
@@ -25,17 +25,17 @@ use crate::answers::{parent, part};
 use crate::components::{push_components, shown_component};
 use crate::fault::Rejection;
 use crate::task::Task;
+use list_programs::fault::ItemFault;
+use list_programs::items::split_at_end;
+use list_programs::options::{ItemEnd, ListOptions};
 use os_path::{AbsoluteError, ConvertError, NameError, NormalizeError, PathExt, PathStyle};
 use os_str_bytes::{OsStr, Path, Platform, Unix, Wasm, Windows};
 use path_building::Base;
-use program_frame::lists::fault::ItemFault;
-use program_frame::lists::items::split_at_end;
-use program_frame::lists::options::{ItemEnd, ListOptions};
 use program_frame::os::Os;
 use std::alloc::{AllocError, Allocator};
 
 /// Appends what is written for a path.
-#[tactic(auto, using(program_frame::proofs::lemmas::lists::Items::has_end))]
+#[tactic(auto, using(list_programs::proofs::lemmas::Items::has_end))]
 pub fn write_item<E: PathStyle, A: Allocator + Copy>(
     alloc: A,
     task: Task<'_>,
@@ -88,7 +88,7 @@ fn write_path<E: PathStyle, A: Allocator + Copy>(
 
 /// Ends what is in the output from an index on, where that lacks the byte that ends it. Otherwise
 /// takes it away.
-#[tactic(auto, using(program_frame::proofs::lemmas::lists::Items::has_end))]
+#[tactic(auto, using(list_programs::proofs::lemmas::Items::has_end))]
 fn end_result<A: Allocator>(
     start: usize,
     end: ItemEnd,

@@ -1,10 +1,10 @@
 //! The whole program, over ends of any kind.
 ghost use Rattle.std.specs.Prelude.{◌≡◌, false, IfErr};
-ghost use Rattle.program_frame.specs.ListRun.{Runs};
+ghost use Rattle.list_programs.specs.ListRun.{Runs};
 ghost use Rattle.program_frame.specs.Marked.{marked_inner, has_failed};
-ghost use Rattle.program_frame.specs.ProgramFault.{BlamesEnds, EndsRunOf};
-ghost use Rattle.program_frame.specs.Rules.{passing};
-ghost use Rattle.program_frame.specs.declared.lists.program_fault.Fault.TheVariants.{List as OfList};
+ghost use Rattle.list_programs.specs.ProgramFault.{BlamesEnds, EndsRunOf};
+ghost use Rattle.list_programs.specs.Rules.{passing};
+ghost use Rattle.list_programs.specs.declared.program_fault.Fault.TheVariants.{List as OfList};
 ghost use Rattle.paths_commands.specs.Program.{Does, IsAfter, RunsLine, RunsPast, rules_on};
 
 use crate::command::Command;
@@ -12,22 +12,22 @@ use crate::fault::{CommandFault, Fault, Rejection};
 use crate::help::{HELP, VERSION};
 use crate::option::PathsOption;
 use crate::task::{OnPlatform, Task};
+use list_programs::answers::{run_list_with, write_help};
+use list_programs::arguments::{Given, ReadFault, read_arguments};
+use list_programs::fault::ListFault;
+use list_programs::misuse::Misuse;
+use list_programs::options::ListOptions;
+use list_programs::rejections::{KeepGoing, Rejections, Stop};
 use os_str_bytes::{Unix, Wasm, Windows};
-use program_frame::arguments::{Given, ReadFault, read_arguments};
 use program_frame::fault::Failure;
-use program_frame::lists::answers::{run_list_with, write_help};
-use program_frame::lists::fault::ListFault;
-use program_frame::lists::options::ListOptions;
-use program_frame::lists::program::ListProgram;
-use program_frame::lists::rejections::{KeepGoing, Rejections, Stop};
 use program_frame::marked::Marked;
-use program_frame::misuse::Misuse;
 use program_frame::os::Os;
+use program_frame::program::Program;
 use std::alloc::Allocator;
 use std::io::{Eprint, Read, Write};
 
 /// The program `paths`: its arguments are those of a command ([`Command::parse`]).
-/// [`program_frame::lists::program::execute`] runs it.
+/// [`program_frame::program::execute`] runs it.
 #[derive(Drop)]
 pub struct Paths<'a, P> {
     errors: &'a P,
@@ -39,7 +39,7 @@ impl<'a, P: Eprint> Paths<'a, P> {
     /// ```
     /// use paths_commands::fault::{CommandFault, Fault};
     /// use paths_commands::program::Paths;
-    /// use program_frame::lists::program::ListProgram;
+    /// use program_frame::program::Program;
     /// use program_frame::marked::Marked;
     ///
     /// let mut taken = Vec::new(alloc);
@@ -52,20 +52,36 @@ impl<'a, P: Eprint> Paths<'a, P> {
     }
 }
 
-impl<'a, P: Eprint> ListProgram for Paths<'a, P> {
-    type Rejection = Rejection;
-
-    type Words = CommandFault;
+impl<'a, P: Eprint> Program for Paths<'a, P> {
+    type Fault = Fault;
 
     ghost use Rattle.std.specs.Prelude.{codes};
+    ghost use Rattle.list_programs.specs.ProgramFault.{DoneBetween};
+    ghost use Rattle.list_programs.specs.declared.program_fault.Fault.TheVariants.{List as OfList, Words};
+    ghost use Rattle.list_programs.specs.declared.fault.ListFault.TheVariants.{Run};
+    ghost use Rattle.program_frame.specs.declared.fault.Failure.TheVariants.{Memory};
     ghost use Rattle.paths_commands.specs.Program.{RunsTo};
+    ghost use Rattle.paths_commands.specs.declared.fault.CommandFault.TheVariants.{Unreadable};
 
     ghost name = { codes "paths" };
 
-    ghost runs_to = { λ _ _. RunsTo };
+    ghost unreadable = { Words Unreadable };
+
+    ghost out_of_memory = { OfList (Run Memory) };
+
+    ghost runs_to = { λ _ _ words R W remaining contents.
+        DoneBetween remaining contents (RunsTo words) };
 
     fn name() -> &'static str {
         "paths"
+    }
+
+    fn unreadable() -> Fault {
+        Fault::Words(CommandFault::Unreadable)
+    }
+
+    fn out_of_memory() -> Fault {
+        Fault::List(ListFault::Run(Failure::Memory))
     }
 
     fn run_words<A: Allocator + Copy, R: Read, W: Write>(

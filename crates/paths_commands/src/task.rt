@@ -4,12 +4,12 @@ ghost use Rattle.paths_commands.specs.Task.{rules_of};
 
 use crate::fault::Rejection;
 use crate::item::write_item;
+use list_programs::fault::ItemFault;
+use list_programs::options::{ItemEnd, ListOptions};
+use list_programs::task::ListTask;
 use os_path::PathStyle;
 use os_str_bytes::Platform;
 use path_building::Base;
-use program_frame::lists::fault::ItemFault;
-use program_frame::lists::options::{ItemEnd, ListOptions};
-use program_frame::lists::task::ListTask;
 use program_frame::os::Os;
 use std::alloc::Allocator;
 use std::marker::PhantomData;
@@ -64,7 +64,7 @@ impl<'a, E> OnPlatform<'a, E> {
     /// ```
     /// use os_str_bytes::Unix;
     /// use paths_commands::task::{OnPlatform, Task};
-    /// use program_frame::lists::options::ListOptions;
+    /// use list_programs::options::ListOptions;
     ///
     /// let list = ListOptions::new(255);
     /// assert_eq!(rt; OnPlatform::<Unix>::new(Task::Parent, list).list.max, 255);

@@ -10,9 +10,9 @@ use denote.Ref.{Bor}
 use Rattle.wtf8_core.specs.Occurrence.{IsPrefix, OccursNowhere}
 use Rattle.os_args.specs.Word.{Kind, Long, Value, dash, dashes, equals}
 use Rattle.os_args.specs.Reading.{Fault, Reading, StartsWithDashes, TakesWord, TakesValue, words_left}
-use Rattle.program_frame.specs.Arguments.{AreGiven, FailsAt, HasFault, IsOption, Takes, TakesAll}
-use Rattle.program_frame.specs.declared.arguments.Given.{Given}
-use Rattle.program_frame.specs.declared.arguments.Given.TheVariants.{Operand, Flag, Valued}
+use Rattle.list_programs.specs.Arguments.{AreGiven, FailsAt, HasFault, IsOption, Takes, TakesAll}
+use Rattle.list_programs.specs.declared.arguments.Given.{Given}
+use Rattle.list_programs.specs.declared.arguments.Given.TheVariants.{Operand, Flag, Valued}
 use Rattle.names_commands.specs.Command.{Line, name_word}
 use Rattle.names_commands.specs.Options.{has_value, name_of, spelled}
 use Rattle.names_commands.specs.declared.command.Name.{Name}

@@ -8,17 +8,17 @@ use Rattle.os_ignore.specs.Ignores.{IsAdded, IsFileAt, IsOnly}
 use Rattle.os_ignore.specs.declared.file.File.{File}
 use Rattle.program_frame.specs.Ended.{status_after}
 use Rattle.program_frame.specs.Files.{KnownFiles}
-use Rattle.program_frame.proofs.lemmas.lists.Items.{has_end}
-use Rattle.program_frame.specs.Items.{Lacks}
+use Rattle.list_programs.proofs.lemmas.Items.{has_end}
+use Rattle.list_programs.specs.Items.{Lacks}
 use Rattle.program_frame.specs.Os.{os_word}
-use Rattle.program_frame.specs.ListRun.{IsRun, answer_of}
-use Rattle.program_frame.specs.ProgramFault.{status_of}
+use Rattle.list_programs.specs.ListRun.{IsRun, answer_of}
+use Rattle.list_programs.specs.ProgramFault.{status_of}
 use Rattle.program_frame.specs.Strings.{strings}
 use Rattle.program_frame.specs.declared.fault.Failure.TheVariants.{Memory}
-use Rattle.program_frame.specs.declared.lists.fault.ListFault.{ListFault}
-use Rattle.program_frame.specs.declared.lists.fault.ListFault.TheVariants.{Run}
-use Rattle.program_frame.specs.declared.lists.program_fault.Fault.TheVariants.{List as OfList, Words}
-use Rattle.program_frame.specs.declared.lists.options.ListOptions.{ListOptions}
+use Rattle.list_programs.specs.declared.fault.ListFault.{ListFault}
+use Rattle.list_programs.specs.declared.fault.ListFault.TheVariants.{Run}
+use Rattle.list_programs.specs.declared.program_fault.Fault.TheVariants.{List as OfList, Words}
+use Rattle.list_programs.specs.declared.options.ListOptions.{ListOptions}
 use Rattle.program_frame.specs.declared.os.Os.{Os}
 use Rattle.program_frame.specs.declared.os.Os.TheVariants.{Unix, Windows, Wasm}
 use Rattle.names_commands.specs.Command.{Requested, IsRequestFor, HasOperands, IsListed, IsMax, Line, MakesUp, MakesUpWork, StatesPicks, name_word, options_of}
@@ -43,8 +43,8 @@ use Rattle.names_commands.specs.declared.task.Task.TheVariants.{ListAll, ListWor
 use Rattle.names_commands.specs.declared.option.NamesOption.{NamesOption}
 use Rattle.names_commands.specs.declared.option.NamesOption.TheVariants as option
 use Rattle.os_args.specs.Views.{fault_of}
-use Rattle.program_frame.specs.Arguments.{AreGiven, AreValues, HasOption, LastValue}
-use Rattle.program_frame.specs.declared.arguments.Given.TheVariants.{Operand, Valued}
+use Rattle.list_programs.specs.Arguments.{AreGiven, AreValues, HasOption, LastValue}
+use Rattle.list_programs.specs.declared.arguments.Given.TheVariants.{Operand, Valued}
 use Rattle.test_command_uses.specs.OneFile.{only, filtering, usual, IsFilteredBy, IsUnread}
 use Rattle.test_command_uses.proofs.GivenWords.{OneValue, OneWord, are_asking, no_fault_of}
 use Rattle.test_command_uses.proofs.KnownLists.{is_usual_list}

@@ -1,14 +1,14 @@
 -- Lists where no option states how they are written.
 use Rattle.std.proofs.Common.{◌≡◌, ◌⊎◌, ℕ, List, [], ◌∷◌, inl, inr, ap, ◌∙◌, Some, None}
 use denote.Ref.{Bor}
-use Rattle.program_frame.specs.Arguments.{HasOption, LastValue}
-use Rattle.program_frame.specs.ListOptions.{IsEnd, IsLast}
-use Rattle.program_frame.specs.declared.arguments.Given.TheVariants.{Operand}
-use Rattle.program_frame.specs.declared.lists.options.ItemEnd.{ItemEnd}
-use Rattle.program_frame.specs.declared.lists.options.ItemEnd.TheVariants.{Nul, Newline}
-use Rattle.program_frame.specs.declared.lists.options.LastItem.{LastItem}
-use Rattle.program_frame.specs.declared.lists.options.LastItem.TheVariants.{MustEnd, MayLackEnd}
-use Rattle.program_frame.specs.declared.lists.options.ListOptions.{ListOptions}
+use Rattle.list_programs.specs.Arguments.{HasOption, LastValue}
+use Rattle.list_programs.specs.ListOptions.{IsEnd, IsLast}
+use Rattle.list_programs.specs.declared.arguments.Given.TheVariants.{Operand}
+use Rattle.list_programs.specs.declared.options.ItemEnd.{ItemEnd}
+use Rattle.list_programs.specs.declared.options.ItemEnd.TheVariants.{Nul, Newline}
+use Rattle.list_programs.specs.declared.options.LastItem.{LastItem}
+use Rattle.list_programs.specs.declared.options.LastItem.TheVariants.{MustEnd, MayLackEnd}
+use Rattle.list_programs.specs.declared.options.ListOptions.{ListOptions}
 use Rattle.names_commands.specs.Command.{Requested, IsRequestFor, IsListed, IsMax, Line, MakesUp, StatesPicks}
 use Rattle.names_commands.specs.declared.command.Command.TheVariants.{Version}
 use Rattle.names_commands.specs.declared.option.NamesOption.{NamesOption}

@@ -6,8 +6,8 @@ use Rattle.os_quote.specs.Escape.{IsLineEscape}
 use Rattle.os_str_bytes.specs.EncodingError.{EncodingError}
 use Rattle.os_str_bytes.specs.Platform.{Ghosts}
 use Rattle.program_frame.specs.declared.fault.Failure.TheVariants.{Write}
-use Rattle.program_frame.specs.declared.lists.fault.ListFault.{ListFault}
-use Rattle.program_frame.specs.declared.lists.fault.ListFault.TheVariants.{Rejected, Run, Unended}
+use Rattle.list_programs.specs.declared.fault.ListFault.{ListFault}
+use Rattle.list_programs.specs.declared.fault.ListFault.TheVariants.{Rejected, Run, Unended}
 use Rattle.names_commands.specs.declared.fault.Rejection.{Rejection}
 use Rattle.names_commands.specs.declared.fault.Rejection.TheVariants.{NoString}
 use Rattle.names_commands.specs.declared.task.EmptyLine.TheVariants.{IsRejected}
@@ -17,16 +17,16 @@ use Rattle.names_commands.specs.declared.matching.Form.TheVariants.{Name}
 use Rattle.names_commands.specs.Matching.{picking}
 use Rattle.names_commands.specs.declared.task.Settings.{Settings}
 use Rattle.names_commands.specs.Back.{listing}
-use Rattle.program_frame.specs.Items.{Entry, Lacks, items_of, texts_of}
-use Rattle.program_frame.specs.ListOptions.{byte_of}
-use Rattle.program_frame.specs.declared.lists.options.ItemEnd.{ItemEnd}
+use Rattle.list_programs.specs.Items.{Entry, Lacks, items_of, texts_of}
+use Rattle.list_programs.specs.ListOptions.{byte_of}
+use Rattle.list_programs.specs.declared.options.ItemEnd.{ItemEnd}
 use Rattle.test_command_uses.specs.OneFile.{unended, usual}
-use Rattle.program_frame.specs.Rules.{ListRules, AreIn, IsEntry}
+use Rattle.list_programs.specs.Rules.{ListRules, AreIn, IsEntry}
 use Rattle.names_commands.specs.Task.{rules_of, with_limit}
 use Rattle.names_commands.specs.Words.{AreNamesOf}
 use Rattle.os_command_line.specs.ShellWriting.{quoted_word}
-use Rattle.program_frame.specs.Reading.{Stops}
-use Rattle.program_frame.specs.ListRun.{IsOutput, start}
+use Rattle.list_programs.specs.Reading.{Stops}
+use Rattle.list_programs.specs.ListRun.{IsOutput, start}
 
 pub has_end : (end : ℕ) (prefix after : List ℕ) → ¬ (Lacks end (prefix ++ end ∷ after))
 has_end end [] after l = l.0 refl

@@ -4,14 +4,14 @@ use Rattle.std.specs.List.{AllByRecursion}
 use Rattle.path_building.specs.declared.base.Base.{Base}
 use Rattle.os_str_bytes.specs.Platform.{Ghosts}
 use Rattle.path_rules.specs.declared.rules.Style.{Style}
-use Rattle.program_frame.specs.Items.{Entry, Lacks, items_of, texts_of}
-use Rattle.program_frame.specs.ListOptions.{byte_of}
-use Rattle.program_frame.specs.ListRun.{IsOutput, start}
-use Rattle.program_frame.specs.Reading.{Stops}
-use Rattle.program_frame.specs.Rules.{IsEntry}
+use Rattle.list_programs.specs.Items.{Entry, Lacks, items_of, texts_of}
+use Rattle.list_programs.specs.ListOptions.{byte_of}
+use Rattle.list_programs.specs.ListRun.{IsOutput, start}
+use Rattle.list_programs.specs.Reading.{Stops}
+use Rattle.list_programs.specs.Rules.{IsEntry}
 use Rattle.program_frame.specs.declared.fault.Failure.TheVariants.{Write}
-use Rattle.program_frame.specs.declared.lists.fault.ListFault.TheVariants.{Rejected, Run}
-use Rattle.program_frame.specs.declared.lists.options.ItemEnd.{ItemEnd}
+use Rattle.list_programs.specs.declared.fault.ListFault.TheVariants.{Rejected, Run}
+use Rattle.list_programs.specs.declared.options.ItemEnd.{ItemEnd}
 use Rattle.paths_commands.specs.Task.{rules_of, IsAnswer, IsComponentsText, IsPathText, IsRejection, IsUnjoined}
 use Rattle.paths_commands.specs.declared.fault.Rejection.{Rejection}
 use Rattle.paths_commands.specs.declared.fault.Rejection.TheVariants.{NoString, NoNormalForm, NoRelativePath, NoAbsolutePath, NoJoin, NoJoinAt, NoComponent, NoStringThere, HasNul, ResultHas}

@@ -7,18 +7,18 @@ use denote.Ref.{Bor}
 use Rattle.os_ignore.specs.Ignores.{HasText}
 use Rattle.os_ignore.specs.declared.file.File.{File}
 use Rattle.program_frame.specs.Files.{KnownFiles}
-use Rattle.program_frame.specs.Items.{Lacks, texts_of}
-use Rattle.program_frame.specs.ListRun.{IsOutput, IsRun, answer_of}
+use Rattle.list_programs.specs.Items.{Lacks, texts_of}
+use Rattle.list_programs.specs.ListRun.{IsOutput, IsRun, answer_of}
 use Rattle.program_frame.specs.Os.{os_word}
-use Rattle.program_frame.specs.Rules.{IsEntry}
+use Rattle.list_programs.specs.Rules.{IsEntry}
 use Rattle.program_frame.specs.Strings.{strings}
 use Rattle.program_frame.specs.declared.fault.Failure.TheVariants.{Memory}
-use Rattle.program_frame.specs.declared.lists.fault.ListFault.{ListFault}
-use Rattle.program_frame.specs.declared.lists.fault.ListFault.TheVariants.{Run}
-use Rattle.program_frame.specs.declared.lists.program_fault.Fault.TheVariants.{List as OfList}
+use Rattle.list_programs.specs.declared.fault.ListFault.{ListFault}
+use Rattle.list_programs.specs.declared.fault.ListFault.TheVariants.{Run}
+use Rattle.list_programs.specs.declared.program_fault.Fault.TheVariants.{List as OfList}
 use Rattle.os_quote.specs.Escape.{IsLineEscape}
 use Rattle.os_str_bytes.specs.UnixPlatform.TheImpl as unix
-use Rattle.program_frame.specs.declared.lists.options.ListOptions.{ListOptions}
+use Rattle.list_programs.specs.declared.options.ListOptions.{ListOptions}
 use Rattle.program_frame.specs.declared.os.Os.{Os}
 use Rattle.program_frame.specs.declared.os.Os.TheVariants.{Unix, Windows, Wasm}
 use Rattle.names_commands.specs.Command.{Requested, IsRequestFor, HasOperands, IsListed, Line, MakesUp, MakesUpWork, StatesPicks, name_word}
@@ -37,7 +37,7 @@ use Rattle.names_commands.specs.declared.task.Task.TheVariants.{ListAll, ListWor
 use Rattle.names_commands.specs.declared.fault.Rejection.{Rejection}
 use Rattle.names_commands.specs.declared.option.NamesOption.TheVariants as option
 use Rattle.os_args.specs.Views.{fault_of}
-use Rattle.program_frame.specs.Arguments.{AreGiven, HasOption}
+use Rattle.list_programs.specs.Arguments.{AreGiven, HasOption}
 use Rattle.test_command_uses.specs.OneFile.{IsExplainedBy, IsReasonOf, explaining, only, usual}
 use Rattle.test_command_uses.proofs.GivenWords.{OneValue, OneWord, are_asking, no_fault_of}
 use Rattle.test_command_uses.proofs.KnownIgnore.{at_top, first, given_of, is_usual, later, no_help, no_version, not_stated, not_wasm, not_windows, one_file, only_read, states_one, usual_list}

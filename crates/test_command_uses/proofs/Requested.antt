@@ -4,12 +4,12 @@ use Rattle.std.specs.Prelude.{⊤, IfErr, IsTrue, ◌↔◌}
 use Rattle.names_commands.specs.Command.{Requested, IsRequestFor, IsListed, IsRequestError, Line, MakesUp, StatesPicks}
 use Rattle.names_commands.specs.declared.command.Command.TheVariants.{Version as VersionCommand}
 use Rattle.names_commands.specs.declared.option.NamesOption.TheVariants.{Help, IgnoreCase, Version}
-use Rattle.program_frame.specs.Arguments.{HasOption}
+use Rattle.list_programs.specs.Arguments.{HasOption}
 use Rattle.names_commands.specs.declared.command.RequestError.{RequestError}
 use Rattle.names_commands.specs.declared.command.RequestError.TheVariants.{Misuse, Memory as NoMemory}
 use Rattle.program_frame.specs.declared.fault.Failure.TheVariants.{Memory}
-use Rattle.program_frame.specs.declared.lists.fault.ListFault.TheVariants.{Run}
-use Rattle.program_frame.specs.declared.lists.program_fault.Fault.TheVariants.{List as OfList}
+use Rattle.list_programs.specs.declared.fault.ListFault.TheVariants.{Run}
+use Rattle.list_programs.specs.declared.program_fault.Fault.TheVariants.{List as OfList}
 use Rattle.paths_commands.specs.Program.{Fault, RunsTo}
 use Rattle.test_command_uses.specs.Requests.{RequestsSome, RunsSome}
 

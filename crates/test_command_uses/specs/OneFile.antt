@@ -6,12 +6,12 @@ use Rattle.os_quote.specs.Escape.{IsLineEscape}
 use Rattle.os_str_bytes.specs.UnixPlatform.TheImpl as unix
 use Rattle.program_frame.specs.Files.{KnownFiles}
 use Rattle.program_frame.specs.declared.fault.Failure.TheVariants.{Memory}
-use Rattle.program_frame.specs.declared.lists.fault.ListFault.TheVariants.{Run}
-use Rattle.program_frame.specs.declared.lists.options.ItemEnd.{ItemEnd}
-use Rattle.program_frame.specs.declared.lists.options.ItemEnd.TheVariants.{Nul}
-use Rattle.program_frame.specs.declared.lists.options.LastItem.TheVariants.{MustEnd, MayLackEnd}
-use Rattle.program_frame.specs.declared.lists.options.ListOptions.{ListOptions}
-use Rattle.program_frame.specs.declared.lists.program_fault.Fault.TheVariants.{List as OfList, Words}
+use Rattle.list_programs.specs.declared.fault.ListFault.TheVariants.{Run}
+use Rattle.list_programs.specs.declared.options.ItemEnd.{ItemEnd}
+use Rattle.list_programs.specs.declared.options.ItemEnd.TheVariants.{Nul}
+use Rattle.list_programs.specs.declared.options.LastItem.TheVariants.{MustEnd, MayLackEnd}
+use Rattle.list_programs.specs.declared.options.ListOptions.{ListOptions}
+use Rattle.list_programs.specs.declared.program_fault.Fault.TheVariants.{List as OfList, Words}
 use Rattle.names_commands.specs.Command.{name_word}
 use Rattle.names_commands.specs.Ignoring.{IsIgnored}
 use Rattle.names_commands.specs.Program.{Fault}

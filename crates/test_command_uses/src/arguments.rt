@@ -1,14 +1,14 @@
 //! Options and operands of a program, as they are read, and queries of them.
 ghost use Rattle.std.specs.Prelude.{◌≡◌, ◌≢◌, ◌∷◌, [], ℕ, List, None, map, string_bytes, IfOk, IfErr, IsTrue, MatchOption, ◌↔◌};
 ghost use Rattle.std.specs.Option.{option_map};
-ghost use Rattle.program_frame.specs.Arguments.{AreGiven, AreValues, HasOption, IsReadFault, LastValue, operands_of, text_of};
+ghost use Rattle.list_programs.specs.Arguments.{AreGiven, AreValues, HasOption, IsReadFault, LastValue, operands_of, text_of};
 ghost use Rattle.names_commands.specs.Options.{has_value, spelled};
 ghost use Rattle.names_commands.specs.declared.option.NamesOption.TheVariants.{Glob, Help, Max};
 
-use names_commands::option::NamesOption;
-use program_frame::arguments::{
+use list_programs::arguments::{
     Given, ReadFault, has, last_value, next_operand, read_arguments, values,
 };
+use names_commands::option::NamesOption;
 use std::alloc::{AllocError, Allocator};
 
 /// The options and operands of the program for names.

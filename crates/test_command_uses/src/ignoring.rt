@@ -2,7 +2,7 @@
 ghost use Rattle.std.specs.Prelude.{◌≡◌, ◌≢◌, ◌∷◌, ◌++◌, [], ℕ, List, false, IsOk, OnOk};
 ghost use Rattle.std.specs.Io.KnownBytes.{Appends};
 ghost use Rattle.std.specs.Process.{exit_status};
-ghost use Rattle.program_frame.specs.Items.{Lacks};
+ghost use Rattle.list_programs.specs.Items.{Lacks};
 ghost use Rattle.program_frame.specs.Marked.{marked_inner, has_failed};
 ghost use Rattle.program_frame.specs.Words.{words_after_name};
 ghost use Rattle.test_command_uses.specs.OneFile.{explaining, filtering, IsExplainedBy, IsFilteredBy, IsUnread};
@@ -12,8 +12,8 @@ use names_commands::program::Names;
 use os_args::laws::one_outcome;
 use program_frame::ends::{Messages, Output};
 use program_frame::files::{FileFault, Files};
-use program_frame::lists::program::execute;
 use program_frame::marked::Marked;
+use program_frame::program::execute;
 use std::alloc::Allocator;
 use std::env::Args;
 use std::io::{Eprint, Read};

@@ -1,9 +1,9 @@
 -- Options and operands that request a command aren't rejected.
 use Rattle.std.proofs.Common.{◌≡◌, ⊎_elim, inl, inr, ◌∙◌, ℕ, List, [], ◌∷◌, ◌++◌, codes, refl, sym, subst}
-use Rattle.program_frame.specs.Arguments.{HasOption}
+use Rattle.list_programs.specs.Arguments.{HasOption}
 use Rattle.program_frame.specs.Os.{os_word}
-use Rattle.program_frame.specs.declared.misuse.Misuse.{Misuse}
-use Rattle.program_frame.specs.declared.misuse.Misuse.TheVariants.{Argument, Missing, Invalid, Misplaced}
+use Rattle.list_programs.specs.declared.misuse.Misuse.{Misuse}
+use Rattle.list_programs.specs.declared.misuse.Misuse.TheVariants.{Argument, Missing, Invalid, Misplaced}
 use Rattle.program_frame.specs.declared.os.Os.{Os}
 use Rattle.path_building.specs.Base.{HasNoNul, IsBase}
 use Rattle.path_building.specs.BaseViews.{base_path, base_style}

@@ -4,15 +4,15 @@ use Rattle.std.specs.Prelude.{Bool, true, false}
 use Rattle.os_args.specs.Word.{Kind, Long, LongBytes, Short, ShortBytes, Value}
 use Rattle.os_args.specs.Reading.{Fault, Reading, TakesWord}
 use Rattle.os_args.proofs.lemmas.OneOutcome.{one_word}
-use Rattle.program_frame.specs.Arguments.{AreGiven, FailsAt, HasFault, HasOption, IsOption, Takes, TakesAll, operands_of, unread}
-use Rattle.program_frame.specs.ListOptions.{AreStated, IsEnd, IsLast}
-use Rattle.program_frame.specs.declared.arguments.Given.{Given}
-use Rattle.program_frame.specs.declared.arguments.Given.TheVariants.{Operand, Flag, Valued}
-use Rattle.program_frame.specs.declared.lists.options.ItemEnd.{ItemEnd}
-use Rattle.program_frame.specs.declared.lists.options.ItemEnd.TheVariants.{Nul, Newline}
-use Rattle.program_frame.specs.declared.lists.options.LastItem.{LastItem}
-use Rattle.program_frame.specs.declared.lists.options.LastItem.TheVariants.{MustEnd, MayLackEnd}
-use Rattle.program_frame.specs.declared.lists.options.ListOptions.{ListOptions}
+use Rattle.list_programs.specs.Arguments.{AreGiven, FailsAt, HasFault, HasOption, IsOption, Takes, TakesAll, operands_of, unread}
+use Rattle.list_programs.specs.ListOptions.{AreStated, IsEnd, IsLast}
+use Rattle.list_programs.specs.declared.arguments.Given.{Given}
+use Rattle.list_programs.specs.declared.arguments.Given.TheVariants.{Operand, Flag, Valued}
+use Rattle.list_programs.specs.declared.options.ItemEnd.{ItemEnd}
+use Rattle.list_programs.specs.declared.options.ItemEnd.TheVariants.{Nul, Newline}
+use Rattle.list_programs.specs.declared.options.LastItem.{LastItem}
+use Rattle.list_programs.specs.declared.options.LastItem.TheVariants.{MustEnd, MayLackEnd}
+use Rattle.list_programs.specs.declared.options.ListOptions.{ListOptions}
 use Rattle.paths_commands.specs.Command.{IsRequestFor, Line, RequestsNothing, longest_path}
 use Rattle.paths_commands.specs.Options.{IsFlagOf, has_value, name_of, spelled}
 use Rattle.paths_commands.specs.declared.command.Command.{Command}

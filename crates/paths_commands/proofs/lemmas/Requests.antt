@@ -6,9 +6,9 @@ use Rattle.os_args.specs.declared.error.ArgumentError.{ArgumentError}
 use Rattle.os_str_bytes.specs.Wasm.{Wasm}
 use Rattle.os_str_bytes.specs.WasmPlatform.TheImpl as wasm
 use Rattle.platform_str.specs.declared.os_str.OsStr.{OsStr}
-use Rattle.program_frame.specs.Arguments.{AreGiven, HasFault}
-use Rattle.program_frame.specs.declared.lists.program_fault.Fault.TheVariants.{Words}
-use Rattle.program_frame.specs.declared.misuse.Misuse.TheVariants.{Argument}
+use Rattle.list_programs.specs.Arguments.{AreGiven, HasFault}
+use Rattle.list_programs.specs.declared.program_fault.Fault.TheVariants.{Words}
+use Rattle.list_programs.specs.declared.misuse.Misuse.TheVariants.{Argument}
 use Rattle.paths_commands.specs.Command.{Line}
 use Rattle.paths_commands.specs.Fault.{IsOfMisuse}
 use Rattle.paths_commands.specs.Options.{has_value, spelled}

@@ -1,7 +1,7 @@
 -- The error for an operand too many.
 use Rattle.std.proofs.Common.{◌≡◌, ◌∙◌, inl, inr, ℕ, List, [], ◌∷◌, ap, subst}
-use Rattle.program_frame.specs.declared.misuse.Misuse.{Misuse}
-use Rattle.program_frame.specs.declared.misuse.Misuse.TheVariants.{Argument, Missing, Invalid, Misplaced}
+use Rattle.list_programs.specs.declared.misuse.Misuse.{Misuse}
+use Rattle.list_programs.specs.declared.misuse.Misuse.TheVariants.{Argument, Missing, Invalid, Misplaced}
 use Rattle.program_frame.specs.declared.os.Os.{Os}
 use Rattle.paths_commands.specs.Command.{HasOperands, IsMisuse, IsSurplus, IsTooMany, Line, Needs}
 use Rattle.paths_commands.specs.declared.command.Name.{Name as DeclaredName}

@@ -1,5 +1,5 @@
 use Rattle.std.proofs.Common.{rules, ◌≡◌, ◌∷◌}
-use Rattle.program_frame.specs.Arguments.{operands_of}
+use Rattle.list_programs.specs.Arguments.{operands_of}
 use Rattle.paths_commands.proofs.lemmas.Surplus.{surplus_second}
 use Rattle.paths_commands.proofs.command.task_of.Goals as goal
 

@@ -1,7 +1,7 @@
 use Rattle.std.proofs.Common.{◌≡◌, ⊎_elim, rules, sym, subst}
 use Rattle.std.proofs.lemmas.Result.{IfErr-weaker}
 use Rattle.platform_str.specs.Strings.{path_bytes}
-use Rattle.program_frame.specs.Rules.{IsItemFault}
+use Rattle.list_programs.specs.Rules.{IsItemFault}
 use Rattle.paths_commands.specs.Task.{rules_of, IsRejection}
 use Rattle.paths_commands.proofs.item.write_item.Goals as goal
 

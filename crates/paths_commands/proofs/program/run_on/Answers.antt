@@ -1,12 +1,12 @@
 use Rattle.std.proofs.Common.{◌≡◌, ℕ, List, Option, sym, subst}
 use Rattle.std.specs.Prelude.{Result, ⊤}
 use Rattle.program_frame.specs.Marked.{marked_inner}
-use Rattle.program_frame.specs.Rules.{passing}
+use Rattle.list_programs.specs.Rules.{passing}
 use Rattle.program_frame.specs.Strings.{strings}
-use Rattle.program_frame.specs.ListRun.{Runs}
-use Rattle.program_frame.specs.declared.lists.options.ListOptions.{ListOptions}
+use Rattle.list_programs.specs.ListRun.{Runs}
+use Rattle.list_programs.specs.declared.options.ListOptions.{ListOptions}
 use Rattle.program_frame.specs.declared.os.Os.{Os}
-use Rattle.program_frame.specs.declared.lists.program_fault.Fault.TheVariants.{List as OfList}
+use Rattle.list_programs.specs.declared.program_fault.Fault.TheVariants.{List as OfList}
 use Rattle.paths_commands.specs.Styles.{style_of}
 use Rattle.paths_commands.specs.Program.{Fault}
 use Rattle.paths_commands.specs.Task.{rules_of}

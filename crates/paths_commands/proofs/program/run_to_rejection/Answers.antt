@@ -1,6 +1,6 @@
 use Rattle.program_frame.specs.Marked.{marked_inner}
-use Rattle.program_frame.specs.declared.lists.program_fault.Fault.TheVariants.{List as OfList}
-use Rattle.program_frame.proofs.lemmas.lists.Passing.{none_runs}
+use Rattle.list_programs.specs.declared.program_fault.Fault.TheVariants.{List as OfList}
+use Rattle.list_programs.proofs.lemmas.Passing.{none_runs}
 use Rattle.paths_commands.specs.Program.{rules_on}
 use Rattle.paths_commands.proofs.program.run_to_rejection.Goals as goal
 

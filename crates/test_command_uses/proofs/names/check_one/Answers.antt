@@ -2,7 +2,7 @@ use Rattle.std.proofs.Common.{sym, ◌∙◌, subst}
 use Rattle.std.proofs.lemmas.Result.{IfErr-weaker}
 use Rattle.names_commands.specs.Task.{rules_of}
 use Rattle.names_commands.specs.declared.task.Task.TheVariants.{Check}
-use Rattle.program_frame.specs.ListRun.{StopsOn}
+use Rattle.list_programs.specs.ListRun.{StopsOn}
 use Rattle.test_command_uses.specs.OneFile.{unended}
 use Rattle.test_command_uses.proofs.KnownNames.{known_fault, no_write}
 use Rattle.test_command_uses.proofs.names.check_one.Goals as goal

@@ -1,6 +1,6 @@
 use Rattle.std.proofs.Common.{◌∷◌, [], subst}
 use Rattle.names_commands.specs.Task.{rules_of}
-use Rattle.program_frame.specs.ListRun.{IsOutput}
+use Rattle.list_programs.specs.ListRun.{IsOutput}
 use Rattle.test_command_uses.proofs.KnownNames.{no_empty, not_ok}
 use Rattle.test_command_uses.proofs.names.empty_line.Goals as goal
 

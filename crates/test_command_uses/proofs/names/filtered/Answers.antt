@@ -2,7 +2,7 @@ use Rattle.std.proofs.Common.{Some, subst}
 use Rattle.std.specs.Prelude.{OnOk}
 use Rattle.std.proofs.lemmas.Result.{on_ok_weaker}
 use Rattle.os_ignore.specs.Ignores.{files_of}
-use Rattle.program_frame.specs.ListRun.{WritesOutput}
+use Rattle.list_programs.specs.ListRun.{WritesOutput}
 use Rattle.program_frame.specs.Marked.{marked_inner}
 use Rattle.names_commands.specs.declared.matching.Form.TheVariants.{Name}
 use Rattle.names_commands.specs.Matching.{picking, IsPickedBy}

@@ -2,10 +2,10 @@ use Rattle.std.proofs.Common.{drop, refl, sym, subst}
 use Rattle.std.proofs.lemmas.List.{take-append-drop}
 use Rattle.std.proofs.lemmas.Result.{on_ok_weaker}
 use Rattle.names_commands.specs.Back.{joining, with_last}
-use Rattle.program_frame.specs.ListRun.{IsOutput}
+use Rattle.list_programs.specs.ListRun.{IsOutput}
 use Rattle.names_commands.specs.Task.{rules_of}
 use Rattle.names_commands.specs.declared.task.EmptyLine.TheVariants.{IsEmptyName}
-use Rattle.program_frame.specs.declared.lists.options.LastItem.TheVariants.{MustEnd}
+use Rattle.list_programs.specs.declared.options.LastItem.TheVariants.{MustEnd}
 use Rattle.test_command_uses.proofs.names.first_names_again.Goals as goal
 
 pub returns : goal.returns

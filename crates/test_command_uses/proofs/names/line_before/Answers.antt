@@ -4,7 +4,7 @@ use Rattle.std.specs.Io.KnownBytes.{Appends}
 use Rattle.program_frame.specs.Marked.{marked_inner}
 use Rattle.names_commands.specs.Task.{rules_of, with_limit}
 use Rattle.names_commands.specs.declared.task.Task.TheVariants.{ListAll}
-use Rattle.program_frame.specs.ListRun.{StopsOn}
+use Rattle.list_programs.specs.ListRun.{StopsOn}
 use Rattle.test_command_uses.proofs.KnownNames.{line_before_second, no_write}
 use Rattle.test_command_uses.proofs.names.line_before.Goals as goal
 

@@ -1,7 +1,7 @@
 use Rattle.std.proofs.Common.{subst}
 use Rattle.names_commands.specs.Task.{rules_of, with_limit}
 use Rattle.names_commands.specs.declared.task.Task.TheVariants.{JoinWords}
-use Rattle.program_frame.specs.ListRun.{IsOutput}
+use Rattle.list_programs.specs.ListRun.{IsOutput}
 use Rattle.program_frame.specs.Strings.{strings}
 use Rattle.program_frame.specs.declared.os.Os.TheVariants.{Unix}
 use Rattle.test_command_uses.proofs.KnownNames.{no_return, not_ok}

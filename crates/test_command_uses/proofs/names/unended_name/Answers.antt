@@ -2,7 +2,7 @@ use Rattle.std.proofs.Common.{sym, ◌∙◌, subst}
 use Rattle.std.proofs.lemmas.Result.{IfErr-weaker}
 use Rattle.names_commands.specs.Task.{rules_of, with_limit}
 use Rattle.names_commands.specs.declared.task.Task.TheVariants.{ListAll}
-use Rattle.program_frame.specs.ListRun.{IsOutput, StopsOn}
+use Rattle.list_programs.specs.ListRun.{IsOutput, StopsOn}
 use Rattle.test_command_uses.proofs.KnownNames.{end_no_write, first_unended, not_listed, not_ok}
 use Rattle.test_command_uses.proofs.names.unended_name.Goals as goal
 

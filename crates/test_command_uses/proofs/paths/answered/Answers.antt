@@ -1,7 +1,7 @@
 use Rattle.std.proofs.Common.{subst}
 use Rattle.std.proofs.lemmas.Result.{on_ok_weaker}
 use Rattle.std.specs.Io.KnownBytes.{Appends}
-use Rattle.program_frame.specs.ListRun.{IsOutput}
+use Rattle.list_programs.specs.ListRun.{IsOutput}
 use Rattle.program_frame.specs.Marked.{marked_inner}
 use Rattle.paths_commands.specs.Task.{rules_of}
 use Rattle.test_command_uses.proofs.KnownPaths.{known_answer}

@@ -2,8 +2,8 @@ use Rattle.std.proofs.Common.{subst}
 use Rattle.std.proofs.lemmas.Result.{on_ok_weaker}
 use Rattle.paths_commands.specs.Task.{rules_of}
 use Rattle.paths_commands.specs.declared.task.Task.TheVariants.{Components}
-use Rattle.program_frame.specs.ListRun.{IsOutput}
-use Rattle.program_frame.specs.declared.lists.options.ItemEnd.TheVariants.{Nul}
+use Rattle.list_programs.specs.ListRun.{IsOutput}
+use Rattle.list_programs.specs.declared.options.ItemEnd.TheVariants.{Nul}
 use Rattle.test_command_uses.proofs.KnownPaths.{known_components}
 use Rattle.test_command_uses.proofs.paths.components_of.Goals as goal
 

@@ -1,7 +1,7 @@
 use Rattle.std.proofs.Common.{◌++◌, ◌∷◌, [], subst}
 use Rattle.std.proofs.lemmas.Result.{on_ok_weaker}
 use Rattle.std.specs.Io.KnownBytes.{Appends}
-use Rattle.program_frame.specs.Items.{Lacks}
+use Rattle.list_programs.specs.Items.{Lacks}
 use Rattle.program_frame.specs.Marked.{marked_inner}
 use Rattle.test_command_uses.proofs.paths.from_base.Goals as goal
 

@@ -5,8 +5,8 @@ use Rattle.path_building.specs.Faults.{IsNameFault}
 use Rattle.paths_commands.specs.Task.{component_of, rules_of}
 use Rattle.paths_commands.specs.declared.fault.Rejection.TheVariants.{NoJoin, NoJoinAt}
 use Rattle.paths_commands.specs.declared.task.Task.TheVariants.{JoinChecked}
-use Rattle.program_frame.specs.ListRun.{StopsOn}
-use Rattle.program_frame.specs.declared.lists.options.ItemEnd.TheVariants.{Nul}
+use Rattle.list_programs.specs.ListRun.{StopsOn}
+use Rattle.list_programs.specs.declared.options.ItemEnd.TheVariants.{Nul}
 use Rattle.test_command_uses.specs.OneFile.{lacking}
 use Rattle.test_command_uses.proofs.KnownPaths.{known_unjoined, no_write}
 use Rattle.test_command_uses.proofs.paths.joined_one.Goals as goal

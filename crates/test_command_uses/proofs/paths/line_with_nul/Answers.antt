@@ -1,7 +1,7 @@
 use Rattle.std.proofs.Common.{subst}
 use Rattle.paths_commands.specs.Task.{rules_of}
-use Rattle.program_frame.specs.ListRun.{IsOutput}
-use Rattle.program_frame.specs.declared.lists.options.ItemEnd.TheVariants.{Newline}
+use Rattle.list_programs.specs.ListRun.{IsOutput}
+use Rattle.list_programs.specs.declared.options.ItemEnd.TheVariants.{Newline}
 use Rattle.test_command_uses.proofs.KnownNames.{not_ok}
 use Rattle.test_command_uses.proofs.KnownPaths.{known_whole}
 use Rattle.test_command_uses.proofs.paths.line_with_nul.Goals as goal

@@ -2,8 +2,8 @@ use Rattle.std.proofs.Common.{sym, ◌∙◌, subst}
 use Rattle.std.proofs.lemmas.Result.{IfErr-weaker}
 use Rattle.paths_commands.specs.Task.{rules_of}
 use Rattle.paths_commands.specs.declared.fault.Rejection.TheVariants.{NoString}
-use Rattle.program_frame.specs.ListRun.{StopsOn}
-use Rattle.program_frame.specs.declared.lists.options.ItemEnd.TheVariants.{Nul}
+use Rattle.list_programs.specs.ListRun.{StopsOn}
+use Rattle.list_programs.specs.declared.options.ItemEnd.TheVariants.{Nul}
 use Rattle.test_command_uses.specs.OneFile.{lacking}
 use Rattle.test_command_uses.proofs.KnownPaths.{known_rejection, no_write}
 use Rattle.test_command_uses.proofs.paths.requested_one.Goals as goal

@@ -1,8 +1,8 @@
 use Rattle.std.proofs.Common.{subst}
 use Rattle.paths_commands.specs.Task.{rules_of}
-use Rattle.program_frame.specs.ListRun.{IsOutput}
-use Rattle.program_frame.specs.declared.lists.options.ItemEnd.TheVariants.{Nul}
-use Rattle.program_frame.specs.declared.lists.options.LastItem.TheVariants.{MustEnd}
+use Rattle.list_programs.specs.ListRun.{IsOutput}
+use Rattle.list_programs.specs.declared.options.ItemEnd.TheVariants.{Nul}
+use Rattle.list_programs.specs.declared.options.LastItem.TheVariants.{MustEnd}
 use Rattle.test_command_uses.proofs.KnownNames.{never_read, not_ok}
 use Rattle.test_command_uses.proofs.paths.unended_path.Goals as goal
 
