@@ -413,9 +413,6 @@ pub not_walked : (w : Style) (first : List ℕ) (others : List (List ℕ)) (base
 not_walked w first others base t = record { done = []; are = refl; count = refl; based = one_base w first base t }
 
 module _ {X : Type 0} (w : Style) (f : X → List ℕ) (first : List ℕ) (others : List (List ℕ)) (d : X) (index : ℕ) (base : List ℕ) where
-  pub beside : (path : List ℕ) (left : List (List ℕ)) → Walked w first others left index base → BeginAlike w first path → IsFrontBeside w base path
-  beside path left k h = (first, (k.based.front, has_its_top w first path h))
-
   pub step : (left : List X) → 1 ≤ length left → Walked w first others (map f left) index base → BeginAlike w first (f (get_or left 0 d)) → (shared : List ℕ) → IsShared w base (f (get_or left 0 d)) shared → Walked w first others (map f (take (length left - 1) (drop 1 left))) (index + 1) shared
   step [] l k h shared s = absurd (omega arith)
   step (x ∷ left) l k h shared s = subst (λ z. Walked w first others (map f z) (index + 1) shared) (sym (take_rest (x ∷ left) 1)) (record {
