@@ -7,11 +7,11 @@ from functools import total_ordering
 from typing import Any, ClassVar, Sequence, TypeVar, overload
 from urllib.parse import quote_from_bytes
 
-from ._calls import decode
-from ._errors import ExtensionError, JoinError, OsBytesError
+from . import _core
+from ._calls import decode, encode
+from ._errors import ExtensionError, JoinError, JoinReason, OsBytesError
 from ._globs import Glob, GlobFlag
-from ._library import BAD_EXTENSION
-from ._path_building import JoinReason, path_convert, path_join, path_join_checked, path_relative
+from ._path_building import path_convert, path_join, path_join_checked, path_relative
 from ._paths import (
     Kind,
     parts_of,
@@ -22,8 +22,13 @@ from ._paths import (
     path_starts_with,
     path_strip_prefix,
 )
-from ._strings import UNIX, WINDOWS, AnyOsName, OsString, Platform, read_valid, said
+from ._strings import UNIX, WINDOWS, AnyOsName, OsString, Platform
 
+__all__ = [
+    "OsPath", "UnixPath", "WindowsPath",
+]  # fmt: skip
+
+_BAD_EXTENSION = 23
 # Looking a member up in its class takes longer than all else here.
 _PREFIX, _ROOT, _CURRENT, _NAME = Kind.PREFIX, Kind.ROOT, Kind.CURRENT, Kind.NAME
 
@@ -106,7 +111,7 @@ class OsPath:
         return self._text or "."
 
     def __bytes__(self) -> bytes:
-        return read_valid(str(self), self.platform)[0]
+        return encode(str(self), self.platform)
 
     def __repr__(self) -> str:
         return f"{type(self).__name__}({str(self)!r})"
@@ -201,7 +206,7 @@ class OsPath:
         """Returns the `file:` URI of the path (RFC 8089), whose bytes are escaped. Raises `OsBytesError` if it isn't absolute."""
         if not self.is_absolute():
             raise OsBytesError("relative path can't be expressed as a file URI")
-        raw = read_valid(self.as_posix(), self.platform)[0]
+        raw = encode(self.as_posix(), self.platform)
         if self._drive[1:] == ":":
             return f"file:///{self._drive}{quote_from_bytes(raw[2:])}"
         return ("file:" if self._drive else "file://") + quote_from_bytes(raw)
@@ -298,7 +303,7 @@ class OsPath:
         if self.name in ("", ".."):
             raise OsBytesError(f"{str(self)!r} has an empty name")
         if "/" in text or self._separator in text:
-            raise ExtensionError(said(BAD_EXTENSION))
+            raise ExtensionError(_core.status_text(_BAD_EXTENSION))
         name = self.stem + text
         # `..x` without its suffix is the current directory
         return self._with((*self._names[:-1], name) if name != "." else self._names[:-1])
