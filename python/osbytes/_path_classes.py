@@ -14,7 +14,7 @@ from ._globs import Glob, GlobFlag
 from ._path_building import path_convert, path_join, path_join_checked, path_relative
 from ._paths import (
     Kind,
-    parts_of,
+    path_components,
     path_ends_with,
     path_extension,
     path_is_absolute,
@@ -29,8 +29,8 @@ __all__ = [
 ]  # fmt: skip
 
 _BAD_EXTENSION = 23
-# Looking a member up in its class takes longer than all else here.
-_PREFIX, _ROOT, _CURRENT, _NAME = Kind.PREFIX, Kind.ROOT, Kind.CURRENT, Kind.NAME
+# The kinds as the module gives them.
+_PREFIX, _ROOT, _CURRENT, _NAME = map(int, (Kind.PREFIX, Kind.ROOT, Kind.CURRENT, Kind.NAME))
 
 P = TypeVar("P", bound="OsPath")
 Q = TypeVar("Q", bound="OsPath")
@@ -74,14 +74,15 @@ class OsPath:
         """Returns the path of a text: its components, with one separator between them."""
         drive, root, is_current = "", "", False
         names: list[str] = []
-        for kind, part in parts_of(text, cls.platform):
-            if kind is _NAME:
+        fields = iter(_core.path_components(text, cls.platform))
+        for kind, part in zip(fields, fields):
+            if kind == _NAME:
                 names.append(part)
-            elif kind is _PREFIX:
+            elif kind == _PREFIX:
                 drive = part if part.startswith("\\\\?\\") else part.replace("/", "\\")
-            elif kind is _ROOT:
+            elif kind == _ROOT:
                 root = cls._separator
-            elif kind is _CURRENT and not drive:
+            elif kind == _CURRENT and not drive:
                 is_current = True
             else:
                 names.append(part)
@@ -280,7 +281,7 @@ class OsPath:
     def with_name(self: P, name: OsString) -> P:
         """Returns the path with another last name. Raises `OsBytesError` if there is none, or `name` isn't one name."""
         text = decode(name, self.platform)
-        kinds = [kind for kind, _ in parts_of(text, self.platform)]
+        kinds = [part.kind for part in path_components(text, self.platform)]
         if not self.name:
             raise OsBytesError(f"{str(self)!r} has an empty name")
         if kinds != [Kind.NAME] or not path_ends_with(text, text, self.platform) or text[-1] in ("/", self._separator):

@@ -56,12 +56,6 @@ class Component(Generic[AnyStr]):
         return f"Component({self.kind!r}, {self.text!r})"
 
 
-def parts_of(path: AnyOsName, platform: Platform) -> list[tuple[Kind, Any]]:
-    """Returns the kind and the text of each component of a path."""
-    fields = iter(_core.path_components(path, platform))
-    return [(_KINDS[kind], text) for kind, text in zip(fields, fields)]
-
-
 def path_components(path: OsName[AnyStr], platform: Platform = UNIX) -> list[Component[AnyStr]]:
     """Returns the components of a path, as Rust's `std::path` takes it apart.
 
@@ -70,7 +64,8 @@ def path_components(path: OsName[AnyStr], platform: Platform = UNIX) -> list[Com
     >>> [part.text for part in path_components(r"C:\\a/.\\..", Platform.WINDOWS)]
     ['C:', '\\\\', 'a', '..']
     """
-    return [Component(kind, text) for kind, text in parts_of(path, platform)]
+    fields = iter(_core.path_components(path, platform))
+    return [Component(_KINDS[kind], text) for kind, text in zip(fields, fields)]
 
 
 def path_parent(path: OsName[AnyStr], platform: Platform = UNIX) -> AnyStr | None:
