@@ -2,7 +2,7 @@
 
 A wheel has the sources, the shared library, and the extension module, for which a C compiler and Python's headers are needed.
 The library is that of lib/PROCESSOR in an unpacked source distribution, or the one that OSBYTES_LIBRARY names. CC names the
-compiler.
+compiler, and CFLAGS has more words for it.
 """
 
 from __future__ import annotations
@@ -101,7 +101,8 @@ def extension(compiler: str, library: Path, source: Path = HERE / "osbytes" / "_
     is_windows = library.suffix == ".dll"
     with tempfile.TemporaryDirectory() as name:
         module, made, imported = Path(name, "module.o"), Path(name, "module.so"), Path(name, "python3.def")
-        words = [*FLAGS, *(FOR_WINDOWS if is_windows else ("-fPIC",)), f"-I{header.parent}", *(f"-I{include}" for include in includes())]
+        words = [*FLAGS, *os.environ.get("CFLAGS", "").split(), *(f"-I{include}" for include in (header.parent, *includes()))]
+        words += FOR_WINDOWS if is_windows else ("-fPIC",)
         ran(compiler, *words, "-c", source, "-o", module)
         linked = [*LINKED, library]
         if is_windows:
@@ -115,10 +116,11 @@ def extension(compiler: str, library: Path, source: Path = HERE / "osbytes" / "_
 
 
 def ran(*words: str | Path) -> str:
-    """Runs a command, and returns what it prints. A warning of a compiler is an error, too."""
+    """Runs a command, and returns what it prints. What a compiler warns of is shown."""
     run = subprocess.run([str(word) for word in words], stdout=subprocess.PIPE, stderr=subprocess.PIPE, text=True)
-    if run.returncode or run.stderr:
+    if run.returncode:
         raise SystemExit(f"osbytes: the extension module isn't compiled: {run.stderr.strip()[-2000:]}")
+    print(run.stderr, end="", file=sys.stderr)
     return run.stdout
 
 
