@@ -13,6 +13,7 @@ from __future__ import annotations
 import gzip
 import hashlib
 import io
+import lzma
 import posixpath
 import re
 import sys
@@ -223,10 +224,10 @@ def zip_entries(folder: Path, top: str, entries: dict[str, Entry]) -> Path:
     return file
 
 
-def pack_entries(folder: Path, top: str, entries: dict[str, Entry]) -> Path:
-    """Makes an archive of these files in a folder, and returns it."""
-    file = folder / f"{top}.tar.gz"
-    with file.open("wb") as made, gzip.GzipFile("", "wb", 9, made, 0) as packed:
+def pack_entries(folder: Path, top: str, entries: dict[str, Entry], ending: str = "tar.gz") -> Path:
+    """Makes an archive of these files in a folder, a .tar.gz or a .tar.xz, and returns it."""
+    file = folder / f"{top}.{ending}"
+    with file.open("wb") as made, gzip.GzipFile("", "wb", 9, made, 0) if ending == "tar.gz" else lzma.open(made, "wb") as packed:
         with tarfile.open(fileobj=packed, mode="w") as members:
             for path, entry in entries.items():
                 member = tarfile.TarInfo(f"{top}/{path}")
