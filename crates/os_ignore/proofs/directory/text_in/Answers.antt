@@ -3,7 +3,7 @@ use Rattle.std.proofs.lemmas.List.{append-nil}
 use Rattle.std.specs.List.{AllByRecursion}
 use Rattle.os_ignore.specs.Ignores.{FileHasNoText}
 use Rattle.os_ignore.proofs.lemmas.Tags.{nil_of_length}
-use Rattle.os_ignore.proofs.ignore.text_in.Goals as goal
+use Rattle.os_ignore.proofs.directory.text_in.Goals as goal
 
 pub loop-file-init : goal.loop-file-init
 loop-file-init g c = ([], sym (append-nil _), tt)
