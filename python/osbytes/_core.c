@@ -176,23 +176,6 @@ static int read_bytes(PyObject *given, string *out) {
     return 0;
 }
 
-static int read_one(arguments args, osb_platform *platform, string *out) {
-    out->kept = NULL;
-    return read_platform(args[1], platform) && read_valid(args[0], *platform, NOWHERE, out);
-}
-
-static int read_two(arguments args, osb_platform *platform, string *a, string *b) {
-    a->kept = b->kept = NULL;
-    if (!read_platform(args[2], platform) || !read_valid(args[0], *platform, NOWHERE, a)) return 0;
-    if (read_valid(args[1], *platform, NOWHERE, b)) {
-        if (a->is_text == b->is_text) return 1;
-        PyErr_SetString(PyExc_TypeError, "can't mix str and bytes");
-    }
-    drop(a);
-    drop(b);
-    return 0;
-}
-
 /* Reads what is searched for, or an escape, which have to be UTF-8: a str with surrogates is given to the call as it is. */
 static int read_pattern(PyObject *given, string *out) {
     *out = (string){.kept = NULL};
@@ -214,21 +197,58 @@ static PyObject *refuse_pattern(osb_status status, const string *pattern, osb_st
     return refuse(as, osb_status_text(status), index, NOWHERE, 0, NOWHERE);
 }
 
-static int read_searched(arguments args, string *of, string *pattern) {
-    pattern->kept = NULL;
-    if (read_bytes(args[0], of) && read_pattern(args[1], pattern)) return 1;
-    drop(of);
+/* A call: what was read for it, what it writes into, a buffer on the stack or a longer one, and what it returned. */
+typedef struct {
+    string a, b;
+    osb_platform platform;
+    osb_status status;
+    osb_fault fault;
+    size_t index, room, count;
+    char *at, *longer;
+    _Alignas(16) char few[ROOM];
+} frame;
+
+static void begin(frame *it) {
+    it->a.kept = it->b.kept = NULL;
+    it->fault.kind = (osb_fault_kind)0;
+    it->index = 0;
+    it->longer = NULL;
+}
+
+/* Frees what a call was made with, and returns its result. */
+static PyObject *ended(frame *it, PyObject *result) {
+    PyMem_Free(it->longer);
+    drop(&it->a);
+    drop(&it->b);
+    return result;
+}
+
+/* Reads a string and a platform, or two strings and a platform. */
+static int read_one(frame *it, arguments args) {
+    begin(it);
+    return read_platform(args[1], &it->platform) && read_valid(args[0], it->platform, NOWHERE, &it->a);
+}
+
+static int read_two(frame *it, arguments args) {
+    begin(it);
+    if (!read_platform(args[2], &it->platform) || !read_valid(args[0], it->platform, NOWHERE, &it->a)) return 0;
+    if (read_valid(args[1], it->platform, NOWHERE, &it->b)) {
+        if (it->a.is_text == it->b.is_text) return 1;
+        PyErr_SetString(PyExc_TypeError, "can't mix str and bytes");
+    }
+    ended(it, NULL);
     return 0;
 }
 
-/* What a call writes into: a buffer on the stack, or a longer one. */
-typedef struct {
-    _Alignas(16) char few[ROOM];
-    char *at, *longer;
-    size_t room, count;
-} written;
+/* Reads bytes, and what is searched for in them. */
+static int read_searched(frame *it, arguments args) {
+    begin(it);
+    if (read_bytes(args[0], &it->a) && read_pattern(args[1], &it->b)) return 1;
+    ended(it, NULL);
+    return 0;
+}
 
-static osb_status begun(written *it, size_t need) {
+static osb_status make_room(frame *it, size_t need) {
     PyMem_Free(it->longer);
     it->longer = need <= ROOM ? NULL : PyMem_Malloc(need);
     it->at = need <= ROOM ? it->few : it->longer;
@@ -237,162 +257,125 @@ static osb_status begun(written *it, size_t need) {
 }
 
 /* Makes a call that writes at most `need` bytes, in items of a width, and again if more room is needed after all. */
-#define WRITE(it, need, width, status, call) \
+#define WRITE(it, need, width, call) \
     do { \
-        (it).longer = NULL; \
-        status = begun(&(it), need); \
-        while (status == OSB_OK) { \
-            UNLOCKED((it).room > LONG, status = call); \
-            if (status != OSB_NO_ROOM) break; \
-            status = begun(&(it), (it).count * (width)); \
+        (it).status = make_room(&(it), need); \
+        while ((it).status == OSB_OK) { \
+            UNLOCKED((it).room > LONG, (it).status = call); \
+            if ((it).status != OSB_NO_ROOM) break; \
+            (it).status = make_room(&(it), (it).count * (width)); \
         } \
     } while (0)
 
-/* Makes the result of what was written, unless the status is another. */
-static PyObject *result_of(osb_status status, const written *it, int is_text, osb_platform platform) {
-    if (status == OSB_OK) return made(it->at, it->count, is_text, platform);
-    if (status == OSB_NONE) Py_RETURN_NONE;
-    return refuse_plainly(status);
+/* Raises what a status other than OSB_OK means. That there is no such part is None. */
+static PyObject *refused(const frame *it) {
+    if (it->status == OSB_NONE) Py_RETURN_NONE;
+    if (it->status == OSB_FAULTY && it->fault.kind != 0) return refuse_fault(&it->fault, &it->a, NOWHERE);
+    if (it->status == OSB_FAULTY) return refuse(it->status, NULL, index_in(&it->a, it->index), NOWHERE, 0, NOWHERE);
+    if (it->status == OSB_HAS_NUL || it->status == OSB_BAD_ESCAPE) return refuse_at(it->status, &it->a, it->index, NOWHERE, 0);
+    return refuse_plainly(it->status);
 }
 
-/* Frees what a call was made with, and returns its result. */
-static PyObject *ended(written *it, string *a, string *b, PyObject *result) {
-    if (it != NULL) PyMem_Free(it->longer);
-    if (a != NULL) drop(a);
-    if (b != NULL) drop(b);
-    return result;
+static PyObject *written(frame *it, int is_text, osb_platform platform) {
+    return ended(it, it->status == OSB_OK ? made(it->at, it->count, is_text, platform) : refused(it));
 }
 
 /* A text of a string: (string, platform). */
 typedef osb_status text_call(osb_platform, const char *, size_t, char *, size_t, size_t *, osb_fault *);
 static PyObject *text(arguments args, text_call *call, size_t longest) {
-    string of;
-    written out;
-    osb_platform platform;
-    osb_fault fault;
-    osb_status status;
-    if (!read_platform(args[1], &platform) || !read_string(args[0], platform, NOWHERE, &of)) return NULL;
-    WRITE(out, longest * of.len, 1, status, call(platform, of.at, of.len, out.at, out.room, &out.count, &fault));
-    return ended(&out, &of, NULL,
-                 status == OSB_FAULTY ? refuse_fault(&fault, &of, NOWHERE) : result_of(status, &out, 1, platform));
+    frame it;
+    begin(&it);
+    if (!read_platform(args[1], &it.platform) || !read_string(args[0], it.platform, NOWHERE, &it.a)) return NULL;
+    WRITE(it, longest * it.a.len, 1, call(it.platform, it.a.at, it.a.len, it.at, it.room, &it.count, &it.fault));
+    return written(&it, 1, it.platform);
 }
 
 /* The string of an escape: (text, platform). */
 typedef osb_status escape_call(osb_platform, const char *, size_t, char *, size_t, size_t *, size_t *);
 static PyObject *unescaped(arguments args, escape_call *call) {
-    string of;
-    written out;
-    osb_platform platform;
-    osb_status status;
-    size_t index = 0;
+    frame it;
+    begin(&it);
     if (!PyUnicode_Check(args[0])) return wrong_type("str", args[0]);
-    if (!read_platform(args[1], &platform) || !read_pattern(args[0], &of)) return NULL;
-    WRITE(out, of.len, 1, status, call(platform, of.at, of.len, out.at, out.room, &out.count, &index));
-    PyObject *it = status == OSB_BAD_ESCAPE    ? refuse_at(status, &of, index, NOWHERE, 0)
-                   : status == OSB_BAD_PATTERN ? refuse_pattern(status, &of, OSB_BAD_ESCAPE)
-                                               : result_of(status, &out, 0, platform);
-    return ended(&out, &of, NULL, it);
+    if (!read_platform(args[1], &it.platform) || !read_pattern(args[0], &it.a)) return NULL;
+    WRITE(it, it.a.len, 1, call(it.platform, it.a.at, it.a.len, it.at, it.room, &it.count, &it.index));
+    if (it.status == OSB_BAD_PATTERN) return ended(&it, refuse_pattern(it.status, &it.a, OSB_BAD_ESCAPE));
+    return written(&it, 0, it.platform);
 }
 
 /* A word of a name of a platform: (name). */
 typedef osb_status word_call(const char *, size_t, char *, size_t, size_t *, size_t *);
 static PyObject *word(arguments args, word_call *call, osb_platform platform) {
-    string of;
-    written out;
-    osb_status status;
-    size_t index = 0;
-    if (!read_string(args[0], platform, NOWHERE, &of)) return NULL;
-    WRITE(out, 4 * of.len + 3, 1, status, call(of.at, of.len, out.at, out.room, &out.count, &index));
-    PyObject *it = status == OSB_HAS_NUL  ? refuse_at(status, &of, index, NOWHERE, 0)
-                   : status == OSB_FAULTY ? refuse(status, NULL, index_in(&of, index), NOWHERE, 0, NOWHERE)
-                                          : result_of(status, &out, of.is_text || platform != OSB_UNIX, platform);
-    return ended(&out, &of, NULL, it);
+    frame it;
+    begin(&it);
+    if (!read_string(args[0], platform, NOWHERE, &it.a)) return NULL;
+    WRITE(it, 4 * it.a.len + 3, 1, call(it.a.at, it.a.len, it.at, it.room, &it.count, &it.index));
+    return written(&it, it.a.is_text || platform != OSB_UNIX, platform);
 }
 
 /* A path that is built of one: (path, platform). */
 typedef osb_status one_call(osb_platform, const char *, size_t, char *, size_t, size_t *);
 static PyObject *of_one(arguments args, one_call *call) {
-    string of;
-    written out;
-    osb_platform platform;
-    osb_status status;
-    if (!read_one(args, &platform, &of)) return NULL;
-    WRITE(out, of.len + 4, 1, status, call(platform, of.at, of.len, out.at, out.room, &out.count));
-    return ended(&out, &of, NULL, result_of(status, &out, of.is_text, platform));
+    frame it;
+    if (!read_one(&it, args)) return NULL;
+    WRITE(it, it.a.len + 4, 1, call(it.platform, it.a.at, it.a.len, it.at, it.room, &it.count));
+    return written(&it, it.a.is_text, it.platform);
 }
 
 /* One that is built of two: (path, path, platform). */
 typedef osb_status two_call(osb_platform, const char *, size_t, const char *, size_t, char *, size_t, size_t *);
 static PyObject *of_two(arguments args, two_call *call) {
-    string a, b;
-    written out;
-    osb_platform platform;
-    osb_status status;
-    if (!read_two(args, &platform, &a, &b)) return NULL;
-    WRITE(out, a.len + b.len + 4, 1, status, call(platform, a.at, a.len, b.at, b.len, out.at, out.room, &out.count));
-    return ended(&out, &a, &b, result_of(status, &out, a.is_text, platform));
+    frame it;
+    if (!read_two(&it, args)) return NULL;
+    WRITE(it, it.a.len + it.b.len + 4, 1, call(it.platform, it.a.at, it.a.len, it.b.at, it.b.len, it.at, it.room, &it.count));
+    return written(&it, it.a.is_text, it.platform);
 }
 
 /* A path below a base: (base, path, platform). */
 static PyObject *below(arguments args) {
-    string a, b;
-    written out;
-    osb_platform platform;
-    osb_status status;
-    osb_join_fault fault = {0, 0};
-    if (!read_two(args, &platform, &a, &b)) return NULL;
-    WRITE(out, a.len + b.len + 4, 1, status,
-          osb_path_join_checked(platform, a.at, a.len, b.at, b.len, out.at, out.room, &out.count, &fault));
-    /* The index is that of a NUL, or else the number of a component. */
-    const string number = {.is_text = 0}, *of = &number;
-    if (fault.reason == OSB_JOIN_NUL) of = &b;
-    if (fault.reason == OSB_JOIN_BASE_NUL) of = &a;
-    PyObject *it = status == OSB_BAD_PATH ? refuse_at(status, of, fault.index, NOWHERE, fault.reason)
-                                          : result_of(status, &out, a.is_text, platform);
-    return ended(&out, &a, &b, it);
+    frame it;
+    osb_join_fault fault;
+    if (!read_two(&it, args)) return NULL;
+    WRITE(it, it.a.len + it.b.len + 4, 1,
+          osb_path_join_checked(it.platform, it.a.at, it.a.len, it.b.at, it.b.len, it.at, it.room, &it.count, &fault));
+    if (it.status != OSB_BAD_PATH) return written(&it, it.a.is_text, it.platform);
+    /* the index of a NUL, or the number of a component */
+    const string number = {.is_text = 0};
+    const string *of = fault.reason == OSB_JOIN_NUL ? &it.b : fault.reason == OSB_JOIN_BASE_NUL ? &it.a : &number;
+    return ended(&it, refuse_at(it.status, of, fault.index, NOWHERE, fault.reason));
 }
 
 /* A path of another platform: (path, platform, to). */
 static PyObject *converted(arguments args) {
-    string of;
-    written out;
-    osb_platform platform, to;
-    osb_status status;
-    osb_fault fault;
-    size_t index = 0;
-    if (!read_platform(args[2], &to) || !read_one(args, &platform, &of)) return NULL;
-    WRITE(out, of.len + 4, 1, status,
-          osb_path_convert(platform, to, of.at, of.len, out.at, out.room, &out.count, &index, &fault));
-    PyObject *it = status == OSB_FAULTY     ? refuse_fault(&fault, &of, NOWHERE)
-                   : status == OSB_BAD_PATH ? refuse(status, osb_status_text(status), (Py_ssize_t)index, NOWHERE, 0, NOWHERE)
-                                            : result_of(status, &out, of.is_text, to);
-    return ended(&out, &of, NULL, it);
+    frame it;
+    osb_platform to;
+    if (!read_platform(args[2], &to) || !read_one(&it, args)) return NULL;
+    WRITE(it, it.a.len + 4, 1,
+          osb_path_convert(it.platform, to, it.a.at, it.a.len, it.at, it.room, &it.count, &it.index, &it.fault));
+    if (it.status != OSB_BAD_PATH) return written(&it, it.a.is_text, to);
+    return ended(&it, refuse(it.status, osb_status_text(it.status), (Py_ssize_t)it.index, NOWHERE, 0, NOWHERE));
 }
 
-static PyObject *of_view(osb_status status, osb_view view, const string *of) {
-    if (status == OSB_NONE) Py_RETURN_NONE;
-    return status == OSB_OK ? made(view.at, view.len, of->is_text, of->platform) : refuse_plainly(status);
+static PyObject *of_view(frame *it, osb_view view) {
+    return ended(it, it->status == OSB_OK ? made(view.at, view.len, it->a.is_text, it->platform) : refused(it));
 }
 
 /* A part of a path: (path, platform). */
 typedef osb_status part_call(osb_platform, const char *, size_t, osb_view *);
 static PyObject *part(arguments args, part_call *call) {
-    string of;
-    osb_platform platform;
+    frame it;
     osb_view view = {NULL, 0};
-    if (!read_one(args, &platform, &of)) return NULL;
-    osb_status status = call(platform, of.at, of.len, &view);
-    return ended(NULL, &of, NULL, of_view(status, view, &of));
+    if (!read_one(&it, args)) return NULL;
+    it.status = call(it.platform, it.a.at, it.a.len, &view);
+    return of_view(&it, view);
 }
 
 /* What follows a base: (path, base, platform). */
 static PyObject *rest(arguments args) {
-    string a, b;
-    osb_platform platform;
+    frame it;
     osb_view view = {NULL, 0};
-    if (!read_two(args, &platform, &a, &b)) return NULL;
-    osb_status status = osb_path_strip_prefix(platform, a.at, a.len, b.at, b.len, &view);
-    return ended(NULL, &a, &b, of_view(status, view, &a));
+    if (!read_two(&it, args)) return NULL;
+    it.status = osb_path_strip_prefix(it.platform, it.a.at, it.a.len, it.b.at, it.b.len, &view);
+    return of_view(&it, view);
 }
 
 static PyObject *of_test(int answer) {
@@ -402,84 +385,72 @@ static PyObject *of_test(int answer) {
 /* A test of a path: (path, platform). */
 typedef int holds_call(osb_platform, const char *, size_t);
 static PyObject *holds(arguments args, holds_call *call) {
-    string of;
-    osb_platform platform;
-    if (!read_one(args, &platform, &of)) return NULL;
-    return ended(NULL, &of, NULL, of_test(call(platform, of.at, of.len)));
+    frame it;
+    return read_one(&it, args) ? ended(&it, of_test(call(it.platform, it.a.at, it.a.len))) : NULL;
 }
 
 /* A comparison of two strings: (string, string, platform). */
 typedef int compared_call(osb_platform, const char *, size_t, const char *, size_t);
 static PyObject *compared(arguments args, compared_call *call) {
-    string a, b;
-    osb_platform platform;
-    if (!read_two(args, &platform, &a, &b)) return NULL;
-    return ended(NULL, &a, &b, of_test(call(platform, a.at, a.len, b.at, b.len)));
+    frame it;
+    if (!read_two(&it, args)) return NULL;
+    return ended(&it, of_test(call(it.platform, it.a.at, it.a.len, it.b.at, it.b.len)));
 }
 
 /* Whether bytes are a string of the platform, or None and else an exception: (bytes, platform). */
 static PyObject *checked(arguments args, int is_test) {
-    string of;
-    osb_platform platform;
-    osb_fault fault;
-    if (!read_platform(args[1], &platform) || !read_bytes(args[0], &of)) return NULL;
-    osb_status status = osb_check(platform, of.at, of.len, &fault);
-    PyObject *it = is_test && (status == OSB_OK || status == OSB_FAULTY) ? PyBool_FromLong(status == OSB_OK)
-                   : status == OSB_FAULTY                                ? refuse_fault(&fault, &of, NOWHERE)
-                   : status == OSB_OK                                    ? Py_BuildValue("")
-                                                                         : refuse_plainly(status);
-    return ended(NULL, &of, NULL, it);
+    frame it;
+    begin(&it);
+    if (!read_platform(args[1], &it.platform) || !read_bytes(args[0], &it.a)) return NULL;
+    it.status = osb_check(it.platform, it.a.at, it.a.len, &it.fault);
+    if (is_test && (it.status == OSB_OK || it.status == OSB_FAULTY)) return ended(&it, PyBool_FromLong(it.status == OSB_OK));
+    return ended(&it, it.status == OSB_OK ? Py_BuildValue("") : refused(&it));
 }
 
 /* The bytes of a string, or the str that Python makes of it: (string, platform). */
 static PyObject *coded(arguments args, int is_text) {
-    string of;
-    osb_platform platform;
-    if (!read_one(args, &platform, &of)) return NULL;
-    if (is_text ? PyUnicode_Check(of.kept) : PyBytes_Check(of.kept)) return of.kept;
-    return ended(NULL, &of, NULL, made(of.at, of.len, is_text, platform));
+    frame it;
+    if (!read_one(&it, args)) return NULL;
+    if (is_text ? PyUnicode_Check(it.a.kept) : PyBytes_Check(it.a.kept)) return it.a.kept;
+    return ended(&it, made(it.a.at, it.a.len, is_text, it.platform));
 }
 
 /* Where a text is in bytes, or -1: (bytes, text). */
 typedef osb_status place_call(const char *, size_t, const char *, size_t, size_t *);
 static PyObject *place(arguments args, place_call *call) {
-    string of, pattern;
-    size_t index = 0;
-    if (!read_searched(args, &of, &pattern)) return NULL;
-    osb_status status = call(of.at, of.len, pattern.at, pattern.len, &index);
-    PyObject *it = status == OSB_NONE ? PyLong_FromLong(-1)
-                   : status == OSB_OK ? PyLong_FromSize_t(index)
-                                      : refuse_pattern(status, &pattern, status);
-    return ended(NULL, &of, &pattern, it);
+    frame it;
+    if (!read_searched(&it, args)) return NULL;
+    it.status = call(it.a.at, it.a.len, it.b.at, it.b.len, &it.index);
+    if (it.status == OSB_NONE) return ended(&it, PyLong_FromLong(-1));
+    return ended(&it, it.status == OSB_OK ? PyLong_FromSize_t(it.index) : refuse_pattern(it.status, &it.b, it.status));
 }
 
 static PyObject *contained(arguments args) {
-    string of, pattern;
-    if (!read_searched(args, &of, &pattern)) return NULL;
-    int answer = osb_contains(of.at, of.len, pattern.at, pattern.len);
-    PyObject *it = answer < 0 ? refuse_pattern((osb_status)-answer, &pattern, (osb_status)-answer) : PyBool_FromLong(answer);
-    return ended(NULL, &of, &pattern, it);
+    frame it;
+    if (!read_searched(&it, args)) return NULL;
+    int answer = osb_contains(it.a.at, it.a.len, it.b.at, it.b.len);
+    it.status = (osb_status)(answer < 0 ? -answer : OSB_OK);
+    return ended(&it, it.status == OSB_OK ? PyBool_FromLong(answer) : refuse_pattern(it.status, &it.b, it.status));
 }
 
 static PyObject *ordered(arguments args) {
-    string a, b = {.kept = NULL};
+    frame it;
     int32_t order = 0;
-    PyObject *it = NULL;
-    if (read_bytes(args[0], &a) && read_bytes(args[1], &b)) {
-        osb_status status = osb_compare(a.at, a.len, b.at, b.len, &order);
-        it = status == OSB_OK ? PyLong_FromLong(order) : refuse_plainly(status);
-    }
-    return ended(NULL, &a, &b, it);
+    begin(&it);
+    if (!read_bytes(args[0], &it.a) || !read_bytes(args[1], &it.b)) return ended(&it, NULL);
+    it.status = osb_compare(it.a.at, it.a.len, it.b.at, it.b.len, &order);
+    return ended(&it, it.status == OSB_OK ? PyLong_FromLong(order) : refused(&it));
 }
 
 /* Whether bytes may be cut at an index: (bytes, index). */
 static PyObject *boundary(arguments args) {
-    string of;
-    if (!read_bytes(args[0], &of)) return NULL;
-    if (!PyLong_Check(args[1])) return ended(NULL, &of, NULL, wrong_type("int", args[1]));
-    size_t index = PyLong_AsSize_t(args[1]);
+    frame it;
+    begin(&it);
+    if (!read_bytes(args[0], &it.a)) return NULL;
+    if (!PyLong_Check(args[1])) return ended(&it, wrong_type("int", args[1]));
+    it.index = PyLong_AsSize_t(args[1]);
     PyErr_Clear();
-    return ended(NULL, &of, NULL, of_test(index <= of.len ? osb_is_boundary(of.at, of.len, index) : 0));
+    return ended(&it, of_test(it.index <= it.a.len ? osb_is_boundary(it.a.at, it.a.len, it.index) : 0));
 }
 
 /* Puts a new item into a list, which is gone if there is none. */
@@ -499,32 +470,31 @@ static int append(PyObject *list, PyObject *item) {
 typedef osb_status split_call(osb_split *, const char *, size_t, const char *, size_t);
 typedef osb_status fill_call(osb_split *, osb_view *, size_t, size_t *);
 static PyObject *pieces(arguments args, split_call *start, fill_call *fill, int is_from_end) {
-    string of, pattern;
+    frame it;
     osb_split split;
     osb_view views[BATCH];
-    size_t count = 0;
     int overflow = 0;
-    if (!read_searched(args, &of, &pattern)) return NULL;
-    if (!PyLong_Check(args[2])) return ended(NULL, &of, &pattern, wrong_type("int", args[2]));
+    if (!read_searched(&it, args)) return NULL;
+    if (!PyLong_Check(args[2])) return ended(&it, wrong_type("int", args[2]));
     long long left = PyLong_AsLongLongAndOverflow(args[2], &overflow);
     int is_limited = overflow == 0 && left >= 0, is_last = 0;
-    osb_status status = start(&split, of.at, of.len, pattern.at, pattern.len);
-    if (status != OSB_OK) return ended(NULL, &of, &pattern, refuse_pattern(status, &pattern, status));
+    it.status = start(&split, it.a.at, it.a.len, it.b.at, it.b.len);
+    if (it.status != OSB_OK) return ended(&it, refuse_pattern(it.status, &it.b, it.status));
     PyObject *list = PyList_New(0);
     int is_right = list != NULL;
     size_t room = is_limited && left < BATCH ? (size_t)left + 1 : BATCH;
-    while (is_right && !is_last && (status = fill(&split, views, room, &count)) == OSB_OK)
-        for (size_t it = 0; is_right && !is_last && it < count; it++) {
-            osb_view piece = views[it];
+    while (is_right && !is_last && (it.status = fill(&split, views, room, &it.count)) == OSB_OK)
+        for (size_t i = 0; is_right && !is_last && i < it.count; i++) {
+            osb_view piece = views[i];
             is_last = is_limited && left-- == 0;
-            if (is_last && is_from_end) piece = (osb_view){of.at, (size_t)(piece.at - of.at) + piece.len};
-            else if (is_last) piece.len = of.len - (size_t)(piece.at - of.at);
+            if (is_last && is_from_end) piece = (osb_view){it.a.at, (size_t)(piece.at - it.a.at) + piece.len};
+            else if (is_last) piece.len = it.a.len - (size_t)(piece.at - it.a.at);
             is_right = append(list, PyBytes_FromStringAndSize(piece.at, (Py_ssize_t)piece.len));
         }
-    if (is_right && !is_last && status != OSB_ENDED) is_right = refuse_plainly(status) != NULL;
+    if (is_right && !is_last && it.status != OSB_ENDED) is_right = refused(&it) != NULL;
     if (is_right && is_from_end) is_right = PyList_Reverse(list) == 0;
     if (!is_right) Py_CLEAR(list);
-    return ended(NULL, &of, &pattern, list);
+    return ended(&it, list);
 }
 
 /* What is kept between calls, in a capsule of this name, and the object whose bytes it reads. */
@@ -574,25 +544,23 @@ static state *state_of(PyObject *capsule, const char *name) {
 
 /* An iterator over chunks, or over symbols: (bytes), (string, platform). */
 static PyObject *chunks_of(arguments args) {
-    string of;
+    frame it;
     state its = {.kept = NULL};
-    if (!read_bytes(args[0], &of)) return NULL;
-    osb_status status = osb_chunks_start(&its.chunks, of.at, of.len);
-    its.kept = of.kept;
-    return ended(NULL, &of, NULL, status == OSB_OK ? keep(CHUNKS, &its) : refuse_plainly(status));
+    begin(&it);
+    if (!read_bytes(args[0], &it.a)) return NULL;
+    it.status = osb_chunks_start(&its.chunks, it.a.at, it.a.len);
+    its.kept = it.a.kept;
+    return ended(&it, it.status == OSB_OK ? keep(CHUNKS, &its) : refused(&it));
 }
 
 static PyObject *symbols_of(arguments args) {
-    string of;
-    osb_fault fault;
+    frame it;
     state its = {.kept = NULL};
-    if (!read_platform(args[1], &its.platform) || !read_string(args[0], its.platform, NOWHERE, &of)) return NULL;
-    osb_status status = osb_symbols_start(&its.symbols, its.platform, of.at, of.len, &fault);
-    its.kept = of.kept;
-    PyObject *it = status == OSB_OK       ? keep(SYMBOLS, &its)
-                   : status == OSB_FAULTY ? refuse_fault(&fault, &of, NOWHERE)
-                                          : refuse_plainly(status);
-    return ended(NULL, &of, NULL, it);
+    begin(&it);
+    if (!read_platform(args[1], &it.platform) || !read_string(args[0], it.platform, NOWHERE, &it.a)) return NULL;
+    it.status = osb_symbols_start(&its.symbols, it.platform, it.a.at, it.a.len, &it.fault);
+    its.kept = it.a.kept;
+    return ended(&it, it.status == OSB_OK ? keep(SYMBOLS, &its) : refused(&it));
 }
 
 /* A list for the items that were fetched, or None after the last. */
@@ -637,54 +605,49 @@ static PyObject *checker_new(arguments args) {
     return status == OSB_OK ? keep(CHECKER, &its) : refuse_plainly(status);
 }
 
-static PyObject *fed(osb_status status, const osb_fault *fault, string *of) {
-    PyObject *it = status == OSB_OK       ? Py_BuildValue("")
-                   : status == OSB_FAULTY ? refuse_fault(fault, NULL, NOWHERE)
-                                          : refuse_plainly(status);
-    return ended(NULL, of, NULL, it);
+static PyObject *fed(osb_status status, const osb_fault *fault) {
+    if (status == OSB_OK) Py_RETURN_NONE;
+    return status == OSB_FAULTY ? refuse_fault(fault, NULL, NOWHERE) : refuse_plainly(status);
 }
 
 static PyObject *checker_feed(arguments args) {
-    string of;
-    osb_fault fault;
+    frame it;
     state *its = state_of(args[0], CHECKER);
-    if (its == NULL || !read_bytes(args[1], &of)) return NULL;
-    return fed(osb_checker_feed(&its->checker, of.at, of.len, &fault), &fault, &of);
+    begin(&it);
+    if (its == NULL || !read_bytes(args[1], &it.a)) return NULL;
+    it.status = osb_checker_feed(&its->checker, it.a.at, it.a.len, &it.fault);
+    return ended(&it, fed(it.status, &it.fault));
 }
 
 static PyObject *checker_finish(arguments args) {
     osb_fault fault;
     state *its = state_of(args[0], CHECKER);
-    return its == NULL ? NULL : fed(osb_checker_finish(&its->checker, &fault), &fault, NULL);
+    return its == NULL ? NULL : fed(osb_checker_finish(&its->checker, &fault), &fault);
 }
 
 /* Code units as numbers: (string). */
 static PyObject *units(arguments args) {
-    string of;
-    written out;
-    osb_fault fault;
-    osb_status status;
-    if (!read_string(args[0], OSB_WINDOWS, NOWHERE, &of)) return NULL;
-    WRITE(out, 2 * of.len, 2, status, osb_to_wide(of.at, of.len, (uint16_t *)out.at, out.room / 2, &out.count, &fault));
-    PyObject *list = status == OSB_FAULTY ? refuse_fault(&fault, &of, NOWHERE)
-                     : status == OSB_OK   ? PyList_New((Py_ssize_t)out.count)
-                                          : refuse_plainly(status);
-    for (size_t it = 0; list != NULL && it < out.count; it++) put(&list, it, PyLong_FromLong(((const uint16_t *)out.at)[it]));
-    return ended(&out, &of, NULL, list);
+    frame it;
+    begin(&it);
+    if (!read_string(args[0], OSB_WINDOWS, NOWHERE, &it.a)) return NULL;
+    WRITE(it, 2 * it.a.len, 2, osb_to_wide(it.a.at, it.a.len, (uint16_t *)it.at, it.room / 2, &it.count, &it.fault));
+    PyObject *list = it.status == OSB_OK ? PyList_New((Py_ssize_t)it.count) : refused(&it);
+    for (size_t i = 0; list != NULL && i < it.count; i++) put(&list, i, PyLong_FromLong(((const uint16_t *)it.at)[i]));
+    return ended(&it, list);
 }
 
 /* The bytes of code units. */
 static PyObject *of_units(const uint16_t *at, size_t len) {
-    written out;
-    osb_status status;
-    WRITE(out, 3 * len, 1, status, osb_from_wide(at, len, out.at, out.room, &out.count));
-    return ended(&out, NULL, NULL, result_of(status, &out, 0, OSB_WINDOWS));
+    frame it;
+    begin(&it);
+    WRITE(it, 3 * len, 1, osb_from_wide(at, len, it.at, it.room, &it.count));
+    return written(&it, 0, OSB_WINDOWS);
 }
 
 static PyObject *from_wide(arguments args) {
-    string of;
-    if (!read_bytes(args[0], &of)) return NULL;
-    return ended(NULL, &of, NULL, of_units((const uint16_t *)of.at, of.len / 2));
+    frame it;
+    begin(&it);
+    return read_bytes(args[0], &it.a) ? ended(&it, of_units((const uint16_t *)it.a.at, it.a.len / 2)) : NULL;
 }
 
 static PyObject *made_of_units(const uint16_t *at, size_t len, int is_text) {
@@ -749,109 +712,98 @@ static int read_list(PyObject *given, PyObject *first, osb_platform platform, li
 }
 
 /* Raises what a status means for an item of a list. */
-static PyObject *refuse_item(osb_status status, const list *of, size_t which, size_t index, const osb_fault *fault,
-                             unsigned kind) {
-    if (status != OSB_HAS_NUL && status != OSB_HAS_QUOTE && status != OSB_FAULTY && status != OSB_BAD_PATTERN)
-        return refuse_plainly(status);
-    if (which >= of->count || (status == OSB_FAULTY && fault == NULL)) return refuse_plainly(status);
-    string item = item_of(of, which);
-    if (status == OSB_FAULTY) return refuse_fault(fault, &item, (Py_ssize_t)which);
-    return refuse_at(status, &item, index, status == OSB_HAS_QUOTE ? NOWHERE : (Py_ssize_t)which, kind);
+static PyObject *refused_item(const frame *it, const list *of, size_t which, unsigned kind) {
+    string item = which < of->count ? item_of(of, which) : of->first;
+    if (it->status == OSB_FAULTY && it->fault.kind != 0) return refuse_fault(&it->fault, &item, (Py_ssize_t)which);
+    if (it->status == OSB_HAS_QUOTE) return refuse_at(it->status, &item, it->index, NOWHERE, 0);
+    if (it->status == OSB_HAS_NUL || kind != 0) return refuse_at(it->status, &item, it->index, (Py_ssize_t)which, kind);
+    return refuse_plainly(it->status);
 }
 
 /* A line of names: (names). */
 static PyObject *joined(arguments args) {
+    frame it;
     list names;
-    written out;
-    osb_status status;
-    size_t which = 0, index = 0;
+    size_t which = 0;
+    begin(&it);
     if (!read_list(args[0], NULL, OSB_UNIX, &names)) return NULL;
-    WRITE(out, 4 * (names.len + names.count), 1, status,
-          osb_shell_join(names.views, names.count, out.at, out.room, &out.count, &which, &index));
-    PyObject *it = status == OSB_OK ? made(out.at, out.count, names.first.is_text, OSB_UNIX)
-                                    : refuse_item(status, &names, which, index, NULL, 0);
+    WRITE(it, 4 * (names.len + names.count), 1,
+          osb_shell_join(names.views, names.count, it.at, it.room, &it.count, &which, &it.index));
+    PyObject *line =
+        it.status == OSB_OK ? made(it.at, it.count, names.first.is_text, OSB_UNIX) : refused_item(&it, &names, which, 0);
     drop_list(&names);
-    return ended(&out, NULL, NULL, it);
+    return ended(&it, line);
 }
 
 /* A line of Windows: (program, arguments). */
 static PyObject *command_line(arguments args) {
+    frame it;
     list words;
-    written out;
-    osb_fault fault;
-    osb_status status;
-    size_t which = 0, index = 0;
+    size_t which = 0;
+    begin(&it);
     if (!read_list(args[1], args[0], OSB_WINDOWS, &words)) return NULL;
-    WRITE(
-        out, 4 * words.len + 6 * words.count, 2, status,
-        osb_windows_command_line(words.views, words.count, (uint16_t *)out.at, out.room / 2, &out.count, &which, &index, &fault));
-    PyObject *it = status == OSB_OK ? made_of_units((const uint16_t *)out.at, out.count, words.first.is_text)
-                                    : refuse_item(status, &words, which, index, &fault, 0);
+    WRITE(it, 4 * words.len + 6 * words.count, 2,
+          osb_windows_command_line(words.views, words.count, (uint16_t *)it.at, it.room / 2, &it.count, &which, &it.index,
+                                   &it.fault));
+    PyObject *line = it.status == OSB_OK ? made_of_units((const uint16_t *)it.at, it.count, words.first.is_text)
+                                         : refused_item(&it, &words, which, 0);
     drop_list(&words);
-    return ended(&out, NULL, NULL, it);
+    return ended(&it, line);
 }
 
 /* The words of a line of a shell, after each of which a 0 was written: (line, options). */
 static PyObject *shell_words(arguments args) {
-    string of;
-    written out;
-    osb_status status;
+    frame it;
     osb_line_fault fault;
-    if (!read_string(args[0], OSB_UNIX, NOWHERE, &of)) return NULL;
+    begin(&it);
+    if (!read_string(args[0], OSB_UNIX, NOWHERE, &it.a)) return NULL;
     uint32_t options = (uint32_t)PyLong_AsUnsignedLong(args[1]);
-    WRITE(out, of.len + 1, 1, status, osb_shell_words(options, of.at, of.len, out.at, out.room, &out.count, &fault));
-    PyObject *list = status == OSB_OK                                  ? PyList_New(0)
-                     : status == OSB_BAD_LINE || status == OSB_HAS_NUL ? refuse_at(status, &of, fault.index, NOWHERE, fault.kind)
-                                                                       : refuse_plainly(status);
-    for (size_t from = 0, to = 0; list != NULL && to < out.count; to++)
-        if (out.at[to] == 0) {
-            if (!append(list, made(out.at + from, to - from, of.is_text, OSB_UNIX))) Py_CLEAR(list);
+    WRITE(it, it.a.len + 1, 1, osb_shell_words(options, it.a.at, it.a.len, it.at, it.room, &it.count, &fault));
+    if (it.status == OSB_BAD_LINE || it.status == OSB_HAS_NUL)
+        return ended(&it, refuse_at(it.status, &it.a, fault.index, NOWHERE, fault.kind));
+    PyObject *list = it.status == OSB_OK ? PyList_New(0) : refused(&it);
+    for (size_t from = 0, to = 0; list != NULL && to < it.count; to++)
+        if (it.at[to] == 0) {
+            if (!append(list, made(it.at + from, to - from, it.a.is_text, OSB_UNIX))) Py_CLEAR(list);
             from = to + 1;
         }
-    return ended(&out, &of, NULL, list);
+    return ended(&it, list);
 }
 
-/* What is written of a string of Windows in units, as a string, or as a list of the words after each of which a 0 was written:
- * (string). */
+/* What is written in units of a string of Windows: a string, or a list of words, after each of which a 0 was written: (string).
+ */
 typedef osb_status wide_call(const char *, size_t, uint16_t *, size_t, size_t *, size_t *, osb_fault *);
 static PyObject *wide(arguments args, wide_call *call, int is_list) {
-    string of;
-    written out;
-    osb_fault fault;
-    osb_status status;
-    size_t index = 0;
-    if (!read_valid(args[0], OSB_WINDOWS, NOWHERE, &of)) return NULL;
-    WRITE(out, 4 * of.len + 4, 2, status, call(of.at, of.len, (uint16_t *)out.at, out.room / 2, &out.count, &index, &fault));
-    const uint16_t *at = (const uint16_t *)out.at;
-    PyObject *it = status == OSB_HAS_NUL  ? refuse_at(status, &of, index, NOWHERE, 0)
-                   : status == OSB_FAULTY ? refuse_fault(&fault, &of, NOWHERE)
-                   : status != OSB_OK     ? refuse_plainly(status)
-                   : is_list              ? PyList_New(0)
-                                          : made_of_units(at, out.count, of.is_text);
-    for (size_t from = 0, to = 0; is_list && it != NULL && to < out.count; to++)
+    frame it;
+    begin(&it);
+    if (!read_valid(args[0], OSB_WINDOWS, NOWHERE, &it.a)) return NULL;
+    WRITE(it, 4 * it.a.len + 4, 2, call(it.a.at, it.a.len, (uint16_t *)it.at, it.room / 2, &it.count, &it.index, &it.fault));
+    const uint16_t *at = (const uint16_t *)it.at;
+    if (it.status != OSB_OK) return ended(&it, refused(&it));
+    if (!is_list) return ended(&it, made_of_units(at, it.count, it.a.is_text));
+    PyObject *list = PyList_New(0);
+    for (size_t from = 0, to = 0; list != NULL && to < it.count; to++)
         if (at[to] == 0) {
-            if (!append(it, made_of_units(at + from, to - from, of.is_text))) Py_CLEAR(it);
+            if (!append(list, made_of_units(at + from, to - from, it.a.is_text))) Py_CLEAR(list);
             from = to + 1;
         }
-    return ended(&out, &of, NULL, it);
+    return ended(&it, list);
 }
 
 /* The kind and the text of each component, one after the other: (path, platform). */
 static PyObject *components(arguments args) {
-    string of;
-    written out;
-    osb_platform platform;
-    osb_status status;
-    if (!read_one(args, &platform, &of)) return NULL;
-    WRITE(out, (of.len / 2 + 3) * sizeof(osb_component), sizeof(osb_component), status,
-          osb_path_components(platform, of.at, of.len, (osb_component *)out.at, out.room / sizeof(osb_component), &out.count));
-    PyObject *list = status == OSB_OK ? PyList_New(2 * (Py_ssize_t)out.count) : refuse_plainly(status);
-    for (size_t it = 0; list != NULL && it < out.count; it++) {
-        osb_component its = ((const osb_component *)out.at)[it];
-        put(&list, 2 * it, PyLong_FromLong((long)its.kind));
-        if (list != NULL) put(&list, 2 * it + 1, made(of.at + its.start, its.end - its.start, of.is_text, platform));
+    frame it;
+    const size_t size = sizeof(osb_component);
+    if (!read_one(&it, args)) return NULL;
+    WRITE(it, (it.a.len / 2 + 3) * size, size,
+          osb_path_components(it.platform, it.a.at, it.a.len, (osb_component *)it.at, it.room / size, &it.count));
+    PyObject *list = it.status == OSB_OK ? PyList_New(2 * (Py_ssize_t)it.count) : refused(&it);
+    for (size_t i = 0; list != NULL && i < it.count; i++) {
+        osb_component its = ((const osb_component *)it.at)[i];
+        put(&list, 2 * i, PyLong_FromLong((long)its.kind));
+        if (list != NULL) put(&list, 2 * i + 1, made(it.a.at + its.start, its.end - its.start, it.a.is_text, it.platform));
     }
-    return ended(&out, &of, NULL, list);
+    return ended(&it, list);
 }
 
 /* Whether a string has no NUL. Else it is an error. */
@@ -872,21 +824,22 @@ static int are_without_nul(const list *of) {
 
 /* A set of patterns, and their bytes: (patterns, flags, platform). */
 static PyObject *globs_new(arguments args) {
+    frame it;
     list patterns;
     state its = {.kept = NULL};
-    osb_glob_fault fault;
+    osb_glob_fault fault = {0, 0, (osb_glob_fault_kind)0};
+    begin(&it);
     if (!read_platform(args[2], &its.platform) || !read_list(args[0], NULL, its.platform, &patterns)) return NULL;
     PyObject *set = NULL, *raw = NULL;
     if (are_without_nul(&patterns)) {
-        osb_status status = osb_globs_new(its.platform, (uint32_t)PyLong_AsUnsignedLong(args[1]), patterns.views, patterns.count,
-                                          &its.globs, &fault);
-        set = status == OSB_OK            ? keep(GLOBS, &its)
-              : status == OSB_BAD_PATTERN ? refuse_item(status, &patterns, fault.which, fault.index, NULL, fault.kind)
-                                          : refuse_plainly(status);
+        uint32_t flags = (uint32_t)PyLong_AsUnsignedLong(args[1]);
+        it.status = osb_globs_new(its.platform, flags, patterns.views, patterns.count, &its.globs, &fault);
+        it.index = fault.index;
+        set = it.status == OSB_OK ? keep(GLOBS, &its) : refused_item(&it, &patterns, fault.which, fault.kind);
     }
     if (set != NULL) raw = PyList_New((Py_ssize_t)patterns.count);
-    for (size_t it = 0; raw != NULL && it < patterns.count; it++)
-        put(&raw, it, made(patterns.views[it].at, patterns.views[it].len, 0, its.platform));
+    for (size_t i = 0; raw != NULL && i < patterns.count; i++)
+        put(&raw, i, made(patterns.views[i].at, patterns.views[i].len, 0, its.platform));
     drop_list(&patterns);
     PyObject *both = raw == NULL ? NULL : Py_BuildValue("(OO)", set, raw);
     Py_XDECREF(set);
@@ -896,13 +849,14 @@ static PyObject *globs_new(arguments args) {
 
 /* Whether a path matches: (set, path). */
 static PyObject *globs_is_match(arguments args) {
-    string of;
+    frame it;
     int answer;
     state *its = state_of(args[0], GLOBS);
-    if (its == NULL || !read_valid(args[1], its->platform, NOWHERE, &of)) return NULL;
-    if (!is_without_nul(&of, NOWHERE)) return ended(NULL, &of, NULL, NULL);
-    UNLOCKED(of.len > LONG, answer = osb_globs_is_match(its->globs, of.at, of.len));
-    return ended(NULL, &of, NULL, of_test(answer));
+    begin(&it);
+    if (its == NULL || !read_valid(args[1], its->platform, NOWHERE, &it.a)) return NULL;
+    if (!is_without_nul(&it.a, NOWHERE)) return ended(&it, NULL);
+    UNLOCKED(it.a.len > LONG, answer = osb_globs_is_match(its->globs, it.a.at, it.a.len));
+    return ended(&it, of_test(answer));
 }
 
 /* A bool for each path: (set, paths). */
@@ -941,16 +895,15 @@ static osb_view from_top(osb_view path) {
 
 /* Adds the content of a file, and returns it and its directory in bytes: (files, text, directory). */
 static PyObject *ignores_add(arguments args) {
-    string file, directory;
+    frame it;
     state *its = state_of(args[0], IGNORES);
-    if (its == NULL || !read_string(args[1], OSB_UNIX, NOWHERE, &file)) return NULL;
-    if (!read_string(args[2], OSB_UNIX, NOWHERE, &directory)) return ended(NULL, &file, NULL, NULL);
-    if (!is_without_nul(&directory, NOWHERE)) return ended(NULL, &file, &directory, NULL);
-    osb_view place = from_top((osb_view){directory.at, directory.len});
-    osb_status status = osb_ignores_add(its->ignores, place.at, place.len, file.at, file.len);
-    PyObject *it = status == OSB_OK ? Py_BuildValue("y#y#", file.at, (Py_ssize_t)file.len, place.at, (Py_ssize_t)place.len)
-                                    : refuse_plainly(status);
-    return ended(NULL, &file, &directory, it);
+    begin(&it);
+    if (its == NULL || !read_string(args[1], OSB_UNIX, NOWHERE, &it.a)) return NULL;
+    if (!read_string(args[2], OSB_UNIX, NOWHERE, &it.b) || !is_without_nul(&it.b, NOWHERE)) return ended(&it, NULL);
+    osb_view place = from_top((osb_view){it.b.at, it.b.len});
+    it.status = osb_ignores_add(its->ignores, place.at, place.len, it.a.at, it.a.len);
+    if (it.status != OSB_OK) return ended(&it, refused(&it));
+    return ended(&it, Py_BuildValue("y#y#", it.a.at, (Py_ssize_t)it.a.len, place.at, (Py_ssize_t)place.len));
 }
 
 /* A path is a directory, too, if it ends with a /. */
@@ -967,15 +920,15 @@ static PyObject *verdict(osb_status status, const osb_decision *told) {
 
 /* Whether a path is ignored, or its verdict: (files, path, is_dir). */
 static PyObject *decided(arguments args, int is_test) {
-    string of;
+    frame it;
     osb_decision told;
     state *its = state_of(args[0], IGNORES);
     int is_dir = PyObject_IsTrue(args[2]);
-    if (its == NULL || is_dir < 0 || !read_string(args[1], OSB_UNIX, NOWHERE, &of)) return NULL;
-    if (!is_without_nul(&of, NOWHERE)) return ended(NULL, &of, NULL, NULL);
-    osb_status status = decide(its, (osb_view){of.at, of.len}, is_dir, &told);
-    return ended(NULL, &of, NULL,
-                 is_test && status == OSB_OK ? PyBool_FromLong(told.kind == OSB_IGNORED) : verdict(status, &told));
+    begin(&it);
+    if (its == NULL || is_dir < 0 || !read_string(args[1], OSB_UNIX, NOWHERE, &it.a)) return NULL;
+    if (!is_without_nul(&it.a, NOWHERE)) return ended(&it, NULL);
+    it.status = decide(its, (osb_view){it.a.at, it.a.len}, is_dir, &told);
+    return ended(&it, is_test && it.status == OSB_OK ? PyBool_FromLong(told.kind == OSB_IGNORED) : verdict(it.status, &told));
 }
 
 /* The verdict on each path, as a tuple: (files, paths). */
@@ -1037,8 +990,8 @@ static PyObject *option_value(arguments args, value_call *call) {
     state *its = state_of(args[0], OPTIONS);
     if (its == NULL) return NULL;
     osb_status status = call(&its->options, &view);
-    const string of = {.is_text = its->is_text, .platform = its->platform};
-    return of_view(status, view, &of);
+    if (status == OSB_NONE) Py_RETURN_NONE;
+    return status == OSB_OK ? made(view.at, view.len, its->is_text, its->platform) : refuse_plainly(status);
 }
 
 static PyObject *version(arguments args) {

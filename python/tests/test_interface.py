@@ -517,6 +517,8 @@ class Paths(unittest.TestCase):
                 own = of(pattern)
                 if own.anchor or not own.parts or str(own) != str(python(pattern)):
                     continue
+                if "**" in pattern and sys.version_info[:2] == (3, 12):
+                    continue  # `match` reads it otherwise there
                 if not wanted.anchor or len(own.parts) < len(path.parts):
                     self.assertEqual(path.match(pattern), wanted.match(pattern), (text, pattern))
                 if path.parts and not wanted.anchor and hasattr(wanted, "full_match"):
