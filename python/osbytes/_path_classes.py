@@ -11,7 +11,7 @@ from . import _core
 from ._calls import decode, encode
 from ._errors import ExtensionError, JoinError, JoinReason, OsBytesError
 from ._globs import Glob, GlobFlag
-from ._path_building import path_convert, path_join, path_join_checked, path_relative
+from ._path_building import path_convert, path_join_checked, path_relative
 from ._paths import (
     Kind,
     path_components,
@@ -30,7 +30,7 @@ __all__ = [
 
 _BAD_EXTENSION = 23
 # The kinds as the module gives them.
-_PREFIX, _ROOT, _CURRENT, _NAME = map(int, (Kind.PREFIX, Kind.ROOT, Kind.CURRENT, Kind.NAME))
+_PREFIX, _ROOT, _CURRENT = map(int, (Kind.PREFIX, Kind.ROOT, Kind.CURRENT))
 
 P = TypeVar("P", bound="OsPath")
 Q = TypeVar("Q", bound="OsPath")
@@ -60,34 +60,31 @@ class OsPath:
         text = ""
         for segment in segments:
             read = cls._read(segment)
-            text = path_join(text, read, cls.platform) if text else read
+            text = _core.path_join(text, read, cls.platform) if text else read
         return cls._made(text)
 
     @classmethod
     def _read(cls, segment: AnyOsName) -> str:
         if isinstance(segment, OsPath) and segment.platform != cls.platform:
             raise TypeError(f"expected a path of {cls.platform.name.title()}, not {type(segment).__name__}")
-        return decode(segment, cls.platform)
+        text: str = _core.decode(segment, cls.platform)
+        return text
 
     @classmethod
     def _made(cls: type[P], text: str) -> P:
         """Returns the path of a text: its components, with one separator between them."""
-        drive, root, is_current = "", "", False
-        names: list[str] = []
-        fields = iter(_core.path_components(text, cls.platform))
-        for kind, part in zip(fields, fields):
-            if kind == _NAME:
-                names.append(part)
-            elif kind == _PREFIX:
-                drive = part if part.startswith("\\\\?\\") else part.replace("/", "\\")
-            elif kind == _ROOT:
-                root = cls._separator
-            elif kind == _CURRENT and not drive:
-                is_current = True
-            else:
-                names.append(part)
+        fields = _core.path_components(text, cls.platform)
+        drive, root, is_current, first = "", "", False, 0
+        # a prefix, a root and a dot come before the names, each at most once
+        if fields and fields[0] == _PREFIX:
+            drive, first = fields[1] if fields[1].startswith("\\\\?\\") else fields[1].replace("/", "\\"), 2
+        if fields[first : first + 1] == [_ROOT]:
+            root, first = cls._separator, first + 2
+        elif not drive and fields[:1] == [_CURRENT]:
+            is_current, first = True, 2
+        names = tuple(fields[first + 1 :: 2])
         path = object.__new__(cls)
-        path._drive, path._root, path._names = drive, root, tuple(names)
+        path._drive, path._root, path._names = drive, root, names
         text = drive + root + cls._separator.join(names)
         if cls.platform is WINDOWS and not drive and not root and path_prefix(text, WINDOWS) is not None:
             # a first name such as `C:` would be a drive
@@ -249,7 +246,7 @@ class OsPath:
         """Returns the path of this one and these segments, as `/` does."""
         text = self._text
         for segment in segments:
-            text = path_join(text, self._read(segment), self.platform)
+            text = _core.path_join(text, self._read(segment), self.platform)
         return self._made(text)
 
     def joinpath_checked(self: P, path: AnyOsName) -> P:
