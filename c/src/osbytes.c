@@ -106,34 +106,34 @@ _Static_assert(sizeof(osb_option) == 24 && offsetof(osb_option, text) == 8, "osb
     each(uint32_t, feed, (struct core_open *opened, const char *at, size_t len, osb_fault *fault)) \
     each(uint32_t, finish, (const struct core_open *opened, osb_fault *fault)) \
     each(uint32_t, fault_text, (const osb_fault *fault, char *out, size_t room, size_t *count)) \
-    each(uint32_t, to_wide, (const char *at, size_t len, uint16_t *out, size_t room, size_t \
-        *count, osb_fault *fault)) \
-    each(uint32_t, from_wide, (const uint16_t *at, size_t len, char *out, size_t room, size_t \
-        *count)) \
+    each(uint32_t, to_wide, (const char *at, size_t len, uint16_t *out, size_t room, \
+        size_t *count, osb_fault *fault)) \
+    each(uint32_t, from_wide, (const uint16_t *at, size_t len, char *out, size_t room, \
+        size_t *count)) \
     each(uint32_t, lossy, (uint32_t platform, const char *at, size_t len, char *out, size_t room, \
         size_t *count, osb_fault *fault)) \
     each(uint32_t, escape, (uint32_t platform, const char *at, size_t len, char *out, size_t room, \
         size_t *count, osb_fault *fault)) \
-    each(uint32_t, escape_line, (uint32_t platform, const char *at, size_t len, char *out, size_t \
-        room, size_t *count, osb_fault *fault)) \
-    each(uint32_t, unescape, (uint32_t platform, const char *escape, size_t len, char *out, size_t \
-        room, size_t *count, size_t *index)) \
+    each(uint32_t, escape_line, (uint32_t platform, const char *at, size_t len, char *out, \
+        size_t room, size_t *count, osb_fault *fault)) \
+    each(uint32_t, unescape, (uint32_t platform, const char *escape, size_t len, char *out, \
+        size_t room, size_t *count, size_t *index)) \
     each(uint32_t, unescape_line, (uint32_t platform, const char *escape, size_t len, char *out, \
         size_t room, size_t *count, size_t *index)) \
     each(uint32_t, find, (const char *at, size_t len, const char *pattern, size_t pattern_len, \
         size_t *index)) \
     each(uint32_t, rfind, (const char *at, size_t len, const char *pattern, size_t pattern_len, \
         size_t *index)) \
-    each(uint32_t, contains, (const char *at, size_t len, const char *pattern, size_t \
-        pattern_len)) \
-    each(uint32_t, starts_with, (const char *at, size_t len, const char *pattern, size_t \
-        pattern_len)) \
-    each(uint32_t, ends_with, (const char *at, size_t len, const char *pattern, size_t \
-        pattern_len)) \
-    each(uint32_t, starts_with_units, (uint32_t platform, const char *at, size_t len, const char \
-        *prefix, size_t prefix_len)) \
-    each(uint32_t, ends_with_units, (uint32_t platform, const char *at, size_t len, const char \
-        *suffix, size_t suffix_len)) \
+    each(uint32_t, contains, (const char *at, size_t len, const char *pattern, \
+        size_t pattern_len)) \
+    each(uint32_t, starts_with, (const char *at, size_t len, const char *pattern, \
+        size_t pattern_len)) \
+    each(uint32_t, ends_with, (const char *at, size_t len, const char *pattern, \
+        size_t pattern_len)) \
+    each(uint32_t, starts_with_units, (uint32_t platform, const char *at, size_t len, \
+        const char *prefix, size_t prefix_len)) \
+    each(uint32_t, ends_with_units, (uint32_t platform, const char *at, size_t len, \
+        const char *suffix, size_t suffix_len)) \
     each(uint32_t, is_boundary, (const char *at, size_t len, size_t index)) \
     each(uint32_t, compare, (const char *a, size_t a_len, const char *b, size_t b_len)) \
     each(uint32_t, cut, (const char *at, size_t len, const char *pattern, size_t pattern_len, \
@@ -141,92 +141,92 @@ _Static_assert(sizeof(osb_option) == 24 && offsetof(osb_option, text) == 8, "osb
     each(uint32_t, rcut, (const char *at, size_t len, const char *pattern, size_t pattern_len, \
         size_t to, struct core_piece *piece)) \
     each(uint32_t, chunk, (const char *at, size_t len, size_t from, struct core_ends *ends)) \
-    each(uint32_t, symbol, (uint32_t platform, const char *at, size_t len, size_t from, struct \
-        core_step *step)) \
-    each(uint32_t, path_components, (uint32_t platform, const char *at, size_t len, osb_component \
-        *out, size_t room, size_t *count)) \
-    each(uint32_t, path_parent, (uint32_t platform, const char *at, size_t len, struct core_span \
-        *span)) \
-    each(uint32_t, path_prefix, (uint32_t platform, const char *at, size_t len, struct core_span \
-        *span)) \
-    each(uint32_t, path_file_name, (uint32_t platform, const char *at, size_t len, struct \
-        core_span *span)) \
-    each(uint32_t, path_file_stem, (uint32_t platform, const char *at, size_t len, struct \
-        core_span *span)) \
-    each(uint32_t, path_extension, (uint32_t platform, const char *at, size_t len, struct \
-        core_span *span)) \
+    each(uint32_t, symbol, (uint32_t platform, const char *at, size_t len, size_t from, \
+        struct core_step *step)) \
+    each(uint32_t, path_components, (uint32_t platform, const char *at, size_t len, \
+        osb_component *out, size_t room, size_t *count)) \
+    each(uint32_t, path_parent, (uint32_t platform, const char *at, size_t len, \
+        struct core_span *span)) \
+    each(uint32_t, path_prefix, (uint32_t platform, const char *at, size_t len, \
+        struct core_span *span)) \
+    each(uint32_t, path_file_name, (uint32_t platform, const char *at, size_t len, \
+        struct core_span *span)) \
+    each(uint32_t, path_file_stem, (uint32_t platform, const char *at, size_t len, \
+        struct core_span *span)) \
+    each(uint32_t, path_extension, (uint32_t platform, const char *at, size_t len, \
+        struct core_span *span)) \
     each(uint32_t, path_has_root, (uint32_t platform, const char *at, size_t len)) \
     each(uint32_t, path_is_absolute, (uint32_t platform, const char *at, size_t len)) \
-    each(uint32_t, path_starts_with, (uint32_t platform, const char *at, size_t len, const char \
-        *base, size_t base_len)) \
-    each(uint32_t, path_ends_with, (uint32_t platform, const char *at, size_t len, const char \
-        *child, size_t child_len)) \
-    each(uint32_t, path_strip_prefix, (uint32_t platform, const char *at, size_t len, const char \
-        *base, size_t base_len, osb_view *rest)) \
-    each(uint32_t, path_join, (uint32_t platform, const char *base, size_t base_len, const char \
-        *at, size_t len, char *out, size_t room, size_t *count)) \
-    each(uint32_t, path_join_checked, (uint32_t platform, const char *base, size_t base_len, const \
-        char *at, size_t len, char *out, size_t room, size_t *count, osb_join_fault *fault)) \
-    each(uint32_t, path_relative, (uint32_t platform, const char *at, size_t len, const char \
-        *base, size_t base_len, char *out, size_t room, size_t *count)) \
+    each(uint32_t, path_starts_with, (uint32_t platform, const char *at, size_t len, \
+        const char *base, size_t base_len)) \
+    each(uint32_t, path_ends_with, (uint32_t platform, const char *at, size_t len, \
+        const char *child, size_t child_len)) \
+    each(uint32_t, path_strip_prefix, (uint32_t platform, const char *at, size_t len, \
+        const char *base, size_t base_len, osb_view *rest)) \
+    each(uint32_t, path_join, (uint32_t platform, const char *base, size_t base_len, \
+        const char *at, size_t len, char *out, size_t room, size_t *count)) \
+    each(uint32_t, path_join_checked, (uint32_t platform, const char *base, size_t base_len, \
+        const char *at, size_t len, char *out, size_t room, size_t *count, osb_join_fault *fault)) \
+    each(uint32_t, path_relative, (uint32_t platform, const char *at, size_t len, \
+        const char *base, size_t base_len, char *out, size_t room, size_t *count)) \
     each(uint32_t, path_normalize, (uint32_t platform, const char *at, size_t len, char *out, \
         size_t room, size_t *count)) \
-    each(uint32_t, path_clean, (uint32_t platform, const char *at, size_t len, char *out, size_t \
-        room, size_t *count)) \
-    each(uint32_t, path_convert, (uint32_t from, uint32_t to, const char *at, size_t len, char \
-        *out, size_t room, size_t *count, size_t *index, osb_fault *fault)) \
-    each(uint32_t, path_with_file_name, (uint32_t platform, const char *at, size_t len, const char \
-        *name, size_t name_len, char *out, size_t room, size_t *count)) \
-    each(uint32_t, path_with_extension, (uint32_t platform, const char *at, size_t len, const char \
-        *extension, size_t extension_len, char *out, size_t room, size_t *count)) \
+    each(uint32_t, path_clean, (uint32_t platform, const char *at, size_t len, char *out, \
+        size_t room, size_t *count)) \
+    each(uint32_t, path_convert, (uint32_t from, uint32_t to, const char *at, size_t len, \
+        char *out, size_t room, size_t *count, size_t *index, osb_fault *fault)) \
+    each(uint32_t, path_with_file_name, (uint32_t platform, const char *at, size_t len, \
+        const char *name, size_t name_len, char *out, size_t room, size_t *count)) \
+    each(uint32_t, path_with_extension, (uint32_t platform, const char *at, size_t len, \
+        const char *extension, size_t extension_len, char *out, size_t room, size_t *count)) \
     each(uint32_t, path_with_added_extension, (uint32_t platform, const char *at, size_t len, \
         const char *extension, size_t extension_len, char *out, size_t room, size_t *count)) \
-    each(uint32_t, shell_quote, (const char *at, size_t len, char *out, size_t room, size_t \
-        *count, size_t *index)) \
-    each(uint32_t, shell_quote_first, (const char *at, size_t len, char *out, size_t room, size_t \
-        *count, size_t *index)) \
-    each(uint32_t, shell_quote_line, (const char *at, size_t len, char *out, size_t room, size_t \
-        *count, size_t *index)) \
+    each(uint32_t, shell_quote, (const char *at, size_t len, char *out, size_t room, \
+        size_t *count, size_t *index)) \
+    each(uint32_t, shell_quote_first, (const char *at, size_t len, char *out, size_t room, \
+        size_t *count, size_t *index)) \
+    each(uint32_t, shell_quote_line, (const char *at, size_t len, char *out, size_t room, \
+        size_t *count, size_t *index)) \
     each(uint32_t, fish_quote, (const char *at, size_t len, char *out, size_t room, size_t *count, \
         size_t *index)) \
-    each(uint32_t, powershell_quote, (const char *at, size_t len, char *out, size_t room, size_t \
-        *count, size_t *index)) \
-    each(uint32_t, shell_words, (uint32_t options, const char *line, size_t len, char *out, size_t \
-        room, size_t *count, struct core_line_fault *fault)) \
-    each(uint32_t, windows_quote, (const char *at, size_t len, uint16_t *out, size_t room, size_t \
-        *count, size_t *index, osb_fault *fault)) \
+    each(uint32_t, powershell_quote, (const char *at, size_t len, char *out, size_t room, \
+        size_t *count, size_t *index)) \
+    each(uint32_t, shell_words, (uint32_t options, const char *line, size_t len, char *out, \
+        size_t room, size_t *count, struct core_line_fault *fault)) \
+    each(uint32_t, windows_quote, (const char *at, size_t len, uint16_t *out, size_t room, \
+        size_t *count, size_t *index, osb_fault *fault)) \
     each(uint32_t, windows_quote_name, (const char *at, size_t len, uint16_t *out, size_t room, \
         size_t *count, size_t *index, osb_fault *fault)) \
     each(uint32_t, windows_arguments, (const char *line, size_t len, uint16_t *out, size_t room, \
         size_t *count, size_t *index, osb_fault *fault)) \
-    each(uint32_t, option, (uint32_t options, const char *word, size_t len, struct core_option \
-        *read)) \
+    each(uint32_t, option, (uint32_t options, const char *word, size_t len, \
+        struct core_option *read)) \
     each(uint32_t, flag, (const char *word, size_t len, size_t at, struct core_option *read)) \
     each(uint32_t, glob_matches, (uint32_t platform, uint32_t options, const osb_view *patterns, \
-        size_t patterns_len, const osb_view *paths, size_t paths_len, uint8_t *matched, size_t \
-        room, size_t *count, osb_glob_fault *fault)) \
+        size_t patterns_len, const osb_view *paths, size_t paths_len, uint8_t *matched, \
+        size_t room, size_t *count, osb_glob_fault *fault)) \
     each(uint32_t, globs_new, (uint32_t platform, uint32_t options, const osb_view *patterns, \
         size_t patterns_len, struct core_held *held, osb_glob_fault *fault)) \
     each(uint32_t, globs_is_match, (struct core_held *held, const char *path, size_t len)) \
-    each(uint32_t, globs_matches, (struct core_held *held, const osb_view *paths, size_t \
-        paths_len, uint8_t *matched, size_t room, size_t *count)) \
+    each(uint32_t, globs_matches, (struct core_held *held, const osb_view *paths, \
+        size_t paths_len, uint8_t *matched, size_t room, size_t *count)) \
     each(uint32_t, globs_share, (struct core_held *held, struct core_held *other)) \
     each(uint32_t, globs_free, (struct core_held *held)) \
     each(uint32_t, ignores_new, (struct core_held *held)) \
-    each(uint32_t, ignores_add, (struct core_held *held, const char *directory, size_t \
-        directory_len, const char *file, size_t file_len)) \
-    each(uint32_t, ignores_match, (struct core_held *held, const char *path, size_t len, uint32_t \
-        is_dir, osb_decision *decision)) \
+    each(uint32_t, ignores_add, (struct core_held *held, const char *directory, \
+        size_t directory_len, const char *file, size_t file_len)) \
+    each(uint32_t, ignores_match, (struct core_held *held, const char *path, size_t len, \
+        uint32_t is_dir, osb_decision *decision)) \
     each(uint32_t, ignores_free, (struct core_held *held)) \
     each(uint32_t, ignore_matches, (const char *file, size_t file_len, const osb_view *paths, \
-        size_t paths_len, const char *dirs, size_t dirs_len, osb_verdict *out, size_t room, size_t \
-        *count)) \
-    each(uint32_t, split_fill, (const char *at, size_t len, const char *pattern, size_t \
-        pattern_len, size_t from, size_t address, osb_view *out, size_t room, struct core_filled \
-        *filled)) \
-    each(uint32_t, rsplit_fill, (const char *at, size_t len, const char *pattern, size_t \
-        pattern_len, size_t to, size_t address, osb_view *out, size_t room, struct core_filled \
-        *filled)) \
+        size_t paths_len, const char *dirs, size_t dirs_len, osb_verdict *out, size_t room, \
+        size_t *count)) \
+    each(uint32_t, split_fill, (const char *at, size_t len, const char *pattern, \
+        size_t pattern_len, size_t from, size_t address, osb_view *out, size_t room, \
+        struct core_filled *filled)) \
+    each(uint32_t, rsplit_fill, (const char *at, size_t len, const char *pattern, \
+        size_t pattern_len, size_t to, size_t address, osb_view *out, size_t room, \
+        struct core_filled *filled)) \
     each(uint32_t, chunks_fill, (const char *at, size_t len, size_t from, size_t address, \
         osb_chunk *out, size_t room, struct core_filled *filled)) \
     each(uint32_t, symbols_fill, (uint32_t platform, const char *at, size_t len, size_t from, \
