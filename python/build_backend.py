@@ -110,7 +110,8 @@ def extension(compiler: str, library: Path, source: Path = HERE / "osbytes" / "_
             taken = re.findall(r"__imp_(_?Py\w+)", ran(compiler.replace("gcc", "nm"), "-u", module))
             imported.write_text("\n".join(["LIBRARY python3.dll", "EXPORTS", *taken]), encoding="utf-8")
             ran(compiler.replace("gcc", "dlltool"), "-d", imported, "-l", imported.with_suffix(".a"))
-            linked = ["-shared", "-s", "-Wl,--no-insert-timestamp", imported.with_suffix(".a"), library]
+            # no time, and an address that isn't made of the folder's name
+            linked = ["-shared", "-s", "-Wl,--no-insert-timestamp", "-Wl,--image-base,0x190000000", imported.with_suffix(".a"), library]
         ran(compiler, module, *linked, "-o", made)
         return made.read_bytes()
 
