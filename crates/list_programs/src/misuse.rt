@@ -1,13 +1,18 @@
 //! Arguments that a program can't use.
-ghost use Rattle.std.specs.Prelude.{◌++◌, codes};
+ghost use Rattle.std.specs.Prelude.{◌≡◌, ◌++◌, codes, IfOk};
 ghost use Rattle.std.specs.Fmt.{WritesStyledOnOk};
+ghost use Rattle.std.specs.Fmt.Cut.{cut_to};
+ghost use Rattle.std.specs.Fmt.InlineText.{inline_text};
+ghost use Rattle.list_programs.specs.Misuse.{misuse_text};
 ghost use Rattle.os_args.specs.ErrorText.{shown};
 ghost use Rattle.os_str_bytes.specs.WasmPlatform.TheImpl.{ghosts as wasm};
 
 use os_args::ArgumentError;
 use os_quote::escaped_line;
 use os_str_bytes::{OsStr, Wasm, Writeable};
+use std::alloc::{AllocError, Allocator};
 use std::fmt;
+use std::fmt::InlineText;
 
 /// What is wrong with the arguments of a program.
 ///
@@ -31,9 +36,31 @@ pub enum Misuse<'a> {
     Misplaced(&'static str, &'static str),
 }
 
+/// How many bytes the text of a misuse has in a message.
+pub const ROOM: usize = 400;
+
+/// The text of a misuse as a message has it: a text longer than [`ROOM`] bytes is cut, and ends in
+/// three dots.
+///
+/// # Errors
+///
+/// `AllocError` if an allocation failed.
+///
+/// ```
+/// use list_programs::misuse::{Misuse, cut_text};
+///
+/// let text = cut_text(alloc, Misuse::Missing("BASE"))?;
+/// assert_eq!(rt; text.as_str(), "missing BASE");
+/// ```
+pub fn cut_text<A: Allocator>(alloc: A, misuse: Misuse<'_>) -> Result<InlineText<ROOM>, AllocError>
+    ensures { IfOk result (λ text. inline_text text ≡ cut_to 400 (misuse_text misuse.entry)) }
+{
+    let text = misuse.to_string(alloc)?;
+    Ok(InlineText::new().and_str(text.as_str(), ROOM))
+}
+
 impl<'a> fmt::Display for Misuse<'a> {
     ghost use Rattle.std.specs.Prelude.{Some};
-    ghost use Rattle.list_programs.specs.Misuse.{misuse_text};
 
     ghost output = { λ misuse. Some (misuse_text misuse) };
 

@@ -4,6 +4,8 @@ ghost use Rattle.std.specs.Fmt.{WritesStyledOnOk};
 
 use crate::fault::{ItemRejection, ListFault};
 use program_frame::ended::ProgramFault;
+use program_frame::fault::Failure;
+use std::alloc::AllocError;
 use std::fmt;
 use std::fmt::Display as _;
 
@@ -91,5 +93,17 @@ impl<F: ItemRejection, U: WordsRejection> ProgramFault for Fault<F, U> {
             Fault::List(fault) => fault.status(),
             Fault::Words(why) => why.status(),
         }
+    }
+}
+
+impl<F, U> From<AllocError> for Fault<F, U> {
+    ghost use Rattle.program_frame.specs.declared.fault.Failure.TheVariants.{Memory};
+    ghost use Rattle.list_programs.specs.declared.fault.ListFault.TheVariants.{Run};
+    ghost use Rattle.list_programs.specs.declared.program_fault.Fault.TheVariants.{List as OfList};
+
+    ghost from_gives = { λ _ fault. fault ≡ OfList (Run Memory) };
+
+    fn from(_error: AllocError) -> Fault<F, U> {
+        Fault::List(ListFault::Run(Failure::Memory))
     }
 }

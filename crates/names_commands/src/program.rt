@@ -98,7 +98,8 @@ impl<F: Files> Program for Names<F> {
         match read_arguments::<NamesOption, A>(alloc, words) {
             Ok(given) => run_line(alloc, &self.files, &given, reader, writer),
             Err(ReadFault::Misuse(error)) => {
-                Err(Fault::Words(CommandFault::of(Misuse::Argument(error))))
+                let misuse = Misuse::Argument(error);
+                Err(Fault::Words(CommandFault::of(alloc, misuse)?))
             }
             Err(ReadFault::Memory) => Err(Fault::List(ListFault::Run(Failure::Memory))),
         }
@@ -122,7 +123,7 @@ fn run_line<F: Files, A: Allocator + Copy, R: Read, W: Write>(
 {
     match Request::parse(alloc, given) {
         Ok(request) => run_request(alloc, files, &request, reader, writer),
-        Err(RequestError::Misuse(misuse)) => Err(Fault::Words(CommandFault::of(misuse))),
+        Err(RequestError::Misuse(misuse)) => Err(Fault::Words(CommandFault::of(alloc, misuse)?)),
         Err(RequestError::Memory) => Err(Fault::List(ListFault::Run(Failure::Memory))),
     }
 }
