@@ -1,7 +1,7 @@
 -- What `join` gives back of the names that `list` was given.
 use Rattle.std.specs.Prelude.{◌≡◌, ◌⊎◌, ℕ, List, [], ◌∷◌, ◌++◌}
-use Rattle.program_frame.specs.declared.lists.options.LastItem.{LastItem}
-use Rattle.program_frame.specs.declared.lists.options.ListOptions.{ListOptions}
+use Rattle.list_programs.specs.declared.options.LastItem.{LastItem}
+use Rattle.list_programs.specs.declared.options.ListOptions.{ListOptions}
 use Rattle.names_commands.specs.declared.task.Task.TheVariants.{ListAll, ListWords, Join, JoinWords}
 use Rattle.names_commands.specs.declared.task.EmptyLine.{EmptyLine}
 use Rattle.names_commands.specs.declared.task.EmptyLine.TheVariants.{IsRejected, IsEmptyName}

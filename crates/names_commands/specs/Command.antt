@@ -8,14 +8,14 @@ use Rattle.os_args.specs.Views.{fault_of}
 use Rattle.os_args.specs.Word.{Value}
 use Rattle.wildcards.specs.declared.separators.Separators.{Separators}
 use Rattle.wildcards.specs.declared.separators.Separators.TheVariants.{Slash, SlashAndBackslash}
-use Rattle.program_frame.specs.Arguments.{AreValues, HasOption, LastValue, operands_of, text_of}
-use Rattle.program_frame.specs.ListOptions.{AreStated}
+use Rattle.list_programs.specs.Arguments.{AreValues, HasOption, LastValue, operands_of, text_of}
+use Rattle.list_programs.specs.ListOptions.{AreStated}
 use Rattle.program_frame.specs.Os.{os_word}
-use Rattle.program_frame.specs.declared.arguments.Given.{Given}
-use Rattle.program_frame.specs.declared.arguments.Given.TheVariants.{Operand, Flag, Valued}
-use Rattle.program_frame.specs.declared.lists.options.ListOptions.{ListOptions}
-use Rattle.program_frame.specs.declared.misuse.Misuse.{Misuse}
-use Rattle.program_frame.specs.declared.misuse.Misuse.TheVariants.{Argument, Missing, Invalid, Misplaced}
+use Rattle.list_programs.specs.declared.arguments.Given.{Given}
+use Rattle.list_programs.specs.declared.arguments.Given.TheVariants.{Operand, Flag, Valued}
+use Rattle.list_programs.specs.declared.options.ListOptions.{ListOptions}
+use Rattle.list_programs.specs.declared.misuse.Misuse.{Misuse}
+use Rattle.list_programs.specs.declared.misuse.Misuse.TheVariants.{Argument, Missing, Invalid, Misplaced}
 use Rattle.program_frame.specs.declared.os.Os.{Os}
 use Rattle.program_frame.specs.declared.os.Os.TheVariants.{Unix, Windows, Wasm}
 use Rattle.names_commands.specs.Options.{word_of}

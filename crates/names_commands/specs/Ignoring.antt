@@ -7,7 +7,7 @@ use Rattle.os_ignore.specs.Verdicts.{IsVerdict, is_ignored}
 use Rattle.os_ignore.specs.declared.file.File.{File}
 use Rattle.os_ignore.specs.declared.verdict.Verdict.{Verdict}
 use Rattle.program_frame.specs.Files.{KnownFiles}
-use Rattle.program_frame.specs.Items.{IsCutAt, Lacks}
+use Rattle.list_programs.specs.Items.{IsCutAt, Lacks}
 
 -- the name without one `./` before it
 abbrev pub without_dot : List ℕ → List ℕ

@@ -15,11 +15,11 @@ use Rattle.glob_text.specs.Texts.{IsFault}
 use Rattle.glob_text.specs.declared.fault.PatternFault.{PatternFault}
 use Rattle.wildcards.specs.Sets.{IsHit}
 use Rattle.os_ignore.specs.declared.file.File.{File}
-use Rattle.program_frame.specs.Items.{Lacks}
-use Rattle.program_frame.specs.ListOptions.{MayLack, byte_of}
-use Rattle.program_frame.specs.Rules.{ListRules}
-use Rattle.program_frame.specs.declared.lists.options.ItemEnd.{ItemEnd}
-use Rattle.program_frame.specs.declared.lists.options.ListOptions.{ListOptions}
+use Rattle.list_programs.specs.Items.{Lacks}
+use Rattle.list_programs.specs.ListOptions.{MayLack, byte_of}
+use Rattle.list_programs.specs.Rules.{ListRules}
+use Rattle.list_programs.specs.declared.options.ItemEnd.{ItemEnd}
+use Rattle.list_programs.specs.declared.options.ListOptions.{ListOptions}
 use Rattle.names_commands.specs.declared.fault.Rejection.{Rejection}
 use Rattle.names_commands.specs.declared.matching.Form.{Form}
 use Rattle.names_commands.specs.declared.matching.Form.TheVariants.{Line, Name, Word}

@@ -1,12 +1,12 @@
 -- Names as items of a list, and why an item or a line isn't one. No file's name has a NUL (POSIX, "Definitions", Pathname).
 use Rattle.std.specs.Prelude.{◌≡◌, ℕ, List, [], ◌∷◌, ◌++◌}
 use Rattle.os_str_bytes.specs.Platform.{Ghosts}
-use Rattle.program_frame.specs.Items.{Lacks}
-use Rattle.program_frame.specs.ListOptions.{byte_of}
-use Rattle.program_frame.specs.declared.lists.fault.ItemFault.{ItemFault}
-use Rattle.program_frame.specs.declared.lists.fault.ItemFault.TheVariants as item_fault
-use Rattle.program_frame.specs.declared.lists.options.ItemEnd.{ItemEnd}
-use Rattle.program_frame.specs.declared.lists.options.ItemEnd.TheVariants.{Newline}
+use Rattle.list_programs.specs.Items.{Lacks}
+use Rattle.list_programs.specs.ListOptions.{byte_of}
+use Rattle.list_programs.specs.declared.fault.ItemFault.{ItemFault}
+use Rattle.list_programs.specs.declared.fault.ItemFault.TheVariants as item_fault
+use Rattle.list_programs.specs.declared.options.ItemEnd.{ItemEnd}
+use Rattle.list_programs.specs.declared.options.ItemEnd.TheVariants.{Newline}
 use Rattle.names_commands.specs.declared.fault.Rejection.{Rejection}
 use Rattle.names_commands.specs.declared.fault.Rejection.TheVariants.{NoString, BadEscape, NotCanonical, HasNul, HasNewline, EndsInReturn as InReturn, EmptyLine, BadWords}
 

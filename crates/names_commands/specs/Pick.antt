@@ -2,8 +2,8 @@
 use Rattle.std.specs.Prelude.{◌≡◌, ℕ, ◌-◌, nat_lt, cond, List, [], ◌∷◌, ◌++◌, map, length, Option, None, Some, codes}
 use denote.Ref.{Bor}
 use Rattle.glob_text.specs.declared.fault.PatternFault.{PatternFault}
-use Rattle.program_frame.specs.Arguments.{AreValues, operands_of}
-use Rattle.program_frame.specs.declared.arguments.Given.{Given}
+use Rattle.list_programs.specs.Arguments.{AreValues, operands_of}
+use Rattle.list_programs.specs.declared.arguments.Given.{Given}
 use Rattle.program_frame.specs.declared.os.Os.{Os}
 use Rattle.names_commands.specs.declared.option.NamesOption.{NamesOption}
 use Rattle.program_frame.specs.declared.os.Os.TheVariants.{Unix, Windows, Wasm}

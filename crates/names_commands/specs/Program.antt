@@ -1,5 +1,5 @@
 -- The whole program, from the words after its name to its exit status.
-use Rattle.std.specs.Prelude.{◌≡◌, ◌⊎◌, ◌+◌, ℕ, Bool, List, drop, Option, Result, Err, ⊤}
+use Rattle.std.specs.Prelude.{◌≡◌, ◌⊎◌, ◌+◌, ℕ, Bool, List, drop, Option, Result, Err, ⊤, length, take, codes}
 use Rattle.std.specs.Fmt.InlineText.{inline_text}
 use Rattle.os_str_bytes.specs.Platform.{Ghosts}
 use Rattle.os_ignore.specs.declared.file.File.{File}
@@ -11,10 +11,10 @@ use Rattle.os_args.specs.declared.error.ArgumentError.{ArgumentError}
 use Rattle.os_str_bytes.specs.Wasm.{Wasm}
 use Rattle.os_str_bytes.specs.WasmPlatform.TheImpl as wasm
 use Rattle.platform_str.specs.declared.os_str.OsStr.{OsStr}
-use Rattle.program_frame.specs.Arguments.{AreGiven, HasFault}
+use Rattle.list_programs.specs.Arguments.{AreGiven, HasFault}
 use Rattle.program_frame.specs.Files.{KnownFiles}
-use Rattle.program_frame.specs.declared.misuse.Misuse as misuse
-use Rattle.program_frame.specs.declared.misuse.Misuse.TheVariants.{Argument}
+use Rattle.list_programs.specs.declared.misuse.Misuse as misuse
+use Rattle.list_programs.specs.declared.misuse.Misuse.TheVariants.{Argument}
 use Rattle.names_commands.specs.Fault.{IsOfMisuse}
 use Rattle.names_commands.specs.Options.{has_value, spelled}
 use Rattle.program_frame.specs.Marked.{marked_inner}
@@ -22,16 +22,16 @@ use Rattle.program_frame.specs.declared.marked.Marked.{Marked}
 use Rattle.program_frame.specs.Strings.{strings}
 use Rattle.program_frame.specs.declared.os.Os.{Os}
 use Rattle.program_frame.specs.Written.{WritesText}
-use Rattle.program_frame.specs.ListRun.{Runs}
+use Rattle.list_programs.specs.ListRun.{Runs}
 use Rattle.program_frame.specs.declared.fault.Failure.TheVariants.{Memory, Write}
-use Rattle.program_frame.specs.declared.lists.fault.ListFault.TheVariants.{Run}
-use Rattle.program_frame.specs.declared.lists.options.ListOptions.{ListOptions}
+use Rattle.list_programs.specs.declared.fault.ListFault.TheVariants.{Run}
+use Rattle.list_programs.specs.declared.options.ListOptions.{ListOptions}
 use Rattle.names_commands.specs.declared.command.Command.{Command}
 use Rattle.names_commands.specs.declared.command.Command.TheVariants.{Help, Version, On}
 use Rattle.names_commands.specs.declared.command.Work.{Work}
 use Rattle.names_commands.specs.declared.command.Work.TheVariants.{Each, Picked, Why}
-use Rattle.program_frame.specs.declared.lists.program_fault.Fault as program_fault
-use Rattle.program_frame.specs.declared.lists.program_fault.Fault.TheVariants.{List as OfList, Words}
+use Rattle.list_programs.specs.declared.program_fault.Fault as program_fault
+use Rattle.list_programs.specs.declared.program_fault.Fault.TheVariants.{List as OfList, Words}
 use Rattle.names_commands.specs.declared.fault.Rejection.{Rejection}
 use Rattle.names_commands.specs.declared.fault.CommandFault.{CommandFault}
 use Rattle.names_commands.specs.declared.fault.CommandFault.TheVariants.{Unreadable, Misuse, Pattern, NoFile, Unread}
@@ -64,17 +64,22 @@ EndsAtOnce fault input left old new answer = (answer ≡ Err fault) × ((left �
 abbrev pub UnlessOutOfMemory : Doing → Doing
 UnlessOutOfMemory Done input left old new answer = EndsAtOnce (OfList (Run Memory)) input left old new answer ⊎ Done input left old new answer
 
--- a text of the program's own is written, and nothing is read
-abbrev pub WritesSomeText : Doing
-WritesSomeText input left old new answer = (left ≡ input) × ((text : List ℕ) × WritesText text (OfList (Run Write)) old new answer)
+-- a text of the program's own that begins so is written, and nothing is read
+abbrev pub WritesTextFrom : List ℕ → Doing
+WritesTextFrom start input left old new answer =
+    (left ≡ input) × ((text : List ℕ) × ((take (length start) text ≡ start) × WritesText text (OfList (Run Write)) old new answer))
 
 -- no file has the name that this value of `--ignore` states
 abbrev pub LacksFile : KnownFiles → List ℕ → Type 0
 LacksFile known value = (directory : List ℕ) × (name : List ℕ) × (IsFileIn value directory name × known.lacks name)
 
+-- the file of the name that this value of `--ignore` states can't be read
+abbrev pub FailsToRead : KnownFiles → List ℕ → Type 0
+FailsToRead known value = (directory : List ℕ) × (name : List ℕ) × (IsFileIn value directory name × known.fails name)
+
 -- why the ignore file with this number, which this value states, can't be read
 abbrev pub IsFaultOfOne : KnownFiles → ℕ → List ℕ → Fault → Type 0
-IsFaultOfOne known number value fault = (fault ≡ OfList (Run Memory)) ⊎ (((fault ≡ Words (NoFile number)) × LacksFile known value) ⊎ (fault ≡ Words (Unread number)))
+IsFaultOfOne known number value fault = (fault ≡ OfList (Run Memory)) ⊎ (((fault ≡ Words (NoFile number)) × LacksFile known value) ⊎ ((fault ≡ Words (Unread number)) × FailsToRead known value))
 
 -- the fault of the pattern with this number, where the first `added` bytes of its text come before what was typed: the fault of what was typed, and the lines that show where it is
 abbrev pub IsOfPattern : ℕ → ℕ → List ℕ → PatternFault → Fault → Type 0
@@ -86,13 +91,13 @@ IsOfPatterns p o plain texts why = (index : ℕ) × (fault : PatternFault) × (f
 
 -- where this is known of files, and memory is taken of an allocator of this type:
 module _ (known : KnownFiles) (A : Type 0) where
-  -- why an ignore file can't be read: no file has the name, or it isn't read
+  -- why an ignore file can't be read: no file has the name, or a read of it fails
   abbrev pub IsFileFault : Bool → List (List ℕ) → CommandFault → Type 0
   IsFileFault folds values Unreadable = ⊥
   IsFileFault folds values (Misuse text) = ⊥
   IsFileFault folds values (Pattern number why lines) = ⊥
   IsFileFault folds values (NoFile number) = (value : List ℕ) × IsFirstUnread A known folds values number value × LacksFile known value
-  IsFileFault folds values (Unread number) = (value : List ℕ) × IsFirstUnread A known folds values number value
+  IsFileFault folds values (Unread number) = (value : List ℕ) × IsFirstUnread A known folds values number value × FailsToRead known value
 
   -- why ignore files can't be read: that, or that memory was refused
   abbrev pub IsFaultOf : Bool → List (List ℕ) → Fault → Type 0
@@ -126,8 +131,8 @@ module _ (known : KnownFiles) (A : Type 0) where
 
   -- what a command does
   abbrev pub DoesCommand : Requested → Command → Doing
-  DoesCommand requested Help input left old new answer = WritesSomeText input left old new answer
-  DoesCommand requested Version input left old new answer = WritesSomeText input left old new answer
+  DoesCommand requested Help input left old new answer = WritesTextFrom (codes "names: ") input left old new answer
+  DoesCommand requested Version input left old new answer = WritesTextFrom (codes "names ") input left old new answer
   DoesCommand requested (On os work) input left old new answer = DoesWork (strings os) requested os work input left old new answer
 
   -- what a request does

@@ -8,15 +8,15 @@ use Rattle.os_quote.specs.Escape as escape
 use Rattle.os_quote.specs.Escape.{IsLineEscape}
 use Rattle.os_quote.specs.declared.error.QuoteError.{QuoteError}
 use Rattle.os_quote.specs.declared.error.QuoteError.TheVariants as quote
-use Rattle.program_frame.specs.Items.{Lacks}
-use Rattle.program_frame.specs.ListOptions.{MayLack, byte_of}
-use Rattle.program_frame.specs.Rules.{ListRules}
-use Rattle.program_frame.specs.declared.lists.fault.ItemFault.{ItemFault}
-use Rattle.program_frame.specs.declared.lists.fault.ItemFault.TheVariants.{Rejected, TooLong, Memory}
-use Rattle.program_frame.specs.declared.lists.options.ItemEnd.{ItemEnd}
-use Rattle.program_frame.specs.declared.lists.options.ItemEnd.TheVariants.{Nul, Newline}
-use Rattle.program_frame.specs.declared.lists.options.LastItem.TheVariants.{MustEnd}
-use Rattle.program_frame.specs.declared.lists.options.ListOptions.{ListOptions}
+use Rattle.list_programs.specs.Items.{Lacks}
+use Rattle.list_programs.specs.ListOptions.{MayLack, byte_of}
+use Rattle.list_programs.specs.Rules.{ListRules}
+use Rattle.list_programs.specs.declared.fault.ItemFault.{ItemFault}
+use Rattle.list_programs.specs.declared.fault.ItemFault.TheVariants.{Rejected, TooLong, Memory}
+use Rattle.list_programs.specs.declared.options.ItemEnd.{ItemEnd}
+use Rattle.list_programs.specs.declared.options.ItemEnd.TheVariants.{Nul, Newline}
+use Rattle.list_programs.specs.declared.options.LastItem.TheVariants.{MustEnd}
+use Rattle.list_programs.specs.declared.options.ListOptions.{ListOptions}
 use Rattle.names_commands.specs.declared.fault.Rejection.{Rejection}
 use Rattle.names_commands.specs.declared.fault.Rejection.TheVariants as rejection
 use Rattle.names_commands.specs.declared.task.Task.{Task}

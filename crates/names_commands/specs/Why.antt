@@ -8,10 +8,10 @@ use Rattle.os_ignore.specs.declared.verdict.Verdict.TheVariants.{Neither, Ignore
 use Rattle.os_quote.specs.Escape.{IsLineEscape}
 use Rattle.os_str_bytes.specs.Platform.{Ghosts}
 use Rattle.os_str_bytes.specs.UnixPlatform.TheImpl as unix
-use Rattle.program_frame.specs.Items.{Lacks}
-use Rattle.program_frame.specs.ListOptions.{MayLack, byte_of}
-use Rattle.program_frame.specs.Rules.{ListRules}
-use Rattle.program_frame.specs.declared.lists.options.ListOptions.{ListOptions}
+use Rattle.list_programs.specs.Items.{Lacks}
+use Rattle.list_programs.specs.ListOptions.{MayLack, byte_of}
+use Rattle.list_programs.specs.Rules.{ListRules}
+use Rattle.list_programs.specs.declared.options.ListOptions.{ListOptions}
 use Rattle.names_commands.specs.Ignoring.{IsFileIn, IsPath, without_dot}
 use Rattle.names_commands.specs.Names.{IsNameRejection}
 use Rattle.names_commands.specs.declared.fault.Rejection.{Rejection}

@@ -3,10 +3,10 @@ use Rattle.std.specs.Prelude.{◌≡◌, ◌⊎◌, ℕ, ◌<◌, ◌≤◌, tru
 use Rattle.os_command_line.specs.Shell.{IsRead, language}
 use Rattle.os_command_line.specs.ShellWriting.{IsLineWord, quoted_word}
 use Rattle.os_command_line.specs.declared.shell.fault.WordsFault.{WordsFault}
-use Rattle.program_frame.specs.ListOptions.{byte_of}
-use Rattle.program_frame.specs.declared.lists.options.ListOptions.{ListOptions}
-use Rattle.program_frame.specs.declared.lists.fault.ItemFault.{ItemFault}
-use Rattle.program_frame.specs.declared.lists.fault.ItemFault.TheVariants as item_fault
+use Rattle.list_programs.specs.ListOptions.{byte_of}
+use Rattle.list_programs.specs.declared.options.ListOptions.{ListOptions}
+use Rattle.list_programs.specs.declared.fault.ItemFault.{ItemFault}
+use Rattle.list_programs.specs.declared.fault.ItemFault.TheVariants as item_fault
 use Rattle.names_commands.specs.declared.fault.Rejection.{Rejection}
 use Rattle.names_commands.specs.declared.fault.Rejection.TheVariants.{NoString, BadEscape, NotCanonical, HasNul, HasNewline, EndsInReturn as InReturn, EmptyLine, BadWords}
 use Rattle.names_commands.specs.Names.{EndsInReturn, IsFit, IsUnfit}

@@ -1,6 +1,6 @@
 //! Commands, and the requests that options and operands make up.
 ghost use Rattle.std.specs.Prelude.{◌≡◌, ◌≢◌, ◌↔◌, IfOk, IfErr, IsTrue, MatchOption};
-ghost use Rattle.program_frame.specs.Arguments.{operands_of};
+ghost use Rattle.list_programs.specs.Arguments.{operands_of};
 ghost use Rattle.names_commands.specs.Command.{IsRequestFor, Fits, HasOperands, IsMisuse, IsRequestError, MakesUp, TakesOption, requested_of, listing, name_word};
 ghost use Rattle.names_commands.specs.declared.command.Name.{Name as DeclaredName};
 ghost use Rattle.names_commands.specs.declared.command.Name.TheVariants.{Filter as FilterName, Join as JoinName, List as ListName, Why as WhyName};
@@ -11,9 +11,9 @@ use crate::matching::Form;
 use crate::option::NamesOption;
 use crate::pick::patterns_of;
 use crate::task::{EmptyLine, Task};
-use program_frame::arguments::{Given, has, next_operand, values};
-use program_frame::lists::options::ListOptions;
-use program_frame::misuse::Misuse;
+use list_programs::arguments::{Given, has, next_operand, values};
+use list_programs::misuse::Misuse;
+use list_programs::options::ListOptions;
 use program_frame::os::Os;
 use std::alloc::{AllocError, Allocator, Global};
 
@@ -79,8 +79,8 @@ impl<'a, A: Allocator + Copy> Request<'a, A> {
     /// use names_commands::command::{Command, Request, RequestError, Work};
     /// use names_commands::option::NamesOption;
     /// use names_commands::task::Task;
-    /// use program_frame::arguments::Given;
-    /// use program_frame::lists::options::ListOptions;
+    /// use list_programs::arguments::Given;
+    /// use list_programs::options::ListOptions;
     /// use program_frame::os::Os;
     ///
     /// let max = Given::Valued(NamesOption::Max, "255");

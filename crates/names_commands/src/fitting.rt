@@ -3,7 +3,7 @@ ghost use Rattle.std.specs.Prelude.{◌≡◌, ℕ, List, MatchOption, OnOk, IfE
 ghost use Rattle.os_args.specs.Reading.{UnexpectedArgument};
 ghost use Rattle.os_args.specs.Views.{fault_of};
 ghost use Rattle.os_args.specs.Word.{Value};
-ghost use Rattle.program_frame.specs.Arguments.{HasOption, IsOf, operands_of};
+ghost use Rattle.list_programs.specs.Arguments.{HasOption, IsOf, operands_of};
 ghost use Rattle.program_frame.specs.declared.os.Os.TheVariants.{Unix};
 ghost use Rattle.names_commands.specs.Command.{Fits, FitsOne, HasOperands, IsMisuse, IsWordOption, TakesOption};
 ghost use Rattle.names_commands.specs.Pick.{TakesIgnore};
@@ -11,10 +11,10 @@ ghost use Rattle.names_commands.specs.declared.option.NamesOption.TheVariants.{G
 
 use crate::command::{Line, Name};
 use crate::option::NamesOption;
+use list_programs::arguments::{Given, has, next_operand};
+use list_programs::misuse::Misuse;
 use os_args::{ArgumentError, Word};
 use os_str_bytes::{OsStr, Wasm};
-use program_frame::arguments::{Given, has, next_operand};
-use program_frame::misuse::Misuse;
 use program_frame::os::Os;
 
 /// Checks that a command takes each option that was given.

@@ -1,6 +1,6 @@
 //! What options and operands state: a limit, what picks names, and how they are written.
 ghost use Rattle.std.specs.Prelude.{◌≡◌, ◌↔◌, [], IfOk, IfErr, IsTrue, MatchOption};
-ghost use Rattle.program_frame.specs.Arguments.{HasOption, operands_of};
+ghost use Rattle.list_programs.specs.Arguments.{HasOption, operands_of};
 ghost use Rattle.names_commands.specs.Command.{HasOperands, IsEmptyLine, IsForm, IsListed, IsMax, IsMisuse, IsWordOption, NoWords, OptionsPick, Picks, TakesOption, options_of, separators_of};
 ghost use Rattle.names_commands.specs.Pick.{TakesIgnore};
 ghost use Rattle.names_commands.specs.declared.option.NamesOption.TheVariants.{Glob, Ignore};
@@ -10,9 +10,9 @@ use crate::fitting::{ignores, surplus};
 use crate::option::NamesOption;
 use crate::task::{EmptyLine, WordForm};
 use glob_patterns::{GlobOptions, Separators};
-use program_frame::arguments::{has, last_value, next_operand};
-use program_frame::lists::options::ListOptions;
-use program_frame::misuse::Misuse;
+use list_programs::arguments::{has, last_value, next_operand};
+use list_programs::misuse::Misuse;
+use list_programs::options::ListOptions;
 use program_frame::os::Os;
 
 /// How many bytes a name may have where the arguments state no limit.

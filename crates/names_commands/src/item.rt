@@ -2,10 +2,10 @@
 ghost use Rattle.std.specs.Prelude.{◌≡◌, ◌↔◌, ◌≤◌, ◌*◌, ◌++◌, ◌∷◌, [], length, false, ℕ, List, OnOk, OnErr, IfOk, IfErr, IsTrue, MatchOption};
 ghost use Rattle.os_quote.specs.Escape.{IsLineEscape};
 ghost use Rattle.os_str_bytes.specs.Strings.{bytes};
-ghost use Rattle.program_frame.specs.Items.{Lacks};
-ghost use Rattle.program_frame.specs.ListOptions.{byte_of};
-ghost use Rattle.program_frame.specs.Rules.{IsItemFault};
-ghost use Rattle.program_frame.specs.declared.lists.fault.ItemFault.TheVariants.{Rejected, Memory};
+ghost use Rattle.list_programs.specs.Items.{Lacks};
+ghost use Rattle.list_programs.specs.ListOptions.{byte_of};
+ghost use Rattle.list_programs.specs.Rules.{IsItemFault};
+ghost use Rattle.list_programs.specs.declared.fault.ItemFault.TheVariants.{Rejected, Memory};
 ghost use Rattle.names_commands.specs.declared.task.EmptyLine.{EmptyLine as DeclaredEmptyLine};
 ghost use Rattle.names_commands.specs.declared.task.Task.TheVariants.{Join};
 ghost use Rattle.names_commands.specs.Names.{EndsInReturn, IsFit, IsNameRejection, IsUnfit};
@@ -15,12 +15,12 @@ ghost use Rattle.names_commands.specs.Task.{longest_item, rules_of, IsEmpty, IsE
 use crate::fault::Rejection;
 use crate::task::{EmptyLine, Settings, Task};
 use crate::words::{write_names, write_word};
+use list_programs::fault::ItemFault;
+use list_programs::items::{push_ended, split_at_end};
+use list_programs::lines::{is_plain, push_line};
+use list_programs::options::{ItemEnd, ListOptions};
 use os_quote::{QuoteError, unescape_line};
 use os_str_bytes::{OsStr, Platform, Wasm};
-use program_frame::lists::fault::ItemFault;
-use program_frame::lists::items::{push_ended, split_at_end};
-use program_frame::lists::lines::{is_plain, push_line};
-use program_frame::lists::options::{ItemEnd, ListOptions};
 use std::alloc::Allocator;
 
 /// Appends what is written for an item.
@@ -57,7 +57,7 @@ pub fn write_item<E: Platform, A: Allocator + Copy>(
 }
 
 /// The name that an item is.
-#[tactic(auto, using(program_frame::proofs::lemmas::lists::Items::has_end))]
+#[tactic(auto, using(list_programs::proofs::lemmas::Items::has_end))]
 pub(crate) fn named<'a, E: Platform>(item: &'a [u8]) -> Result<OsStr<'a, E>, ItemFault<Rejection>>
     ensures bytes { IfOk result (λ name. bytes name ≡ item.now) }
     ensures formed { OnOk result (E.well_formed item.now) }
@@ -76,7 +76,7 @@ pub(crate) fn named<'a, E: Platform>(item: &'a [u8]) -> Result<OsStr<'a, E>, Ite
 }
 
 /// Why a name can't be written with this end: it has a NUL, or the newline that ends it.
-#[tactic(auto, using(program_frame::proofs::lemmas::lists::Items::has_end))]
+#[tactic(auto, using(list_programs::proofs::lemmas::Items::has_end))]
 pub(crate) fn unfit(name: &[u8], end: ItemEnd) -> Option<Rejection>
     ensures { MatchOption result (IsFit end name.now) (λ why. IsUnfit end name.now why) }
 {

@@ -3,11 +3,11 @@ ghost use Rattle.std.specs.Prelude.{◌≡◌, ◌++◌, ℕ, List};
 ghost use Rattle.names_commands.specs.Back.{listing, listing_words, joining, joining_words, with_last, AreFirst, AreTaken, IsCompleted};
 ghost use Rattle.program_frame.specs.Strings.{strings};
 ghost use Rattle.program_frame.specs.declared.os.Os.TheVariants.{Unix};
-ghost use Rattle.program_frame.specs.ListOptions.{byte_of};
-ghost use Rattle.program_frame.specs.ListRun.{IsOutput};
-ghost use Rattle.program_frame.specs.declared.lists.options.LastItem.{LastItem};
-ghost use Rattle.program_frame.specs.declared.lists.options.LastItem.TheVariants.{MustEnd};
-ghost use Rattle.program_frame.specs.declared.lists.options.ListOptions.{ListOptions};
+ghost use Rattle.list_programs.specs.ListOptions.{byte_of};
+ghost use Rattle.list_programs.specs.ListRun.{IsOutput};
+ghost use Rattle.list_programs.specs.declared.options.LastItem.{LastItem};
+ghost use Rattle.list_programs.specs.declared.options.LastItem.TheVariants.{MustEnd};
+ghost use Rattle.list_programs.specs.declared.options.ListOptions.{ListOptions};
 ghost use Rattle.names_commands.specs.Task.{rules_of};
 ghost use Rattle.names_commands.specs.declared.task.EmptyLine.{EmptyLine};
 

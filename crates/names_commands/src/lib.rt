@@ -4,15 +4,15 @@
 //! An item is a name, ended by NUL or a newline, or a line. A line is the escape of a name
 //! ([`os_quote::escape_line`]) or has words of a shell ([`os_command_line::shell::Words`]). The last
 //! item has its end, too, unless the options permit that it lacks it
-//! ([`program_frame::lists::options::ListOptions`]). An empty line is rejected unless the settings take
+//! ([`list_programs::options::ListOptions`]). An empty line is rejected unless the settings take
 //! it ([`task::EmptyLine`]).
 //!
 //! The arguments make up a request ([`Request::parse`](command::Request::parse)). A run reads a block
-//! at a time, and writes what the items that end in it become ([`program_frame::lists::run::run`]).
+//! at a time, and writes what the items that end in it become ([`list_programs::run::run`]).
 //! So it keeps one item and what a block becomes. Where it ends early, the text of a
-//! [`Fault`](fault::Fault) states why, and for which item ([`program_frame::lists::program::execute`]).
+//! [`Fault`](fault::Fault) states why, and for which item ([`program_frame::program::execute`]).
 //!
-//! One of its calls has a `requires`: [`program_frame::lists::program::execute`] takes a reader and a
+//! One of its calls has a `requires`: [`program_frame::program::execute`] takes a reader and a
 //! writer whose marks are unset, as `Marked::new` makes them.
 #![tactic(auto)]
 

@@ -12,11 +12,11 @@ use crate::item::{named, push_name, write_line};
 use crate::task::WordForm;
 use crate::words::write_word;
 use glob_patterns::GlobSet;
+use list_programs::fault::ItemFault;
+use list_programs::options::{ItemEnd, ListOptions};
+use list_programs::task::ListTask;
 use os_ignore::{Ignore, Walk};
 use os_str_bytes::{OsStr, Platform};
-use program_frame::lists::fault::ItemFault;
-use program_frame::lists::options::{ItemEnd, ListOptions};
-use program_frame::lists::task::ListTask;
 use std::alloc::{AllocError, Allocator, Global};
 
 /// What is written for a name.
@@ -59,7 +59,7 @@ impl<'g, E: Platform, A: Allocator + Copy> Matching<'g, E, A> {
     /// use names_commands::matching::{Form, Matching};
     /// use os_ignore::{Ignore, Walk};
     /// use os_str_bytes::{OsStr, Unix};
-    /// use program_frame::lists::options::ListOptions;
+    /// use list_programs::options::ListOptions;
     ///
     /// let ignore = Ignore::new(alloc, b"*.o\nout/\n")?;
     /// let names = Matching {

@@ -1,10 +1,10 @@
 //! Runs over names that are picked by patterns and ignore files.
 ghost use Rattle.std.specs.Prelude.{◌≡◌, ◌≢◌, ◌⊎◌, [], map, string_bytes, false, MatchOption, MatchResult};
 ghost use Rattle.program_frame.specs.Marked.{has_failed};
-ghost use Rattle.program_frame.specs.ProgramFault.{BlamesEnds};
+ghost use Rattle.list_programs.specs.ProgramFault.{BlamesEnds};
 ghost use Rattle.program_frame.specs.declared.fault.Failure.TheVariants.{Memory};
-ghost use Rattle.program_frame.specs.declared.lists.fault.ListFault.TheVariants.{Run};
-ghost use Rattle.program_frame.specs.declared.lists.program_fault.Fault.TheVariants.{List as OfList};
+ghost use Rattle.list_programs.specs.declared.fault.ListFault.TheVariants.{Run};
+ghost use Rattle.list_programs.specs.declared.program_fault.Fault.TheVariants.{List as OfList};
 ghost use Rattle.names_commands.specs.Command.{requested_of};
 ghost use Rattle.names_commands.specs.Matching.{IsSetOf};
 ghost use Rattle.names_commands.specs.Program.{Did, IsOfPattern, IsOfPatterns, RunsPicked, UnlessOutOfMemory};
@@ -17,12 +17,12 @@ use crate::ignoring::read_ignore;
 use crate::matching::{Form, Matching};
 use crate::pick::{added_before, strings_of, typed, typed_fault};
 use glob_patterns::{GlobOptions, GlobSet, GlobSetError, PatternFault};
+use list_programs::answers::run_list;
+use list_programs::fault::ListFault;
 use os_ignore::IgnoreOptions;
 use os_str_bytes::Platform;
 use program_frame::fault::Failure;
 use program_frame::files::Files;
-use program_frame::lists::answers::run_list;
-use program_frame::lists::fault::ListFault;
 use program_frame::marked::Marked;
 use program_frame::os::Os;
 use std::alloc::Allocator;

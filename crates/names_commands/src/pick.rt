@@ -1,14 +1,14 @@
 //! The patterns that pick names.
 ghost use Rattle.std.specs.Prelude.{◌≡◌, ◌++◌, ◌∷◌, [], map, length, drop, string_bytes, IfOk, OnOk};
 ghost use Rattle.os_str_bytes.specs.Strings.{bytes};
-ghost use Rattle.program_frame.specs.Arguments.{operands_of, text_of};
+ghost use Rattle.list_programs.specs.Arguments.{operands_of, text_of};
 ghost use Rattle.names_commands.specs.Pick.{ArePatterns, added_before, glob_operand, glob_words, in_any_folder, typed_fault};
 
 use crate::command::Line;
 use crate::option::NamesOption;
 use glob_patterns::PatternFault;
+use list_programs::arguments::{next_operand, values};
 use os_str_bytes::{OsStr, Platform};
-use program_frame::arguments::{next_operand, values};
 use std::alloc::{AllocError, Allocator};
 
 /// The patterns that pick names, and how many come before those of `--name`.

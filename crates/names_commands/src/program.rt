@@ -1,7 +1,7 @@
 //! The whole program, over ends of any kind.
 ghost use Rattle.std.specs.Prelude.{◌≡◌, false};
 ghost use Rattle.program_frame.specs.Marked.{has_failed};
-ghost use Rattle.program_frame.specs.ProgramFault.{BlamesEnds};
+ghost use Rattle.list_programs.specs.ProgramFault.{BlamesEnds};
 ghost use Rattle.names_commands.specs.Command.{requested_of};
 ghost use Rattle.names_commands.specs.Program.{Did, Does, DoesWork, RunsLine, UnlessOutOfMemory};
 
@@ -12,21 +12,21 @@ use crate::option::NamesOption;
 use crate::patterns::run_picked;
 use crate::reasons::run_why;
 use crate::task::{OnPlatform, Settings};
+use list_programs::answers::{run_list, write_help};
+use list_programs::arguments::{ReadFault, read_arguments};
+use list_programs::fault::ListFault;
+use list_programs::misuse::Misuse;
 use os_str_bytes::{Platform, Unix, Wasm, Windows};
-use program_frame::arguments::{ReadFault, read_arguments};
 use program_frame::fault::Failure;
 use program_frame::files::Files;
-use program_frame::lists::answers::{run_list, write_help};
-use program_frame::lists::fault::ListFault;
-use program_frame::lists::program::ListProgram;
 use program_frame::marked::Marked;
-use program_frame::misuse::Misuse;
 use program_frame::os::Os;
+use program_frame::program::Program;
 use std::alloc::Allocator;
 use std::io::{Read, Write};
 
 /// The program `names`: its words are those of a request ([`Request::parse`]).
-/// [`program_frame::lists::program::execute`] runs it.
+/// [`program_frame::program::execute`] runs it.
 #[derive(Drop)]
 pub struct Names<F> {
     files: F,
@@ -41,7 +41,7 @@ impl<F: Files> Names<F> {
     /// use names_commands::fault::{CommandFault, Fault};
     /// use names_commands::program::Names;
     /// use program_frame::files::Disk;
-    /// use program_frame::lists::program::ListProgram;
+    /// use program_frame::program::Program;
     /// use program_frame::marked::Marked;
     ///
     /// let mut taken = Vec::new(alloc);
@@ -56,20 +56,36 @@ impl<F: Files> Names<F> {
     }
 }
 
-impl<F: Files> ListProgram for Names<F> {
-    type Rejection = Rejection;
-
-    type Words = CommandFault;
+impl<F: Files> Program for Names<F> {
+    type Fault = Fault;
 
     ghost use Rattle.std.specs.Prelude.{codes};
+    ghost use Rattle.list_programs.specs.ProgramFault.{DoneBetween};
+    ghost use Rattle.list_programs.specs.declared.program_fault.Fault.TheVariants.{List as OfList, Words};
+    ghost use Rattle.list_programs.specs.declared.fault.ListFault.TheVariants.{Run};
+    ghost use Rattle.program_frame.specs.declared.fault.Failure.TheVariants.{Memory};
     ghost use Rattle.names_commands.specs.Program.{RunsTo};
+    ghost use Rattle.names_commands.specs.declared.fault.CommandFault.TheVariants.{Unreadable};
 
     ghost name = { codes "names" };
 
-    ghost runs_to = { λ names A. RunsTo (F.known names.files) A };
+    ghost unreadable = { Words Unreadable };
+
+    ghost out_of_memory = { OfList (Run Memory) };
+
+    ghost runs_to = { λ names A words R W remaining contents.
+        DoneBetween remaining contents (RunsTo (F.known names.files) A words) };
 
     fn name() -> &'static str {
         "names"
+    }
+
+    fn unreadable() -> Fault {
+        Fault::Words(CommandFault::Unreadable)
+    }
+
+    fn out_of_memory() -> Fault {
+        Fault::List(ListFault::Run(Failure::Memory))
     }
 
     fn run_words<A: Allocator + Copy, R: Read, W: Write>(
@@ -82,7 +98,8 @@ impl<F: Files> ListProgram for Names<F> {
         match read_arguments::<NamesOption, A>(alloc, words) {
             Ok(given) => run_line(alloc, &self.files, &given, reader, writer),
             Err(ReadFault::Misuse(error)) => {
-                Err(Fault::Words(CommandFault::of(Misuse::Argument(error))))
+                let misuse = Misuse::Argument(error);
+                Err(Fault::Words(CommandFault::of(alloc, misuse)?))
             }
             Err(ReadFault::Memory) => Err(Fault::List(ListFault::Run(Failure::Memory))),
         }
@@ -106,7 +123,7 @@ fn run_line<F: Files, A: Allocator + Copy, R: Read, W: Write>(
 {
     match Request::parse(alloc, given) {
         Ok(request) => run_request(alloc, files, &request, reader, writer),
-        Err(RequestError::Misuse(misuse)) => Err(Fault::Words(CommandFault::of(misuse))),
+        Err(RequestError::Misuse(misuse)) => Err(Fault::Words(CommandFault::of(alloc, misuse)?)),
         Err(RequestError::Memory) => Err(Fault::List(ListFault::Run(Failure::Memory))),
     }
 }

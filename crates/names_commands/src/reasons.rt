@@ -1,7 +1,7 @@
 //! Runs that write the lines of ignore files that decide names.
 ghost use Rattle.std.specs.Prelude.{◌≡◌, false};
 ghost use Rattle.program_frame.specs.Marked.{has_failed};
-ghost use Rattle.program_frame.specs.ProgramFault.{BlamesEnds};
+ghost use Rattle.list_programs.specs.ProgramFault.{BlamesEnds};
 ghost use Rattle.names_commands.specs.Command.{requested_of};
 ghost use Rattle.names_commands.specs.Program.{Did, RunsReasons, UnlessOutOfMemory};
 
@@ -9,11 +9,11 @@ use crate::command::Request;
 use crate::fault::Fault;
 use crate::ignoring::read_ignore;
 use crate::why::Reasons;
+use list_programs::answers::run_list;
 use os_ignore::IgnoreOptions;
 use os_ignore::laws::known_line;
 use os_str_bytes::Platform;
 use program_frame::files::Files;
-use program_frame::lists::answers::run_list;
 use program_frame::marked::Marked;
 use std::alloc::Allocator;
 use std::io::{Read, Write};

@@ -4,10 +4,10 @@ ghost use Rattle.names_commands.specs.Task.{end_of, longest_item, rules_of, with
 
 use crate::fault::Rejection;
 use crate::item::write_item;
+use list_programs::fault::ItemFault;
+use list_programs::options::{ItemEnd, ListOptions};
+use list_programs::task::ListTask;
 use os_str_bytes::Platform;
-use program_frame::lists::fault::ItemFault;
-use program_frame::lists::options::{ItemEnd, ListOptions};
-use program_frame::lists::task::ListTask;
 use std::alloc::Allocator;
 use std::marker::PhantomData;
 
@@ -103,7 +103,7 @@ impl Task {
     ///
     /// ```
     /// use names_commands::task::Task;
-    /// use program_frame::lists::options::ItemEnd;
+    /// use list_programs::options::ItemEnd;
     ///
     /// assert!(rt; Task::Check.end(ItemEnd::Nul) == ItemEnd::Nul);
     /// assert!(rt; Task::JoinWords.end(ItemEnd::Nul) == ItemEnd::Newline);

@@ -3,24 +3,24 @@ ghost use Rattle.std.specs.Prelude.{◌≡◌, ◌++◌, ◌∷◌, [], ℕ, Lis
 ghost use Rattle.os_command_line.specs.ShellViews.{word_bytes};
 ghost use Rattle.os_command_line.specs.ShellWriting.{IsNameFault};
 ghost use Rattle.os_str_bytes.specs.Strings.{bytes, string_vec_of};
-ghost use Rattle.program_frame.specs.Items.{Lacks};
-ghost use Rattle.program_frame.specs.ListOptions.{byte_of};
-ghost use Rattle.program_frame.specs.declared.lists.fault.ItemFault.TheVariants.{Memory};
+ghost use Rattle.list_programs.specs.Items.{Lacks};
+ghost use Rattle.list_programs.specs.ListOptions.{byte_of};
+ghost use Rattle.list_programs.specs.declared.fault.ItemFault.TheVariants.{Memory};
 ghost use Rattle.names_commands.specs.Names.{EndsInReturn};
 ghost use Rattle.names_commands.specs.Words.{IsWord, IsWordLine, IsName, AreNamesOf, IsWordFault, IsLineFault};
 
 use crate::fault::Rejection;
 use crate::item::{ends_in_return, push_name, unfit};
 use crate::task::WordForm;
+use list_programs::fault::ItemFault;
+use list_programs::items::push_ended;
+use list_programs::options::ListOptions;
 use os_command_line::shell::{ShellError, Specials, Word, Words, quote, quote_line};
 use os_str_bytes::{OsStr, OsString, Unix};
-use program_frame::lists::fault::ItemFault;
-use program_frame::lists::items::push_ended;
-use program_frame::lists::options::ListOptions;
 use std::alloc::Allocator;
 
 /// Appends the word of a name, and a newline.
-#[tactic(auto, using(program_frame::proofs::lemmas::lists::Items::end_in))]
+#[tactic(auto, using(list_programs::proofs::lemmas::Items::end_in))]
 pub(crate) fn write_word<A: Allocator>(
     alloc: A,
     form: WordForm,

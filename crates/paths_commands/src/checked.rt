@@ -9,10 +9,10 @@ ghost use Rattle.paths_commands.specs.Task.{component_of, IsJoinedBelow, IsReaso
 use crate::components::shown_component;
 use crate::fault::Rejection;
 use crate::item::write_answer;
+use list_programs::fault::ItemFault;
 use os_path::{NameError, PathStyle};
 use os_str_bytes::{Path, Platform};
 use path_building::Base;
-use list_programs::fault::ItemFault;
 use std::alloc::{AllocError, Allocator};
 
 /// Appends a path below a base.

@@ -13,14 +13,14 @@ ghost use Rattle.paths_commands.specs.declared.option.PathsOption.TheVariants.{C
 
 use crate::option::PathsOption;
 use crate::task::Task;
+use list_programs::arguments::{Given, has, next_operand};
+use list_programs::misuse::Misuse;
+use list_programs::options::ListOptions;
 use os_args::Word;
 use os_path::Style;
 use os_str_bytes::OsStr;
 use path_building::{Base, BaseError};
 use path_rules::is_absolute;
-use list_programs::arguments::{Given, has, next_operand};
-use list_programs::options::ListOptions;
-use list_programs::misuse::Misuse;
 use program_frame::os::Os;
 
 /// How many bytes a path may have.

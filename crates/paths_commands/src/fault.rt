@@ -4,13 +4,13 @@ ghost use Rattle.std.specs.Fmt.{WritesStyledOnOk};
 ghost use Rattle.std.specs.Fmt.InlineText.{inline_text};
 ghost use Rattle.paths_commands.specs.Fault.{IsOfMisuse, at_fault_text, from_one, numbered, quoted, result_text, unlike_text};
 
-use os_path::{AbsoluteError, NameError};
-use os_str_bytes::{EncodingError, write_number};
 use list_programs::fault::ItemRejection;
+use list_programs::misuse::Misuse;
 use list_programs::options::ItemEnd;
 use list_programs::program_fault;
 use list_programs::program_fault::WordsRejection;
-use list_programs::misuse::Misuse;
+use os_path::{AbsoluteError, NameError};
+use os_str_bytes::{EncodingError, write_number};
 use std::fmt;
 use std::fmt::{Display as _, InlineText};
 
@@ -186,17 +186,10 @@ fn write_quoted<W: fmt::Write>(text: &str, f: &mut fmt::Formatter<W>) -> fmt::Re
 
 impl WordsRejection for CommandFault {
     ghost use Rattle.paths_commands.specs.Fault.{words_status, words_text};
-    ghost use Rattle.paths_commands.specs.declared.fault.CommandFault.{CommandFault};
-
-    ghost usage = { CommandFault.Unreadable };
 
     ghost text_of = { words_text };
 
     ghost status_of = { words_status };
-
-    fn usage() -> CommandFault {
-        CommandFault::Unreadable
-    }
 
     fn status(&self) -> u8 {
         match self {

@@ -24,11 +24,11 @@ use crate::checked::write_checked;
 use crate::components::{push_components, shown_component};
 use crate::fault::Rejection;
 use crate::task::{OnPlatform, Task};
-use os_path::{AbsoluteError, ConvertError, NormalizeError, PathExt, PathStyle};
-use os_str_bytes::{OsStr, Path, Platform, Unix, Wasm, Windows};
 use list_programs::fault::ItemFault;
 use list_programs::items::split_at_end;
 use list_programs::options::ItemEnd;
+use os_path::{AbsoluteError, ConvertError, NormalizeError, PathExt, PathStyle};
+use os_str_bytes::{OsStr, Path, Platform, Unix, Wasm, Windows};
 use program_frame::os::Os;
 use std::alloc::Allocator;
 

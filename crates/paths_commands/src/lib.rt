@@ -4,7 +4,7 @@
 //! arguments make up a command ([`Command::parse`](command::Command::parse)). A run reads a block at a time, and writes
 //! the results for the paths that end in it ([`list_programs::run::run_with`]). Where it
 //! ends early, the text of a [`Fault`](fault::Fault) states why, and for which path.
-//! [`program::Paths`] is the program, which [`list_programs::program::execute`] runs.
+//! [`program::Paths`] is the program, which [`program_frame::program::execute`] runs.
 //!
 //! To add a task, add a case of [`Task`](task::Task) with its argument, its result (`IsAnswer`
 //! in `specs/Task.antt`), and a line that makes the result.

@@ -15,22 +15,22 @@ use crate::given::run_given;
 use crate::help::{HELP, VERSION};
 use crate::option::PathsOption;
 use crate::task::{OnPlatform, Task};
-use os_str_bytes::{Unix, Wasm, Windows};
-use list_programs::arguments::{Given, ReadFault, next_operand, read_arguments};
-use program_frame::fault::Failure;
 use list_programs::answers::{run_list_with, write_help};
+use list_programs::arguments::{Given, ReadFault, next_operand, read_arguments};
 use list_programs::fault::ListFault;
-use list_programs::options::{ItemEnd, ListOptions};
-use list_programs::program::ListProgram;
-use list_programs::rejections::{KeepGoing, Rejections, Stop};
-use program_frame::marked::Marked;
 use list_programs::misuse::Misuse;
+use list_programs::options::{ItemEnd, ListOptions};
+use list_programs::rejections::{KeepGoing, Rejections, Stop};
+use os_str_bytes::{Unix, Wasm, Windows};
+use program_frame::fault::Failure;
+use program_frame::marked::Marked;
 use program_frame::os::Os;
+use program_frame::program::Program;
 use std::alloc::Allocator;
 use std::io::{Eprint, Read, Write};
 
 /// The program `paths`: its arguments are those of a command ([`Command::parse`]).
-/// [`list_programs::program::execute`] runs it.
+/// [`program_frame::program::execute`] runs it.
 #[derive(Drop)]
 pub struct Paths<'a, P> {
     errors: &'a P,
@@ -42,7 +42,7 @@ impl<'a, P: Eprint> Paths<'a, P> {
     /// ```
     /// use paths_commands::fault::{CommandFault, Fault};
     /// use paths_commands::program::Paths;
-    /// use list_programs::program::ListProgram;
+    /// use program_frame::program::Program;
     /// use program_frame::marked::Marked;
     ///
     /// let mut taken = Vec::new(alloc);
@@ -55,20 +55,36 @@ impl<'a, P: Eprint> Paths<'a, P> {
     }
 }
 
-impl<'a, P: Eprint> ListProgram for Paths<'a, P> {
-    type Rejection = Rejection;
-
-    type Words = CommandFault;
+impl<'a, P: Eprint> Program for Paths<'a, P> {
+    type Fault = Fault;
 
     ghost use Rattle.std.specs.Prelude.{codes};
+    ghost use Rattle.list_programs.specs.ProgramFault.{DoneBetween};
+    ghost use Rattle.list_programs.specs.declared.program_fault.Fault.TheVariants.{List as OfList, Words};
+    ghost use Rattle.list_programs.specs.declared.fault.ListFault.TheVariants.{Run};
+    ghost use Rattle.program_frame.specs.declared.fault.Failure.TheVariants.{Memory};
     ghost use Rattle.paths_commands.specs.Program.{RunsTo};
+    ghost use Rattle.paths_commands.specs.declared.fault.CommandFault.TheVariants.{Unreadable};
 
     ghost name = { codes "paths" };
 
-    ghost runs_to = { λ _ _. RunsTo };
+    ghost unreadable = { Words Unreadable };
+
+    ghost out_of_memory = { OfList (Run Memory) };
+
+    ghost runs_to = { λ _ _ words R W remaining contents.
+        DoneBetween remaining contents (RunsTo words) };
 
     fn name() -> &'static str {
         "paths"
+    }
+
+    fn unreadable() -> Fault {
+        Fault::Words(CommandFault::Unreadable)
+    }
+
+    fn out_of_memory() -> Fault {
+        Fault::List(ListFault::Run(Failure::Memory))
     }
 
     fn run_words<A: Allocator + Copy, R: Read, W: Write>(

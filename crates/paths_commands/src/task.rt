@@ -4,12 +4,12 @@ ghost use Rattle.paths_commands.specs.Task.{rules_of};
 
 use crate::fault::Rejection;
 use crate::item::write_item;
-use os_path::PathStyle;
-use os_str_bytes::Platform;
-use path_building::Base;
 use list_programs::fault::ItemFault;
 use list_programs::options::{ItemEnd, ListOptions};
 use list_programs::task::ListTask;
+use os_path::PathStyle;
+use os_str_bytes::Platform;
+use path_building::Base;
 use program_frame::os::Os;
 use std::alloc::Allocator;
 use std::marker::PhantomData;

@@ -30,16 +30,16 @@ ghost use Rattle.paths_commands.specs.declared.option.PathsOption.TheVariants.{L
 ghost use Rattle.paths_commands.specs.declared.task.Task.TheVariants.{Components};
 ghost use Rattle.test_command_uses.specs.OneFile.{lacking};
 
+use list_programs::fault::ListFault;
+use list_programs::options::{ItemEnd, LastItem, ListOptions};
+use list_programs::rejections::KeepGoing;
+use list_programs::run::{run, run_with};
 use os_path::PathStyle;
 use os_str_bytes::Platform;
 use path_building::Base;
 use paths_commands::command::{Command, Line};
 use paths_commands::fault::Rejection;
 use paths_commands::task::{OnPlatform, Task};
-use list_programs::fault::ListFault;
-use list_programs::options::{ItemEnd, LastItem, ListOptions};
-use list_programs::rejections::KeepGoing;
-use list_programs::run::{run, run_with};
 use program_frame::marked::Marked;
 use program_frame::os::Os;
 use std::alloc::Allocator;

@@ -2,10 +2,10 @@
 use Rattle.std.proofs.Common.{◌≡◌, ◌≢◌, ◌⊎◌, ⊎_elim, inl, inr, ℕ, List, [], ◌∷◌, ◌++◌, length, drop, get_or, refl, sym, ap, ◌∙◌, subst, arith, append_assoc, append-nil, length-append}
 use Rattle.std.proofs.lemmas.Grind.{flat_map-append}
 use Rattle.std.specs.List.{AllByRecursion}
-use Rattle.program_frame.specs.Items.{Entry, Lacks, IsLastUnended, ended, items_of, texts_of}
+use Rattle.list_programs.specs.Items.{Entry, Lacks, IsLastUnended, ended, items_of, texts_of}
 use Rattle.names_commands.specs.Back.{AreFirst, EndsWith, IsCompleted, LacksEmpty}
-use Rattle.program_frame.proofs.lemmas.lists.Items.{end_in}
-use Rattle.program_frame.proofs.lemmas.lists.Reading.{all-append, more_items}
+use Rattle.list_programs.proofs.lemmas.Items.{end_in}
+use Rattle.list_programs.proofs.lemmas.Reading.{all-append, more_items}
 
 head : (x y : ℕ) (xs ys : List ℕ) → x ∷ xs ≡ y ∷ ys → x ≡ y
 head x y xs ys e = ap (λ l. get_or l 0 0) e

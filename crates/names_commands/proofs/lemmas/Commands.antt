@@ -1,8 +1,8 @@
 -- What options and operands ask for.
 use Rattle.std.proofs.Common.{◌≡◌, ℕ, ◌-◌, ◌≤◌, List, [], ◌∷◌, length, take, drop, get_or, Bool, true, false, inl, inr, refl, sym, ap, subst, arith}
 use Rattle.std.proofs.lemmas.List.{take_rest}
-use Rattle.program_frame.specs.Arguments.{HasOption, IsOf}
-use Rattle.program_frame.specs.declared.arguments.Given.{Given}
+use Rattle.list_programs.specs.Arguments.{HasOption, IsOf}
+use Rattle.list_programs.specs.declared.arguments.Given.{Given}
 use Rattle.names_commands.specs.Command.{Fits, FitsOne, IsForm, Line, Lists, MakesUpWork, NoWords, SomePicked, listing}
 use Rattle.names_commands.specs.declared.command.Name.{Name}
 use Rattle.names_commands.specs.declared.matching.Form.TheVariants as form

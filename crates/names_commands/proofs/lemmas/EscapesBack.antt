@@ -3,13 +3,13 @@ use Rattle.std.proofs.Common.{◌≡◌, ◌≢◌, ⊎_elim, inl, ℕ, ◌*◌,
 use Rattle.std.specs.List.{AllByRecursion}
 use Rattle.os_str_bytes.specs.Platform.{Ghosts}
 use Rattle.os_quote.specs.Escape.{IsLineEscape}
-use Rattle.program_frame.specs.Items.{Entry}
-use Rattle.program_frame.specs.ListOptions.{MayLack, byte_of}
-use Rattle.program_frame.specs.ListRun.{IsOutput}
-use Rattle.program_frame.specs.Rules.{IsEntry}
-use Rattle.program_frame.specs.declared.lists.options.LastItem.{LastItem}
-use Rattle.program_frame.specs.declared.lists.options.LastItem.TheVariants.{MustEnd}
-use Rattle.program_frame.specs.declared.lists.options.ListOptions.{ListOptions}
+use Rattle.list_programs.specs.Items.{Entry}
+use Rattle.list_programs.specs.ListOptions.{MayLack, byte_of}
+use Rattle.list_programs.specs.ListRun.{IsOutput}
+use Rattle.list_programs.specs.Rules.{IsEntry}
+use Rattle.list_programs.specs.declared.options.LastItem.{LastItem}
+use Rattle.list_programs.specs.declared.options.LastItem.TheVariants.{MustEnd}
+use Rattle.list_programs.specs.declared.options.ListOptions.{ListOptions}
 use Rattle.names_commands.specs.Back.{listing, joining, with_last, AreFirst, AreTaken, IsCompleted}
 use Rattle.names_commands.specs.Task.{IsTaken, rules_of}
 use Rattle.names_commands.specs.declared.task.EmptyLine.{EmptyLine}

@@ -22,9 +22,9 @@ use Rattle.os_quote.proofs.lemmas.ItemLengths.{escape_is_short}
 use Rattle.os_quote.proofs.lemmas.Lines.{escape_is_on_line}
 use Rattle.os_quote.proofs.lemmas.Readings.{escape_is_text}
 use Rattle.os_str_bytes.specs.Platform.{Ghosts}
-use Rattle.program_frame.specs.Items.{Lacks}
-use Rattle.program_frame.proofs.lemmas.lists.Lines.{own_line}
-use Rattle.program_frame.proofs.lemmas.lists.Reading.{lacks-append}
+use Rattle.list_programs.specs.Items.{Lacks}
+use Rattle.list_programs.proofs.lemmas.Lines.{own_line}
+use Rattle.list_programs.proofs.lemmas.Reading.{lacks-append}
 
 -- a newline is in a text where it is one of its characters
 low_form : (c : ℕ) → c < 0x80 → encode c ≡ c ∷ []

@@ -3,18 +3,18 @@ use Rattle.std.proofs.Common.{◌≡◌, ℕ, List, sym, subst, arith}
 use Rattle.std.specs.Prelude.{Result, IfErr, ⊤}
 use Rattle.std.proofs.lemmas.Result.{IfErr-weaker}
 use Rattle.os_str_bytes.specs.Platform.{Ghosts}
-use Rattle.program_frame.specs.Rules.{ListRules, IsItemFault}
-use Rattle.program_frame.specs.declared.lists.fault.ItemFault.{ItemFault}
-use Rattle.program_frame.specs.declared.lists.fault.ItemFault.TheVariants.{Rejected, TooLong, Memory}
+use Rattle.list_programs.specs.Rules.{ListRules, IsItemFault}
+use Rattle.list_programs.specs.declared.fault.ItemFault.{ItemFault}
+use Rattle.list_programs.specs.declared.fault.ItemFault.TheVariants.{Rejected, TooLong, Memory}
 use Rattle.names_commands.specs.declared.fault.Rejection.{Rejection}
-use Rattle.program_frame.specs.declared.lists.options.ListOptions.{ListOptions}
+use Rattle.list_programs.specs.declared.options.ListOptions.{ListOptions}
 use Rattle.names_commands.specs.Task.{rules_of}
 use Rattle.names_commands.specs.Words.{IsLineFault}
 use Rattle.names_commands.specs.declared.task.Task.TheVariants.{JoinWords}
 use Rattle.names_commands.specs.Names.{IsFit, IsNameRejection, IsNoName}
-use Rattle.program_frame.proofs.lemmas.lists.Lines.{IsPlainLine, plain_lacks}
-use Rattle.program_frame.specs.declared.lists.options.ItemEnd.{ItemEnd}
-use Rattle.program_frame.specs.declared.lists.options.ItemEnd.TheVariants.{Nul, Newline}
+use Rattle.list_programs.proofs.lemmas.Lines.{IsPlainLine, plain_lacks}
+use Rattle.list_programs.specs.declared.options.ItemEnd.{ItemEnd}
+use Rattle.list_programs.specs.declared.options.ItemEnd.TheVariants.{Nul, Newline}
 
 module _ {E : Type 0} (p : Ghosts E) (rules : ListRules Rejection) (item : List ℕ) (same : (why : Rejection) → IsNameRejection p item why → rules.rejects item why) where
   -- nothing is written for an item that isn't a name, where that is why items are rejected

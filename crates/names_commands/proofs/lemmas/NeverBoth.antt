@@ -1,11 +1,11 @@
 -- Options and operands that make up a command have nothing wrong with them.
 use Rattle.std.proofs.Common.{◌≡◌, ◌⊎◌, ℕ, nat_eq, cond, List, [], ◌∷◌, get_or, Bool, true, false, Option, Some, None, inl, inr, refl, sym, ap, ◌∙◌, subst}
-use Rattle.program_frame.specs.Arguments.{HasOption, HasValue, IsOf, LastValue}
+use Rattle.list_programs.specs.Arguments.{HasOption, HasValue, IsOf, LastValue}
 use Rattle.program_frame.specs.Os.{os_word}
-use Rattle.program_frame.specs.declared.arguments.Given.{Given}
-use Rattle.program_frame.specs.declared.arguments.Given.TheVariants.{Operand, Flag, Valued}
-use Rattle.program_frame.specs.declared.misuse.Misuse as misuse
-use Rattle.program_frame.specs.declared.misuse.Misuse.TheVariants.{Argument, Missing, Invalid, Misplaced}
+use Rattle.list_programs.specs.declared.arguments.Given.{Given}
+use Rattle.list_programs.specs.declared.arguments.Given.TheVariants.{Operand, Flag, Valued}
+use Rattle.list_programs.specs.declared.misuse.Misuse as misuse
+use Rattle.list_programs.specs.declared.misuse.Misuse.TheVariants.{Argument, Missing, Invalid, Misplaced}
 use Rattle.program_frame.specs.declared.os.Os.{Os}
 use Rattle.program_frame.specs.declared.os.Os.TheVariants.{Unix, Windows, Wasm}
 use Rattle.names_commands.specs.Command.{Requested, IsRequestFor, AtMostOne, Fits, FitsOne, HasOperands, IsForPlatform, IsInvalid, IsLimit, IsListed, IsMax, IsMisplaced, IsMissing, IsMisuse, IsTooMany, Line, Lists, MakesUp, MakesUpWork, NeedsPick, NoWords, Picks, SomePicked, StatesPicks, TakesOption, name_word}

@@ -4,13 +4,13 @@ use denote.Ref.{Bor}
 use Rattle.std.specs.Prelude.{Result, Ok, Err, ⊤, MatchOption}
 use Rattle.std.specs.List.{AllByRecursion}
 use Rattle.os_str_bytes.specs.Platform.{Ghosts}
-use Rattle.program_frame.specs.Items.{Entry}
-use Rattle.program_frame.specs.ListRun.{IsBegun, IsOutput, IsRun, Runs, StopsOn, WritesBeginning, WritesOutput, WritesUpTo, start}
-use Rattle.program_frame.specs.Reading.{State, Stops}
-use Rattle.program_frame.specs.Rules.{ListRules, IsEntry}
-use Rattle.program_frame.specs.declared.lists.fault.ListFault.{ListFault}
-use Rattle.program_frame.specs.declared.lists.options.ListOptions.{ListOptions}
-use Rattle.program_frame.specs.declared.lists.fault.ListFault.TheVariants.{Rejected, TooLong, Unended, TooMuch, Run}
+use Rattle.list_programs.specs.Items.{Entry}
+use Rattle.list_programs.specs.ListRun.{IsBegun, IsOutput, IsRun, Runs, StopsOn, WritesBeginning, WritesOutput, WritesUpTo, start}
+use Rattle.list_programs.specs.Reading.{State, Stops}
+use Rattle.list_programs.specs.Rules.{ListRules, IsEntry}
+use Rattle.list_programs.specs.declared.fault.ListFault.{ListFault}
+use Rattle.list_programs.specs.declared.options.ListOptions.{ListOptions}
+use Rattle.list_programs.specs.declared.fault.ListFault.TheVariants.{Rejected, TooLong, Unended, TooMuch, Run}
 use Rattle.names_commands.specs.declared.fault.Rejection.{Rejection}
 use Rattle.names_commands.specs.declared.matching.Form.{Form}
 use Rattle.glob_patterns.specs.Letters.{letters_of}
@@ -27,7 +27,7 @@ use Rattle.glob_text.proofs.lemmas.Meanings.{choices_alike}
 use Rattle.wildcards.specs.Sets.{IsHit}
 use Rattle.wildcards.specs.declared.pattern.Choice.{Choice}
 use Rattle.wildcards.specs.declared.set.Pattern.{Pattern}
-use Rattle.program_frame.specs.declared.lists.program_fault.Fault.TheVariants.{List as OfList}
+use Rattle.list_programs.specs.declared.program_fault.Fault.TheVariants.{List as OfList}
 use Rattle.os_ignore.specs.declared.file.File.{File}
 use Rattle.program_frame.specs.Files.{KnownFiles}
 use Rattle.names_commands.specs.Ignoring.{IsIgnored}

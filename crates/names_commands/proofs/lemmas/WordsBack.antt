@@ -10,13 +10,13 @@ use Rattle.os_command_line.specs.declared.shell.fault.WordsFault.{WordsFault}
 use Rattle.os_command_line.proofs.lemmas.ShellItems.{one_list}
 use Rattle.os_command_line.proofs.lemmas.ShellOnLine.{line_stays, line_word_len, line_word_reads}
 use Rattle.os_command_line.proofs.lemmas.ShellRoundTrip.{alone_read}
-use Rattle.program_frame.specs.Items.{Entry, Lacks}
-use Rattle.program_frame.specs.ListOptions.{MayLack, byte_of}
-use Rattle.program_frame.specs.ListRun.{IsOutput}
-use Rattle.program_frame.specs.Rules.{IsEntry}
-use Rattle.program_frame.specs.declared.lists.options.LastItem.{LastItem}
-use Rattle.program_frame.specs.declared.lists.options.LastItem.TheVariants.{MustEnd}
-use Rattle.program_frame.specs.declared.lists.options.ListOptions.{ListOptions}
+use Rattle.list_programs.specs.Items.{Entry, Lacks}
+use Rattle.list_programs.specs.ListOptions.{MayLack, byte_of}
+use Rattle.list_programs.specs.ListRun.{IsOutput}
+use Rattle.list_programs.specs.Rules.{IsEntry}
+use Rattle.list_programs.specs.declared.options.LastItem.{LastItem}
+use Rattle.list_programs.specs.declared.options.LastItem.TheVariants.{MustEnd}
+use Rattle.list_programs.specs.declared.options.ListOptions.{ListOptions}
 use Rattle.names_commands.specs.Back.{listing_words, joining_words, with_last, AreFirst, IsCompleted}
 use Rattle.names_commands.specs.Task.{rules_of}
 use Rattle.names_commands.specs.Names.{EndsInReturn}

@@ -1,5 +1,5 @@
 use Rattle.std.proofs.Common.{length}
-use Rattle.program_frame.specs.Arguments.{HasOption}
+use Rattle.list_programs.specs.Arguments.{HasOption}
 use Rattle.names_commands.specs.Command.{Fits}
 use Rattle.names_commands.specs.declared.option.NamesOption.{NamesOption}
 use Rattle.names_commands.proofs.fitting.first_misplaced.Given as goal

@@ -5,9 +5,9 @@ use Rattle.os_str_bytes.specs.Platform.{Ghosts}
 use Rattle.os_quote.specs.Escape.{IsLineEscape, IsLineFault}
 use Rattle.os_quote.specs.declared.error.QuoteError.{QuoteError}
 use Rattle.os_quote.specs.declared.error.QuoteError.TheVariants as quote
-use Rattle.program_frame.specs.ListOptions.{byte_of}
-use Rattle.program_frame.specs.Rules.{IsItemFault}
-use Rattle.program_frame.specs.declared.lists.options.ListOptions.{ListOptions}
+use Rattle.list_programs.specs.ListOptions.{byte_of}
+use Rattle.list_programs.specs.Rules.{IsItemFault}
+use Rattle.list_programs.specs.declared.options.ListOptions.{ListOptions}
 use Rattle.names_commands.specs.declared.fault.Rejection.{Rejection}
 use Rattle.names_commands.specs.declared.fault.Rejection.TheVariants.{NoString, BadEscape, NotCanonical, HasNul, HasNewline, EndsInReturn as InReturn, EmptyLine as IsEmptyLine, BadWords}
 use Rattle.names_commands.specs.declared.task.EmptyLine.{EmptyLine}

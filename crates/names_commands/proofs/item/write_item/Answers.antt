@@ -1,6 +1,6 @@
 use Rattle.std.proofs.Common.{sym, subst}
 use Rattle.std.proofs.lemmas.Result.{on_ok_weaker, IfErr-weaker}
-use Rattle.program_frame.specs.Rules.{IsItemFault}
+use Rattle.list_programs.specs.Rules.{IsItemFault}
 use Rattle.names_commands.specs.Task.{IsText, rules_of}
 use Rattle.names_commands.proofs.lemmas.Names.{words_item}
 use Rattle.names_commands.proofs.item.write_item.Goals as goal

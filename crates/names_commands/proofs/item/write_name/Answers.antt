@@ -1,8 +1,8 @@
 use Rattle.std.proofs.Common.{◌++◌, ◌∷◌, [], refl, arith}
 use Rattle.std.proofs.lemmas.Result.{on_ok_weaker, IfErr-weaker}
 use Rattle.std.proofs.lemmas.Str.{IsUtf8-nil}
-use Rattle.program_frame.specs.ListOptions.{byte_of}
-use Rattle.program_frame.proofs.lemmas.lists.Lines.{own_line, plain_is_utf8}
+use Rattle.list_programs.specs.ListOptions.{byte_of}
+use Rattle.list_programs.proofs.lemmas.Lines.{own_line, plain_is_utf8}
 use Rattle.names_commands.specs.declared.task.Task.TheVariants.{Join}
 use Rattle.names_commands.specs.Task.{IsNameOf, rules_of}
 use Rattle.names_commands.proofs.lemmas.Names.{memory_fault, plain_fits}

@@ -2,7 +2,7 @@ use Rattle.std.proofs.Common.{inl, inr, ◌++◌, ◌∷◌, [], refl, sym, ◌�
 use Rattle.std.proofs.lemmas.Result.{on_ok_weaker}
 use Rattle.os_ignore.specs.Ignores.{files_of}
 use Rattle.os_quote.specs.Escape.{IsLineEscape}
-use Rattle.program_frame.specs.ListOptions.{byte_of}
+use Rattle.list_programs.specs.ListOptions.{byte_of}
 use Rattle.names_commands.specs.Matching.{IsInForm, IsPickedBy}
 use Rattle.names_commands.proofs.matching.write_matching.Goals as goal
 

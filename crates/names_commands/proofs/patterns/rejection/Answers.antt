@@ -1,6 +1,6 @@
 use Rattle.std.proofs.Common.{inr, drop, ap, subst}
 use Rattle.std.specs.Fmt.InlineText.{inline_text}
-use Rattle.program_frame.specs.declared.lists.program_fault.Fault.TheVariants.{Words}
+use Rattle.list_programs.specs.declared.program_fault.Fault.TheVariants.{Words}
 use Rattle.names_commands.specs.Caret.{IsPointed}
 use Rattle.names_commands.specs.declared.fault.CommandFault.TheVariants.{Pattern}
 use Rattle.names_commands.proofs.patterns.rejection.Goals as goal

@@ -1,6 +1,6 @@
 use Rattle.std.proofs.Common.{◌≡◌, ◌++◌, map, length}
 use Rattle.std.specs.Prelude.{string_bytes}
-use Rattle.program_frame.specs.Arguments.{text_of}
+use Rattle.list_programs.specs.Arguments.{text_of}
 use Rattle.names_commands.proofs.pick.push_globs.Given as goal
 
 -- the patterns so far are appended

@@ -1,7 +1,7 @@
 use Rattle.std.proofs.Common.{sym, subst}
-use Rattle.program_frame.specs.ListRun.{Runs}
+use Rattle.list_programs.specs.ListRun.{Runs}
 use Rattle.program_frame.specs.Marked.{marked_inner}
-use Rattle.program_frame.specs.declared.lists.program_fault.Fault.TheVariants.{List as OfList}
+use Rattle.list_programs.specs.declared.program_fault.Fault.TheVariants.{List as OfList}
 use Rattle.names_commands.specs.Command.{requested_of}
 use Rattle.names_commands.specs.Program.{DoesWork}
 use Rattle.names_commands.specs.Task.{rules_of}

@@ -2,8 +2,8 @@ use Rattle.std.proofs.Common.{⊎_elim, inl, inr, map, refl, ap, subst, Err}
 use Rattle.std.proofs.lemmas.List.{length-map}
 use Rattle.os_ignore.specs.Ignores.{files_of}
 use Rattle.program_frame.specs.Marked.{marked_inner}
-use Rattle.program_frame.specs.ListRun.{Runs}
-use Rattle.program_frame.specs.declared.lists.program_fault.Fault.TheVariants.{List as OfList}
+use Rattle.list_programs.specs.ListRun.{Runs}
+use Rattle.list_programs.specs.declared.program_fault.Fault.TheVariants.{List as OfList}
 use Rattle.names_commands.specs.Ignoring.{AreRead, text_of}
 use Rattle.names_commands.specs.Program.{IsFaultOf}
 use Rattle.names_commands.specs.Why.{LinesAreKnown, deciding}

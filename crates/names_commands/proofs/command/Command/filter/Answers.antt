@@ -1,5 +1,5 @@
 use Rattle.std.proofs.Common.{◌∷◌, inl, inr, refl, ap, ◌∙◌, subst}
-use Rattle.program_frame.specs.Arguments.{operands_of}
+use Rattle.list_programs.specs.Arguments.{operands_of}
 use Rattle.program_frame.specs.Os.{os_word}
 use Rattle.names_commands.specs.Command.{Picks, SomePicked, name_word}
 use Rattle.names_commands.specs.declared.command.Name.TheVariants.{Filter}

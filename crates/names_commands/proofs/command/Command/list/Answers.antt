@@ -1,5 +1,5 @@
 use Rattle.std.proofs.Common.{sym, subst}
-use Rattle.program_frame.specs.Arguments.{operands_of}
+use Rattle.list_programs.specs.Arguments.{operands_of}
 use Rattle.names_commands.specs.Command.{Lists, MakesUpWork}
 use Rattle.names_commands.proofs.lemmas.Commands.{lists_escapes, lists_words}
 use Rattle.names_commands.proofs.command.Command.list.Goals as goal

@@ -1,6 +1,6 @@
 use Rattle.std.proofs.Common.{sym, ◌∙◌}
 use Rattle.std.proofs.lemmas.Bool.{false≢true}
-use Rattle.program_frame.specs.Arguments.{HasOption}
+use Rattle.list_programs.specs.Arguments.{HasOption}
 use Rattle.names_commands.specs.declared.option.NamesOption.TheVariants.{Help, Version}
 use Rattle.names_commands.proofs.lemmas.NeverBoth.{no_request}
 use Rattle.names_commands.proofs.command.Request.parse.Goals as goal
