@@ -1,8 +1,8 @@
 """Builds the Python package, as pip calls it (PEP 517), with nothing but Python.
 
-A wheel has the sources, the shared library, and the extension module if there are a C compiler and Python's headers, except
-for Windows. The library is that of lib/PROCESSOR in an unpacked source distribution, or the one that OSBYTES_LIBRARY names. CC names the
-compiler.
+A wheel has the sources, the shared library, and the extension module, for which a C compiler and Python's headers are needed.
+The library is that of lib/PROCESSOR in an unpacked source distribution, or the one that OSBYTES_LIBRARY names. CC names the
+compiler, and CFLAGS has more words for it.
 """
 
 from __future__ import annotations
@@ -31,8 +31,15 @@ LICENSE_FILES = ("LICENSE.md", "LICENSE-APACHE", "LICENSE-MIT", "NOTICE")
 LICENSES = tuple(folder / name for folder in (HERE, HERE.parent) for name in LICENSE_FILES)
 # A fixed time, so that the same sources give the same files.
 MADE = (2026, 1, 1, 0, 0, 0)
-# The module names no C library, as libosbytes doesn't, so it runs with glibc and with musl.
-FLAGS = ("-std=gnu11", "-O2", "-fPIC", "-shared", "-nostdlib", "-Wall")
+FLAGS = ("-std=gnu11", "-O2", "-Wall", "-Wextra", "-Wno-unused-parameter", "-Wno-missing-field-initializers")
+# The module finds libosbytes beside it. It names no C library, as libosbytes doesn't, so it runs with glibc and with musl.
+LINKED = ("-shared", "-nostdlib", "-Wl,-rpath,$ORIGIN")
+# What pyconfig.h of a Python for Windows has of what the stable ABI needs.
+SIZES = {"VOID_P": 8, "SIZE_T": 8, "LONG": 4, "LONG_LONG": 8, "WCHAR_T": 2, "TIME_T": 8, "PID_T": 4, "OFF_T": 4}
+ON_WINDOWS = ("Py_PYCONFIG_H", "MS_WINDOWS", "MS_WIN64", "HAVE_DECLSPEC_DLL", "Py_ENABLE_SHARED")
+FOR_WINDOWS = (*(f"-D{name}" for name in ON_WINDOWS), *(f"-DSIZEOF_{name}={size}" for name, size in SIZES.items()))
+# Whether this Python has the ABI that those from 3.10 on have in common.
+IS_STABLE = sys.version_info >= (3, 10) and not sysconfig.get_config_var("Py_GIL_DISABLED")
 FIELD = re.compile(r'^(name|version|description|requires-python|license) = "(.*)"$', re.M)
 CLASSIFIER = re.compile(r'^    "(.* :: .*)",$', re.M)
 
@@ -75,35 +82,59 @@ def compiler_for(processor: str) -> str:
     return os.environ.get("CC", "cc") if processor == platform.machine() else f"{processor}-linux-gnu-gcc"
 
 
-def extension(compiler: str, source: Path = HERE / "osbytes" / "_fast.c") -> bytes | None:
-    """Returns the extension module, or None if it can't be compiled here."""
-    header = next((path for path in HEADERS if path.exists()), None)
-    includes = {sysconfig.get_path("include"), sysconfig.get_path("platinclude")}
-    if header is None or not shutil.which(compiler):
-        return None
-    with tempfile.TemporaryDirectory() as room:
-        made = Path(room, "_fast.abi3.so")
-        words = [compiler, *FLAGS, f"-I{header.parent}", *(f"-I{include}" for include in includes)]
-        ran = subprocess.run([*words, str(source), "-o", str(made)], stderr=subprocess.PIPE, text=True)
-        if ran.returncode:
-            print(f"osbytes: without the extension module: {ran.stderr.strip()[-400:]}", file=sys.stderr)
-            return None
+def includes() -> list[Path]:
+    """Returns the folders of Python's headers, if they are installed."""
+    folders = {Path(sysconfig.get_path(of)) for of in ("include", "platinclude")}
+    return sorted(folders) if any((folder / "Python.h").exists() for folder in folders) else []
+
+
+def has_compiler(compiler: str) -> bool:
+    """Returns whether the extension module can be compiled here."""
+    return bool(shutil.which(compiler) and includes())
+
+
+def extension(compiler: str, library: Path, source: Path = HERE / "osbytes" / "_core.c") -> bytes:
+    """Returns the extension module, which is linked to a library: of Linux, or else the DLL."""
+    header = next(path for path in HEADERS if path.exists())
+    if not has_compiler(compiler):
+        raise SystemExit(f"osbytes: there is no {compiler} with Python's headers, which compile the extension module")
+    is_windows = library.suffix == ".dll"
+    with tempfile.TemporaryDirectory() as name:
+        module, made, imported = Path(name, "module.o"), Path(name, "module.so"), Path(name, "python3.def")
+        words = [*FLAGS, *os.environ.get("CFLAGS", "").split(), *(f"-I{include}" for include in (header.parent, *includes()))]
+        words += FOR_WINDOWS if is_windows else ("-fPIC",)
+        ran(compiler, *words, "-c", source, "-o", module)
+        linked = [*LINKED, library]
+        if is_windows:
+            # the import library of Python's DLL that has the stable ABI, of the names that the module takes
+            taken = re.findall(r"__imp_(_?Py\w+)", ran(compiler.replace("gcc", "nm"), "-u", module))
+            imported.write_text("\n".join(["LIBRARY python3.dll", "EXPORTS", *taken]), encoding="utf-8")
+            ran(compiler.replace("gcc", "dlltool"), "-d", imported, "-l", imported.with_suffix(".a"))
+            # no time, and an address that isn't made of the folder's name
+            linked = ["-shared", "-s", "-Wl,--no-insert-timestamp", "-Wl,--image-base,0x190000000", imported.with_suffix(".a"), library]
+        ran(compiler, module, *linked, "-o", made)
         return made.read_bytes()
 
 
-def make_wheel(folder: Path, library: Path, tag: str, compiler: str = "", label: str = "", note: str = "") -> Path:
-    """Makes a wheel with a library, for the platforms of a tag, which dots divide. For Windows it has no extension module.
+def ran(*words: str | Path) -> str:
+    """Runs a command, and returns what it prints. What a compiler warns of is shown."""
+    run = subprocess.run([str(word) for word in words], stdout=subprocess.PIPE, stderr=subprocess.PIPE, text=True)
+    if run.returncode:
+        raise SystemExit(f"osbytes: the extension module isn't compiled: {run.stderr.strip()[-2000:]}")
+    print(run.stderr, end="", file=sys.stderr)
+    return run.stdout
 
-    Label and note are those of `metadata`.
-    """
+
+def make_wheel(folder: Path, library: Path, tag: str, compiler: str, label: str = "", note: str = "") -> Path:
+    """Makes a wheel with a library, for the platforms of a tag, which dots divide. Label and note are those of `metadata`."""
     project = fields()
     name = f"osbytes-{project['version']}{label}"
     info = f"{name}.dist-info"
     entries = {f"osbytes/{path.name}": path.read_bytes() for path in sources() if path.suffix != ".c"}
     is_windows = tag.endswith("-win_amd64")
-    entries["osbytes/osbytes.dll" if is_windows else "osbytes/libosbytes.so"] = library.read_bytes()
-    if not is_windows and (compiled := extension(compiler)) is not None:
-        entries["osbytes/_fast.abi3.so"] = compiled
+    shared = f"libosbytes.so.{project['version'].rpartition('.')[0]}"
+    entries[f"osbytes/{'osbytes.dll' if is_windows else shared}"] = library.read_bytes()
+    entries[f"osbytes/{'_core.pyd' if is_windows else module_name()}"] = extension(compiler, library)
     entries.update({f"{info}/licenses/{path.name}": path.read_bytes() for path in licenses()})
     entries[f"{info}/METADATA"] = metadata(label, note).encode()
     before, _, platforms = tag.rpartition("-")
@@ -116,6 +147,11 @@ def make_wheel(folder: Path, library: Path, tag: str, compiler: str = "", label:
         for path, content in entries.items():
             made.writestr(zipfile.ZipInfo(path, MADE), content, zipfile.ZIP_DEFLATED)
     return file
+
+
+def module_name() -> str:
+    """Returns the name of the extension module's file."""
+    return "_core.abi3.so" if IS_STABLE else f"_core{sysconfig.get_config_var('EXT_SUFFIX')}"
 
 
 def record_of(path: str, content: bytes) -> str:
@@ -155,8 +191,8 @@ def library_of(processor: str) -> Path:
 
 def build_wheel(wheel_directory: str, config_settings: Any = None, metadata_directory: Any = None) -> str:
     """Makes the wheel of this machine, as pip requires it."""
-    processor = platform.machine()
-    tag = f"py3-none-linux_{processor}"
+    processor, version = platform.machine(), f"cp{sys.version_info[0]}{sys.version_info[1]}"
+    tag = f"{version}-{'abi3' if IS_STABLE else version + sys.abiflags}-linux_{processor}"
     return make_wheel(Path(wheel_directory), library_of(processor), tag, compiler_for(processor)).name
 
 

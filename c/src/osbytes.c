@@ -95,155 +95,161 @@ _Static_assert(sizeof(osb_option) == 24 && offsetof(osb_option, text) == 8, "osb
 #define OSB_HIDDEN
 #else
 #define OSB_HIDDEN __attribute__((visibility("hidden")))
-#pragma GCC visibility push(hidden)
 #endif
-uint32_t osb_core_check(uint32_t platform, const char *at, size_t len, osb_fault *fault);
-void osb_core_start(struct core_open *opened);
-uint32_t osb_core_feed(struct core_open *opened, const char *at, size_t len, osb_fault *fault);
-uint32_t osb_core_finish(const struct core_open *opened, osb_fault *fault);
-uint32_t osb_core_fault_text(const osb_fault *fault, char *out, size_t room, size_t *count);
-uint32_t osb_core_to_wide(const char *at, size_t len, uint16_t *out, size_t room, size_t *count,
-                          osb_fault *fault);
-uint32_t osb_core_from_wide(const uint16_t *at, size_t len, char *out, size_t room, size_t *count);
-uint32_t osb_core_lossy(uint32_t platform, const char *at, size_t len, char *out, size_t room,
-                        size_t *count, osb_fault *fault);
-uint32_t osb_core_escape(uint32_t platform, const char *at, size_t len, char *out, size_t room,
-                         size_t *count, osb_fault *fault);
-uint32_t osb_core_escape_line(uint32_t platform, const char *at, size_t len, char *out, size_t room,
-                              size_t *count, osb_fault *fault);
-uint32_t osb_core_unescape(uint32_t platform, const char *escape, size_t len, char *out,
-                           size_t room, size_t *count, size_t *index);
-uint32_t osb_core_unescape_line(uint32_t platform, const char *escape, size_t len, char *out,
-                                size_t room, size_t *count, size_t *index);
-uint32_t osb_core_find(const char *at, size_t len, const char *pattern, size_t pattern_len,
-                       size_t *index);
-uint32_t osb_core_rfind(const char *at, size_t len, const char *pattern, size_t pattern_len,
-                        size_t *index);
-uint32_t osb_core_contains(const char *at, size_t len, const char *pattern, size_t pattern_len);
-uint32_t osb_core_starts_with(const char *at, size_t len, const char *pattern, size_t pattern_len);
-uint32_t osb_core_ends_with(const char *at, size_t len, const char *pattern, size_t pattern_len);
-uint32_t osb_core_starts_with_units(uint32_t platform, const char *at, size_t len,
-                                    const char *prefix, size_t prefix_len);
-uint32_t osb_core_ends_with_units(uint32_t platform, const char *at, size_t len,
-                                  const char *suffix, size_t suffix_len);
-uint32_t osb_core_is_boundary(const char *at, size_t len, size_t index);
-uint32_t osb_core_compare(const char *a, size_t a_len, const char *b, size_t b_len);
-uint32_t osb_core_cut(const char *at, size_t len, const char *pattern, size_t pattern_len,
-                      size_t from, struct core_piece *piece);
-uint32_t osb_core_rcut(const char *at, size_t len, const char *pattern, size_t pattern_len,
-                       size_t to, struct core_piece *piece);
-uint32_t osb_core_chunk(const char *at, size_t len, size_t from, struct core_ends *ends);
-uint32_t osb_core_symbol(uint32_t platform, const char *at, size_t len, size_t from,
-                         struct core_step *step);
-uint32_t osb_core_path_components(uint32_t platform, const char *at, size_t len, osb_component *out,
-                                  size_t room, size_t *count);
-uint32_t osb_core_path_parent(uint32_t platform, const char *at, size_t len,
-                              struct core_span *span);
-uint32_t osb_core_path_prefix(uint32_t platform, const char *at, size_t len,
-                              struct core_span *span);
-uint32_t osb_core_path_file_name(uint32_t platform, const char *at, size_t len,
-                                 struct core_span *span);
-uint32_t osb_core_path_file_stem(uint32_t platform, const char *at, size_t len,
-                                 struct core_span *span);
-uint32_t osb_core_path_extension(uint32_t platform, const char *at, size_t len,
-                                 struct core_span *span);
-uint32_t osb_core_path_has_root(uint32_t platform, const char *at, size_t len);
-uint32_t osb_core_path_is_absolute(uint32_t platform, const char *at, size_t len);
-uint32_t osb_core_path_starts_with(uint32_t platform, const char *at, size_t len, const char *base,
-                                   size_t base_len);
-uint32_t osb_core_path_ends_with(uint32_t platform, const char *at, size_t len, const char *child,
-                                 size_t child_len);
-uint32_t osb_core_path_strip_prefix(uint32_t platform, const char *at, size_t len,
-                                    const char *base, size_t base_len, osb_view *rest);
-uint32_t osb_core_path_join(uint32_t platform, const char *base, size_t base_len, const char *at,
-                            size_t len, char *out, size_t room, size_t *count);
-uint32_t osb_core_path_join_checked(uint32_t platform, const char *base, size_t base_len,
-                                    const char *at, size_t len, char *out, size_t room,
-                                    size_t *count, osb_join_fault *fault);
-uint32_t osb_core_path_relative(uint32_t platform, const char *at, size_t len, const char *base,
-                                size_t base_len, char *out, size_t room, size_t *count);
-uint32_t osb_core_path_normalize(uint32_t platform, const char *at, size_t len, char *out,
-                                 size_t room, size_t *count);
-uint32_t osb_core_path_clean(uint32_t platform, const char *at, size_t len, char *out, size_t room,
-                             size_t *count);
-uint32_t osb_core_path_convert(uint32_t from, uint32_t to, const char *at, size_t len, char *out,
-                               size_t room, size_t *count, size_t *index, osb_fault *fault);
-uint32_t osb_core_path_with_file_name(uint32_t platform, const char *at, size_t len,
-                                      const char *name, size_t name_len, char *out, size_t room,
-                                      size_t *count);
-uint32_t osb_core_path_with_extension(uint32_t platform, const char *at, size_t len,
-                                      const char *extension, size_t extension_len, char *out,
-                                      size_t room, size_t *count);
-uint32_t osb_core_path_with_added_extension(uint32_t platform, const char *at, size_t len,
-                                            const char *extension, size_t extension_len, char *out,
-                                            size_t room, size_t *count);
-uint32_t osb_core_shell_quote(const char *at, size_t len, char *out, size_t room, size_t *count,
-                              size_t *index);
-uint32_t osb_core_shell_quote_first(const char *at, size_t len, char *out, size_t room,
-                                    size_t *count, size_t *index);
-uint32_t osb_core_shell_quote_line(const char *at, size_t len, char *out, size_t room,
-                                   size_t *count, size_t *index);
-uint32_t osb_core_fish_quote(const char *at, size_t len, char *out, size_t room, size_t *count,
-                             size_t *index);
-uint32_t osb_core_powershell_quote(const char *at, size_t len, char *out, size_t room,
-                                   size_t *count, size_t *index);
-uint32_t osb_core_shell_words(uint32_t options, const char *line, size_t len, char *out,
-                              size_t room, size_t *count, struct core_line_fault *fault);
-uint32_t osb_core_windows_quote(const char *at, size_t len, uint16_t *out, size_t room,
-                                size_t *count, size_t *index, osb_fault *fault);
-uint32_t osb_core_windows_quote_name(const char *at, size_t len, uint16_t *out, size_t room,
-                                     size_t *count, size_t *index, osb_fault *fault);
-uint32_t osb_core_windows_arguments(const char *line, size_t len, uint16_t *out, size_t room,
-                                    size_t *count, size_t *index, osb_fault *fault);
-uint32_t osb_core_option(uint32_t options, const char *word, size_t len, struct core_option *read);
-uint32_t osb_core_flag(const char *word, size_t len, size_t at, struct core_option *read);
+
+/* The exports: what each returns, its name after osb_core_, and its parameters. Their declarations and the choice of a
+ * level (levels.h) are made of this list. Those that fill an array take the address at which the string begins as a
+ * number, too, and write views of it. */
+#define EXPORTS(each) \
+    each(uint32_t, check, (uint32_t platform, const char *at, size_t len, osb_fault *fault)) \
+    each(void, start, (struct core_open *opened)) \
+    each(uint32_t, feed, (struct core_open *opened, const char *at, size_t len, osb_fault *fault)) \
+    each(uint32_t, finish, (const struct core_open *opened, osb_fault *fault)) \
+    each(uint32_t, fault_text, (const osb_fault *fault, char *out, size_t room, size_t *count)) \
+    each(uint32_t, to_wide, (const char *at, size_t len, uint16_t *out, size_t room, \
+        size_t *count, osb_fault *fault)) \
+    each(uint32_t, from_wide, (const uint16_t *at, size_t len, char *out, size_t room, \
+        size_t *count)) \
+    each(uint32_t, lossy, (uint32_t platform, const char *at, size_t len, char *out, size_t room, \
+        size_t *count, osb_fault *fault)) \
+    each(uint32_t, escape, (uint32_t platform, const char *at, size_t len, char *out, size_t room, \
+        size_t *count, osb_fault *fault)) \
+    each(uint32_t, escape_line, (uint32_t platform, const char *at, size_t len, char *out, \
+        size_t room, size_t *count, osb_fault *fault)) \
+    each(uint32_t, unescape, (uint32_t platform, const char *escape, size_t len, char *out, \
+        size_t room, size_t *count, size_t *index)) \
+    each(uint32_t, unescape_line, (uint32_t platform, const char *escape, size_t len, char *out, \
+        size_t room, size_t *count, size_t *index)) \
+    each(uint32_t, find, (const char *at, size_t len, const char *pattern, size_t pattern_len, \
+        size_t *index)) \
+    each(uint32_t, rfind, (const char *at, size_t len, const char *pattern, size_t pattern_len, \
+        size_t *index)) \
+    each(uint32_t, contains, (const char *at, size_t len, const char *pattern, \
+        size_t pattern_len)) \
+    each(uint32_t, starts_with, (const char *at, size_t len, const char *pattern, \
+        size_t pattern_len)) \
+    each(uint32_t, ends_with, (const char *at, size_t len, const char *pattern, \
+        size_t pattern_len)) \
+    each(uint32_t, starts_with_units, (uint32_t platform, const char *at, size_t len, \
+        const char *prefix, size_t prefix_len)) \
+    each(uint32_t, ends_with_units, (uint32_t platform, const char *at, size_t len, \
+        const char *suffix, size_t suffix_len)) \
+    each(uint32_t, is_boundary, (const char *at, size_t len, size_t index)) \
+    each(uint32_t, compare, (const char *a, size_t a_len, const char *b, size_t b_len)) \
+    each(uint32_t, cut, (const char *at, size_t len, const char *pattern, size_t pattern_len, \
+        size_t from, struct core_piece *piece)) \
+    each(uint32_t, rcut, (const char *at, size_t len, const char *pattern, size_t pattern_len, \
+        size_t to, struct core_piece *piece)) \
+    each(uint32_t, chunk, (const char *at, size_t len, size_t from, struct core_ends *ends)) \
+    each(uint32_t, symbol, (uint32_t platform, const char *at, size_t len, size_t from, \
+        struct core_step *step)) \
+    each(uint32_t, path_components, (uint32_t platform, const char *at, size_t len, \
+        osb_component *out, size_t room, size_t *count)) \
+    each(uint32_t, path_parent, (uint32_t platform, const char *at, size_t len, \
+        struct core_span *span)) \
+    each(uint32_t, path_prefix, (uint32_t platform, const char *at, size_t len, \
+        struct core_span *span)) \
+    each(uint32_t, path_file_name, (uint32_t platform, const char *at, size_t len, \
+        struct core_span *span)) \
+    each(uint32_t, path_file_stem, (uint32_t platform, const char *at, size_t len, \
+        struct core_span *span)) \
+    each(uint32_t, path_extension, (uint32_t platform, const char *at, size_t len, \
+        struct core_span *span)) \
+    each(uint32_t, path_has_root, (uint32_t platform, const char *at, size_t len)) \
+    each(uint32_t, path_is_absolute, (uint32_t platform, const char *at, size_t len)) \
+    each(uint32_t, path_starts_with, (uint32_t platform, const char *at, size_t len, \
+        const char *base, size_t base_len)) \
+    each(uint32_t, path_ends_with, (uint32_t platform, const char *at, size_t len, \
+        const char *child, size_t child_len)) \
+    each(uint32_t, path_strip_prefix, (uint32_t platform, const char *at, size_t len, \
+        const char *base, size_t base_len, osb_view *rest)) \
+    each(uint32_t, path_join, (uint32_t platform, const char *base, size_t base_len, \
+        const char *at, size_t len, char *out, size_t room, size_t *count)) \
+    each(uint32_t, path_join_checked, (uint32_t platform, const char *base, size_t base_len, \
+        const char *at, size_t len, char *out, size_t room, size_t *count, osb_join_fault *fault)) \
+    each(uint32_t, path_relative, (uint32_t platform, const char *at, size_t len, \
+        const char *base, size_t base_len, char *out, size_t room, size_t *count)) \
+    each(uint32_t, path_normalize, (uint32_t platform, const char *at, size_t len, char *out, \
+        size_t room, size_t *count)) \
+    each(uint32_t, path_clean, (uint32_t platform, const char *at, size_t len, char *out, \
+        size_t room, size_t *count)) \
+    each(uint32_t, path_convert, (uint32_t from, uint32_t to, const char *at, size_t len, \
+        char *out, size_t room, size_t *count, size_t *index, osb_fault *fault)) \
+    each(uint32_t, path_with_file_name, (uint32_t platform, const char *at, size_t len, \
+        const char *name, size_t name_len, char *out, size_t room, size_t *count)) \
+    each(uint32_t, path_with_extension, (uint32_t platform, const char *at, size_t len, \
+        const char *extension, size_t extension_len, char *out, size_t room, size_t *count)) \
+    each(uint32_t, path_with_added_extension, (uint32_t platform, const char *at, size_t len, \
+        const char *extension, size_t extension_len, char *out, size_t room, size_t *count)) \
+    each(uint32_t, shell_quote, (const char *at, size_t len, char *out, size_t room, \
+        size_t *count, size_t *index)) \
+    each(uint32_t, shell_quote_first, (const char *at, size_t len, char *out, size_t room, \
+        size_t *count, size_t *index)) \
+    each(uint32_t, shell_quote_line, (const char *at, size_t len, char *out, size_t room, \
+        size_t *count, size_t *index)) \
+    each(uint32_t, fish_quote, (const char *at, size_t len, char *out, size_t room, size_t *count, \
+        size_t *index)) \
+    each(uint32_t, powershell_quote, (const char *at, size_t len, char *out, size_t room, \
+        size_t *count, size_t *index)) \
+    each(uint32_t, shell_words, (uint32_t options, const char *line, size_t len, char *out, \
+        size_t room, size_t *count, struct core_line_fault *fault)) \
+    each(uint32_t, windows_quote, (const char *at, size_t len, uint16_t *out, size_t room, \
+        size_t *count, size_t *index, osb_fault *fault)) \
+    each(uint32_t, windows_quote_name, (const char *at, size_t len, uint16_t *out, size_t room, \
+        size_t *count, size_t *index, osb_fault *fault)) \
+    each(uint32_t, windows_arguments, (const char *line, size_t len, uint16_t *out, size_t room, \
+        size_t *count, size_t *index, osb_fault *fault)) \
+    each(uint32_t, option, (uint32_t options, const char *word, size_t len, \
+        struct core_option *read)) \
+    each(uint32_t, flag, (const char *word, size_t len, size_t at, struct core_option *read)) \
+    each(uint32_t, glob_matches, (uint32_t platform, uint32_t options, const osb_view *patterns, \
+        size_t patterns_len, const osb_view *paths, size_t paths_len, uint8_t *matched, \
+        size_t room, size_t *count, osb_glob_fault *fault)) \
+    each(uint32_t, globs_new, (uint32_t platform, uint32_t options, const osb_view *patterns, \
+        size_t patterns_len, struct core_held *held, osb_glob_fault *fault)) \
+    each(uint32_t, globs_is_match, (struct core_held *held, const char *path, size_t len)) \
+    each(uint32_t, globs_matches, (struct core_held *held, const osb_view *paths, \
+        size_t paths_len, uint8_t *matched, size_t room, size_t *count)) \
+    each(uint32_t, globs_share, (struct core_held *held, struct core_held *other)) \
+    each(uint32_t, globs_free, (struct core_held *held)) \
+    each(uint32_t, ignores_new, (struct core_held *held)) \
+    each(uint32_t, ignores_add, (struct core_held *held, const char *directory, \
+        size_t directory_len, const char *file, size_t file_len)) \
+    each(uint32_t, ignores_match, (struct core_held *held, const char *path, size_t len, \
+        uint32_t is_dir, osb_decision *decision)) \
+    each(uint32_t, ignores_free, (struct core_held *held)) \
+    each(uint32_t, ignore_matches, (const char *file, size_t file_len, const osb_view *paths, \
+        size_t paths_len, const char *dirs, size_t dirs_len, osb_verdict *out, size_t room, \
+        size_t *count)) \
+    each(uint32_t, split_fill, (const char *at, size_t len, const char *pattern, \
+        size_t pattern_len, size_t from, size_t address, osb_view *out, size_t room, \
+        struct core_filled *filled)) \
+    each(uint32_t, rsplit_fill, (const char *at, size_t len, const char *pattern, \
+        size_t pattern_len, size_t to, size_t address, osb_view *out, size_t room, \
+        struct core_filled *filled)) \
+    each(uint32_t, chunks_fill, (const char *at, size_t len, size_t from, size_t address, \
+        osb_chunk *out, size_t room, struct core_filled *filled)) \
+    each(uint32_t, symbols_fill, (uint32_t platform, const char *at, size_t len, size_t from, \
+        size_t address, osb_symbol *out, size_t room, struct core_filled *filled))
+
+_Static_assert(sizeof(uintptr_t) == sizeof(size_t), "an address is a size_t");
+
 /* On Windows a struct of two words is returned in memory in C, and in two registers by the exports' compiler,
  * which compiles two functions between them: windows.ll. */
 #ifdef _WIN32
 #define rattle_alloc osb_edge_alloc
 #define rattle_realloc osb_edge_realloc
 #endif
-struct core_block rattle_alloc(size_t len, size_t align);
-struct core_block rattle_realloc(void *at, size_t kept, size_t len, size_t align);
-void rattle_dealloc(void *at);
-uint32_t osb_core_glob_matches(uint32_t platform, uint32_t options, const osb_view *patterns,
-                               size_t patterns_len, const osb_view *paths, size_t paths_len,
-                               uint8_t *matched, size_t room, size_t *count, osb_glob_fault *fault);
-uint32_t osb_core_globs_new(uint32_t platform, uint32_t options, const osb_view *patterns,
-                            size_t patterns_len, struct core_held *held, osb_glob_fault *fault);
-uint32_t osb_core_globs_is_match(struct core_held *held, const char *path, size_t len);
-uint32_t osb_core_globs_matches(struct core_held *held, const osb_view *paths, size_t paths_len,
-                                uint8_t *matched, size_t room, size_t *count);
-uint32_t osb_core_globs_share(struct core_held *held, struct core_held *other);
-uint32_t osb_core_globs_free(struct core_held *held);
-uint32_t osb_core_ignores_new(struct core_held *held);
-uint32_t osb_core_ignores_add(struct core_held *held, const char *directory, size_t directory_len,
-                              const char *file, size_t file_len);
-uint32_t osb_core_ignores_match(struct core_held *held, const char *path, size_t len,
-                                uint32_t is_dir, osb_decision *decision);
-uint32_t osb_core_ignores_free(struct core_held *held);
-uint32_t osb_core_ignore_matches(const char *file, size_t file_len, const osb_view *paths,
-                                 size_t paths_len, const char *dirs, size_t dirs_len,
-                                 osb_verdict *out, size_t room, size_t *count);
-/* Those that fill an array take the address at which the string begins as a number, too, and write views of it. */
-_Static_assert(sizeof(uintptr_t) == sizeof(size_t), "an address is a size_t");
-uint32_t osb_core_split_fill(const char *at, size_t len, const char *pattern, size_t pattern_len,
-                             size_t from, size_t address, osb_view *out, size_t room,
-                             struct core_filled *filled);
-uint32_t osb_core_rsplit_fill(const char *at, size_t len, const char *pattern, size_t pattern_len,
-                              size_t to, size_t address, osb_view *out, size_t room,
-                              struct core_filled *filled);
-uint32_t osb_core_chunks_fill(const char *at, size_t len, size_t from, size_t address,
-                              osb_chunk *out, size_t room, struct core_filled *filled);
-uint32_t osb_core_symbols_fill(uint32_t platform, const char *at, size_t len, size_t from,
-                               size_t address, osb_symbol *out, size_t room,
-                               struct core_filled *filled);
-#ifndef _WIN32
-#pragma GCC visibility pop
-#endif
+OSB_HIDDEN struct core_block rattle_alloc(size_t len, size_t align);
+OSB_HIDDEN struct core_block rattle_realloc(void *at, size_t kept, size_t len, size_t align);
+OSB_HIDDEN void rattle_dealloc(void *at);
 
 #ifdef __x86_64__
 #include "levels.h"
+#else
+#define DECLARED(result, name, parameters) OSB_HIDDEN result osb_core_##name parameters;
+EXPORTS(DECLARED)
+#define CORE(name) osb_core_##name
 #endif
 
 /* A function that is inlined: so the export that it is given is called directly, and a step of an
@@ -341,7 +347,7 @@ const char *osb_status_text(osb_status status) {
 osb_status osb_check(osb_platform platform, const char *at, size_t len, osb_fault *fault) {
     osb_fault own = {0, 0, 0, 0};
     if (is_bad(at, len)) return OSB_BAD_POINTER;
-    osb_status status = osb_core_check(platform, bytes(at), len, &own);
+    osb_status status = CORE(check)(platform, bytes(at), len, &own);
     if (status == OSB_FAULTY && fault != NULL) *fault = own;
     return status;
 }
@@ -349,7 +355,7 @@ osb_status osb_check(osb_platform platform, const char *at, size_t len, osb_faul
 osb_status osb_checker_start(osb_checker *checker) {
     struct core_open own = {0, 0};
     if (checker == NULL) return OSB_BAD_POINTER;
-    osb_core_start(&own);
+    CORE(start)(&own);
     *checker = (osb_checker){own.state, own.bits, 0, 0};
     return OSB_OK;
 }
@@ -365,7 +371,7 @@ osb_status osb_checker_feed(osb_checker *checker, const char *at, size_t len, os
     if (checker == NULL || is_bad(at, len)) return OSB_BAD_POINTER;
     if (checker->kind != 0) return kept_fault(checker, fault);
     struct core_open opened = {checker->state, checker->bits};
-    osb_status status = osb_core_feed(&opened, bytes(at), len, &own);
+    osb_status status = CORE(feed)(&opened, bytes(at), len, &own);
     if (status == OSB_OK) *checker = (osb_checker){opened.state, opened.bits, 0, 0};
     if (status == OSB_FAULTY) {
         checker->kind = own.kind;
@@ -380,7 +386,7 @@ osb_status osb_checker_finish(const osb_checker *checker, osb_fault *fault) {
     if (checker == NULL) return OSB_BAD_POINTER;
     if (checker->kind != 0) return kept_fault(checker, fault);
     struct core_open opened = {checker->state, checker->bits};
-    osb_status status = osb_core_finish(&opened, &own);
+    osb_status status = CORE(finish)(&opened, &own);
     if (status == OSB_FAULTY && fault != NULL) *fault = own;
     return status;
 }
@@ -391,7 +397,7 @@ osb_status osb_fault_text(const osb_fault *fault, char *out, size_t room, size_t
     osb_fault named = *fault;
     size_t before = room == 0 ? 0 : room - 1;
     char *to = before == 0 ? (char *)no_room : out;
-    osb_status status = osb_core_fault_text(&named, to, before, &own);
+    osb_status status = CORE(fault_text)(&named, to, before, &own);
     if (status == OSB_OK || status == OSB_NO_ROOM) *count = own;
     if (status == OSB_OK) out[own] = 0;
     return status;
@@ -409,7 +415,7 @@ osb_status osb_to_wide(const char *at, size_t len, uint16_t *out, size_t room, s
         do_overlap(at, len, out, room * sizeof *out))
         return OSB_BAD_POINTER;
     osb_status status =
-        osb_core_to_wide(bytes(at), len, room == 0 ? no_room : out, room, &own, &own_fault);
+        CORE(to_wide)(bytes(at), len, room == 0 ? no_room : out, room, &own, &own_fault);
     if (status == OSB_OK || status == OSB_NO_ROOM) *count = own;
     if (status == OSB_FAULTY && fault != NULL) *fault = own_fault;
     return status;
@@ -424,7 +430,7 @@ osb_status osb_from_wide(const uint16_t *units, size_t len, char *out, size_t ro
     if (count == NULL || are_bad_units(units, len) || is_bad(out, room) ||
         do_overlap(units, len * sizeof *units, out, room))
         return OSB_BAD_POINTER;
-    osb_status status = osb_core_from_wide(len == 0 ? nothing : units, len,
+    osb_status status = CORE(from_wide)(len == 0 ? nothing : units, len,
                                            room == 0 ? (char *)no_room : out, room, &own);
     *count = own;
     return status;
@@ -453,7 +459,7 @@ size_t osb_lossy_bound(size_t len) {
 
 osb_status osb_lossy(osb_platform platform, const char *at, size_t len, char *out, size_t room,
                      size_t *count, osb_fault *fault) {
-    return write_text(osb_core_lossy, platform, at, len, out, room, count, fault);
+    return write_text(CORE(lossy), platform, at, len, out, room, count, fault);
 }
 
 size_t osb_escape_bound(size_t len) {
@@ -462,12 +468,12 @@ size_t osb_escape_bound(size_t len) {
 
 osb_status osb_escape(osb_platform platform, const char *at, size_t len, char *out, size_t room,
                       size_t *count, osb_fault *fault) {
-    return write_text(osb_core_escape, platform, at, len, out, room, count, fault);
+    return write_text(CORE(escape), platform, at, len, out, room, count, fault);
 }
 
 osb_status osb_escape_line(osb_platform platform, const char *at, size_t len, char *out,
                            size_t room, size_t *count, osb_fault *fault) {
-    return write_text(osb_core_escape_line, platform, at, len, out, room, count, fault);
+    return write_text(CORE(escape_line), platform, at, len, out, room, count, fault);
 }
 
 /* An export that writes the string with an escape. */
@@ -493,19 +499,19 @@ size_t osb_unescape_bound(size_t len) {
 
 osb_status osb_unescape(osb_platform platform, const char *escape, size_t len, char *out,
                         size_t room, size_t *count, size_t *index) {
-    return write_string(osb_core_unescape, platform, escape, len, out, room, count, index);
+    return write_string(CORE(unescape), platform, escape, len, out, room, count, index);
 }
 
 osb_status osb_unescape_line(osb_platform platform, const char *escape, size_t len, char *out,
                              size_t room, size_t *count, size_t *index) {
-    return write_string(osb_core_unescape_line, platform, escape, len, out, room, count, index);
+    return write_string(CORE(unescape_line), platform, escape, len, out, room, count, index);
 }
 
 osb_status osb_find(const char *at, size_t len, const char *pattern, size_t pattern_len,
                     size_t *index) {
     size_t own = 0;
     if (index == NULL || is_bad(at, len) || is_bad(pattern, pattern_len)) return OSB_BAD_POINTER;
-    osb_status status = osb_core_find(bytes(at), len, bytes(pattern), pattern_len, &own);
+    osb_status status = CORE(find)(bytes(at), len, bytes(pattern), pattern_len, &own);
     if (status == OSB_OK) *index = own;
     return status;
 }
@@ -514,46 +520,46 @@ osb_status osb_rfind(const char *at, size_t len, const char *pattern, size_t pat
                      size_t *index) {
     size_t own = 0;
     if (index == NULL || is_bad(at, len) || is_bad(pattern, pattern_len)) return OSB_BAD_POINTER;
-    osb_status status = osb_core_rfind(bytes(at), len, bytes(pattern), pattern_len, &own);
+    osb_status status = CORE(rfind)(bytes(at), len, bytes(pattern), pattern_len, &own);
     if (status == OSB_OK) *index = own;
     return status;
 }
 
 int osb_contains(const char *at, size_t len, const char *pattern, size_t pattern_len) {
     if (is_bad(at, len) || is_bad(pattern, pattern_len)) return answer(OSB_BAD_POINTER);
-    return answer(osb_core_contains(bytes(at), len, bytes(pattern), pattern_len));
+    return answer(CORE(contains)(bytes(at), len, bytes(pattern), pattern_len));
 }
 
 int osb_starts_with(const char *at, size_t len, const char *pattern, size_t pattern_len) {
     if (is_bad(at, len) || is_bad(pattern, pattern_len)) return answer(OSB_BAD_POINTER);
-    return answer(osb_core_starts_with(bytes(at), len, bytes(pattern), pattern_len));
+    return answer(CORE(starts_with)(bytes(at), len, bytes(pattern), pattern_len));
 }
 
 int osb_ends_with(const char *at, size_t len, const char *pattern, size_t pattern_len) {
     if (is_bad(at, len) || is_bad(pattern, pattern_len)) return answer(OSB_BAD_POINTER);
-    return answer(osb_core_ends_with(bytes(at), len, bytes(pattern), pattern_len));
+    return answer(CORE(ends_with)(bytes(at), len, bytes(pattern), pattern_len));
 }
 
 int osb_starts_with_units(osb_platform platform, const char *at, size_t len, const char *prefix,
                           size_t prefix_len) {
     if (is_bad(at, len) || is_bad(prefix, prefix_len)) return answer(OSB_BAD_POINTER);
-    return answer(osb_core_starts_with_units(platform, bytes(at), len, bytes(prefix), prefix_len));
+    return answer(CORE(starts_with_units)(platform, bytes(at), len, bytes(prefix), prefix_len));
 }
 
 int osb_ends_with_units(osb_platform platform, const char *at, size_t len, const char *suffix,
                         size_t suffix_len) {
     if (is_bad(at, len) || is_bad(suffix, suffix_len)) return answer(OSB_BAD_POINTER);
-    return answer(osb_core_ends_with_units(platform, bytes(at), len, bytes(suffix), suffix_len));
+    return answer(CORE(ends_with_units)(platform, bytes(at), len, bytes(suffix), suffix_len));
 }
 
 int osb_is_boundary(const char *at, size_t len, size_t index) {
     if (is_bad(at, len)) return answer(OSB_BAD_POINTER);
-    return answer(osb_core_is_boundary(bytes(at), len, index));
+    return answer(CORE(is_boundary)(bytes(at), len, index));
 }
 
 osb_status osb_compare(const char *a, size_t a_len, const char *b, size_t b_len, int32_t *order) {
     if (order == NULL || is_bad(a, a_len) || is_bad(b, b_len)) return OSB_BAD_POINTER;
-    uint32_t number = osb_core_compare(bytes(a), a_len, bytes(b), b_len);
+    uint32_t number = CORE(compare)(bytes(a), a_len, bytes(b), b_len);
     *order = number == 0 ? 0 : number == 1 ? -1 : 1;
     return OSB_OK;
 }
@@ -565,7 +571,7 @@ static osb_status start_split(osb_split *split, const char *at, size_t len, cons
     struct core_piece own = {0, 0, false};
     if (split == NULL || is_bad(at, len) || is_bad(pattern, pattern_len)) return OSB_BAD_POINTER;
     pattern = bytes(pattern);
-    osb_status status = osb_core_cut((const char *)nothing, 0, pattern, pattern_len, 0, &own);
+    osb_status status = CORE(cut)((const char *)nothing, 0, pattern, pattern_len, 0, &own);
     if (status == OSB_OK)
         *split = (osb_split){{bytes(at), len}, {pattern, pattern_len}, next, 0};
     return status;
@@ -592,7 +598,7 @@ osb_status osb_split_next(osb_split *split, osb_view *piece) {
     struct core_piece own = {0, 0, false};
     if (piece == NULL || is_bad_split(split)) return OSB_BAD_POINTER;
     if (split->ended != 0) return OSB_ENDED;
-    osb_status status = osb_core_cut(split->string.at, split->string.len, split->pattern.at,
+    osb_status status = CORE(cut)(split->string.at, split->string.len, split->pattern.at,
                                      split->pattern.len, split->next, &own);
     if (status != OSB_OK) return status;
     *piece = (osb_view){split->string.at + split->next, own.edge - split->next};
@@ -605,7 +611,7 @@ osb_status osb_rsplit_next(osb_split *split, osb_view *piece) {
     struct core_piece own = {0, 0, false};
     if (piece == NULL || is_bad_split(split)) return OSB_BAD_POINTER;
     if (split->ended != 0) return OSB_ENDED;
-    osb_status status = osb_core_rcut(split->string.at, split->string.len, split->pattern.at,
+    osb_status status = CORE(rcut)(split->string.at, split->string.len, split->pattern.at,
                                       split->pattern.len, split->next, &own);
     if (status != OSB_OK) return status;
     *piece = (osb_view){split->string.at + own.edge, split->next - own.edge};
@@ -625,7 +631,7 @@ osb_status osb_chunks_next(osb_chunks *chunks, osb_chunk *chunk) {
     if (chunks == NULL || chunk == NULL || chunks->string.at == NULL ||
         is_bad(chunks->string.at, chunks->string.len))
         return OSB_BAD_POINTER;
-    osb_status status = osb_core_chunk(chunks->string.at, chunks->string.len, chunks->next, &own);
+    osb_status status = CORE(chunk)(chunks->string.at, chunks->string.len, chunks->next, &own);
     if (status != OSB_OK) return status;
     const char *at = chunks->string.at;
     chunk->part = (osb_view){at + chunks->next, own.part - chunks->next};
@@ -654,7 +660,7 @@ osb_status osb_symbols_next(osb_symbols *symbols, osb_symbol *symbol) {
     if (symbols == NULL || symbol == NULL || symbols->string.at == NULL ||
         is_bad(symbols->string.at, symbols->string.len))
         return OSB_BAD_POINTER;
-    osb_status status = osb_core_symbol(symbols->platform, symbols->string.at, symbols->string.len,
+    osb_status status = CORE(symbol)(symbols->platform, symbols->string.at, symbols->string.len,
                                         symbols->next, &own);
     if (status != OSB_OK) return status;
     osb_view own_bytes = {symbols->string.at + symbols->next, own.end - symbols->next};
@@ -669,7 +675,7 @@ osb_status osb_path_components(osb_platform platform, const char *at, size_t len
     if (count == NULL || is_bad(at, len) || are_bad_components(out, room) ||
         do_overlap(at, len, out, room * sizeof *out))
         return OSB_BAD_POINTER;
-    osb_status status = osb_core_path_components(platform, bytes(at), len,
+    osb_status status = CORE(path_components)(platform, bytes(at), len,
                                                  room == 0 ? no_components : out, room, &own);
     if (status == OSB_OK || status == OSB_NO_ROOM) *count = own;
     return status;
@@ -689,46 +695,46 @@ INLINED osb_status find_part(core_part *call, osb_platform platform, const char 
 }
 
 osb_status osb_path_parent(osb_platform platform, const char *at, size_t len, osb_view *parent) {
-    return find_part(osb_core_path_parent, platform, at, len, parent);
+    return find_part(CORE(path_parent), platform, at, len, parent);
 }
 
 osb_status osb_path_prefix(osb_platform platform, const char *at, size_t len, osb_view *prefix) {
-    return find_part(osb_core_path_prefix, platform, at, len, prefix);
+    return find_part(CORE(path_prefix), platform, at, len, prefix);
 }
 
 osb_status osb_path_file_name(osb_platform platform, const char *at, size_t len, osb_view *name) {
-    return find_part(osb_core_path_file_name, platform, at, len, name);
+    return find_part(CORE(path_file_name), platform, at, len, name);
 }
 
 osb_status osb_path_file_stem(osb_platform platform, const char *at, size_t len, osb_view *stem) {
-    return find_part(osb_core_path_file_stem, platform, at, len, stem);
+    return find_part(CORE(path_file_stem), platform, at, len, stem);
 }
 
 osb_status osb_path_extension(osb_platform platform, const char *at, size_t len,
                               osb_view *extension) {
-    return find_part(osb_core_path_extension, platform, at, len, extension);
+    return find_part(CORE(path_extension), platform, at, len, extension);
 }
 
 int osb_path_has_root(osb_platform platform, const char *at, size_t len) {
     if (is_bad(at, len)) return answer(OSB_BAD_POINTER);
-    return answer(osb_core_path_has_root(platform, bytes(at), len));
+    return answer(CORE(path_has_root)(platform, bytes(at), len));
 }
 
 int osb_path_is_absolute(osb_platform platform, const char *at, size_t len) {
     if (is_bad(at, len)) return answer(OSB_BAD_POINTER);
-    return answer(osb_core_path_is_absolute(platform, bytes(at), len));
+    return answer(CORE(path_is_absolute)(platform, bytes(at), len));
 }
 
 int osb_path_starts_with(osb_platform platform, const char *at, size_t len, const char *base,
                          size_t base_len) {
     if (is_bad(at, len) || is_bad(base, base_len)) return answer(OSB_BAD_POINTER);
-    return answer(osb_core_path_starts_with(platform, bytes(at), len, bytes(base), base_len));
+    return answer(CORE(path_starts_with)(platform, bytes(at), len, bytes(base), base_len));
 }
 
 int osb_path_ends_with(osb_platform platform, const char *at, size_t len, const char *child,
                        size_t child_len) {
     if (is_bad(at, len) || is_bad(child, child_len)) return answer(OSB_BAD_POINTER);
-    return answer(osb_core_path_ends_with(platform, bytes(at), len, bytes(child), child_len));
+    return answer(CORE(path_ends_with)(platform, bytes(at), len, bytes(child), child_len));
 }
 
 osb_status osb_path_strip_prefix(osb_platform platform, const char *at, size_t len,
@@ -737,7 +743,7 @@ osb_status osb_path_strip_prefix(osb_platform platform, const char *at, size_t l
     if (rest == NULL || is_bad(at, len) || is_bad(base, base_len)) return OSB_BAD_POINTER;
     at = bytes(at);
     osb_status status =
-        osb_core_path_strip_prefix(platform, at, len, bytes(base), base_len, &own);
+        CORE(path_strip_prefix)(platform, at, len, bytes(base), base_len, &own);
     if (status == OSB_OK) *rest = own.len == 0 ? (osb_view){at + len, 0} : own;
     return status;
 }
@@ -780,7 +786,7 @@ INLINED osb_status build_of_two(core_two *call, osb_platform platform, const cha
 
 osb_status osb_path_join(osb_platform platform, const char *base, size_t base_len, const char *at,
                          size_t len, char *out, size_t room, size_t *count) {
-    return build_of_two(osb_core_path_join, platform, base, base_len, at, len, out, room, count);
+    return build_of_two(CORE(path_join), platform, base, base_len, at, len, out, room, count);
 }
 
 osb_status osb_path_join_checked(osb_platform platform, const char *base, size_t base_len,
@@ -791,7 +797,7 @@ osb_status osb_path_join_checked(osb_platform platform, const char *base, size_t
     if (count == NULL || are_bad_strings(base, base_len, at, len, out, room))
         return OSB_BAD_POINTER;
     osb_status status =
-        osb_core_path_join_checked(platform, bytes(base), base_len, bytes(at), len,
+        CORE(path_join_checked)(platform, bytes(base), base_len, bytes(at), len,
                                    room == 0 ? (char *)no_room : out, room, &own, &own_fault);
     if (status == OSB_OK || status == OSB_NO_ROOM) *count = own;
     if (status == OSB_BAD_PATH && fault != NULL) *fault = own_fault;
@@ -800,18 +806,18 @@ osb_status osb_path_join_checked(osb_platform platform, const char *base, size_t
 
 osb_status osb_path_relative(osb_platform platform, const char *at, size_t len, const char *base,
                              size_t base_len, char *out, size_t room, size_t *count) {
-    return build_of_two(osb_core_path_relative, platform, at, len, base, base_len, out, room,
+    return build_of_two(CORE(path_relative), platform, at, len, base, base_len, out, room,
                         count);
 }
 
 osb_status osb_path_normalize(osb_platform platform, const char *at, size_t len, char *out,
                               size_t room, size_t *count) {
-    return build_of_one(osb_core_path_normalize, platform, at, len, out, room, count);
+    return build_of_one(CORE(path_normalize), platform, at, len, out, room, count);
 }
 
 osb_status osb_path_clean(osb_platform platform, const char *at, size_t len, char *out, size_t room,
                           size_t *count) {
-    return build_of_one(osb_core_path_clean, platform, at, len, out, room, count);
+    return build_of_one(CORE(path_clean), platform, at, len, out, room, count);
 }
 
 osb_status osb_path_convert(osb_platform from, osb_platform to, const char *at, size_t len,
@@ -821,7 +827,7 @@ osb_status osb_path_convert(osb_platform from, osb_platform to, const char *at, 
     osb_fault own_fault = {0, 0, 0, 0};
     if (count == NULL || are_bad_strings(at, len, NULL, 0, out, room)) return OSB_BAD_POINTER;
     osb_status status =
-        osb_core_path_convert(from, to, bytes(at), len, room == 0 ? (char *)no_room : out, room,
+        CORE(path_convert)(from, to, bytes(at), len, room == 0 ? (char *)no_room : out, room,
                               &own, &own_index, &own_fault);
     if (status == OSB_OK || status == OSB_NO_ROOM) *count = own;
     if (status == OSB_BAD_PATH && index != NULL) *index = own_index;
@@ -832,21 +838,21 @@ osb_status osb_path_convert(osb_platform from, osb_platform to, const char *at, 
 osb_status osb_path_with_file_name(osb_platform platform, const char *at, size_t len,
                                    const char *name, size_t name_len, char *out, size_t room,
                                    size_t *count) {
-    return build_of_two(osb_core_path_with_file_name, platform, at, len, name, name_len, out, room,
+    return build_of_two(CORE(path_with_file_name), platform, at, len, name, name_len, out, room,
                         count);
 }
 
 osb_status osb_path_with_extension(osb_platform platform, const char *at, size_t len,
                                    const char *extension, size_t extension_len, char *out,
                                    size_t room, size_t *count) {
-    return build_of_two(osb_core_path_with_extension, platform, at, len, extension, extension_len,
+    return build_of_two(CORE(path_with_extension), platform, at, len, extension, extension_len,
                         out, room, count);
 }
 
 osb_status osb_path_with_added_extension(osb_platform platform, const char *at, size_t len,
                                          const char *extension, size_t extension_len, char *out,
                                          size_t room, size_t *count) {
-    return build_of_two(osb_core_path_with_added_extension, platform, at, len, extension,
+    return build_of_two(CORE(path_with_added_extension), platform, at, len, extension,
                         extension_len, out, room, count);
 }
 
@@ -872,22 +878,22 @@ INLINED osb_status write_word(core_word *call, const char *at, size_t len, char 
 
 osb_status osb_shell_quote(const char *at, size_t len, char *out, size_t room, size_t *count,
                            size_t *index) {
-    return write_word(osb_core_shell_quote, at, len, out, room, count, index);
+    return write_word(CORE(shell_quote), at, len, out, room, count, index);
 }
 
 osb_status osb_shell_quote_line(const char *at, size_t len, char *out, size_t room, size_t *count,
                                 size_t *index) {
-    return write_word(osb_core_shell_quote_line, at, len, out, room, count, index);
+    return write_word(CORE(shell_quote_line), at, len, out, room, count, index);
 }
 
 osb_status osb_fish_quote(const char *at, size_t len, char *out, size_t room, size_t *count,
                           size_t *index) {
-    return write_word(osb_core_fish_quote, at, len, out, room, count, index);
+    return write_word(CORE(fish_quote), at, len, out, room, count, index);
 }
 
 osb_status osb_powershell_quote(const char *at, size_t len, char *out, size_t room, size_t *count,
                                 size_t *index) {
-    return write_word(osb_core_powershell_quote, at, len, out, room, count, index);
+    return write_word(CORE(powershell_quote), at, len, out, room, count, index);
 }
 
 static bool are_bad_views(const osb_view *at, size_t len) {
@@ -929,7 +935,7 @@ osb_status osb_shell_join(const osb_view *names, size_t len, char *out, size_t r
             own++;
         }
         size_t left = room_after(room, own);
-        core_word *call = i == 0 ? osb_core_shell_quote_first : osb_core_shell_quote;
+        core_word *call = i == 0 ? CORE(shell_quote_first) : CORE(shell_quote);
         osb_status status = write_word(call, names[i].at, names[i].len, left == 0 ? NULL : out + own,
                                        left, &more, index);
         status = add_word(status, more, &own);
@@ -952,7 +958,7 @@ osb_status osb_shell_words(uint32_t options, const char *line, size_t len, char 
     struct core_line_fault own_fault = {0, 0};
     if (count == NULL || is_bad(line, len) || is_bad(out, room) || do_overlap(line, len, out, room))
         return OSB_BAD_POINTER;
-    osb_status status = osb_core_shell_words(options, bytes(line), len,
+    osb_status status = CORE(shell_words)(options, bytes(line), len,
                                              room == 0 ? (char *)no_room : out, room, &own, &own_fault);
     if (status == OSB_OK || status == OSB_NO_ROOM) *count = own;
     if ((status == OSB_BAD_LINE || status == OSB_HAS_NUL) && fault != NULL)
@@ -985,17 +991,17 @@ INLINED osb_status write_units(core_units *call, const char *at, size_t len, uin
 
 osb_status osb_windows_quote(const char *at, size_t len, uint16_t *out, size_t room, size_t *count,
                              size_t *index, osb_fault *fault) {
-    return write_units(osb_core_windows_quote, at, len, out, room, count, index, fault);
+    return write_units(CORE(windows_quote), at, len, out, room, count, index, fault);
 }
 
 osb_status osb_windows_quote_name(const char *at, size_t len, uint16_t *out, size_t room,
                                   size_t *count, size_t *index, osb_fault *fault) {
-    return write_units(osb_core_windows_quote_name, at, len, out, room, count, index, fault);
+    return write_units(CORE(windows_quote_name), at, len, out, room, count, index, fault);
 }
 
 osb_status osb_windows_arguments(const char *line, size_t len, uint16_t *out, size_t room,
                                  size_t *count, size_t *index, osb_fault *fault) {
-    return write_units(osb_core_windows_arguments, line, len, out, room, count, index, fault);
+    return write_units(CORE(windows_arguments), line, len, out, room, count, index, fault);
 }
 
 osb_status osb_windows_command_line(const osb_view *words, size_t len, uint16_t *out, size_t room,
@@ -1011,7 +1017,7 @@ osb_status osb_windows_command_line(const osb_view *words, size_t len, uint16_t 
             own++;
         }
         size_t left = room_after(room, own);
-        core_units *call = i == 0 ? osb_core_windows_quote_name : osb_core_windows_quote;
+        core_units *call = i == 0 ? CORE(windows_quote_name) : CORE(windows_quote);
         osb_status status = write_units(call, words[i].at, words[i].len, left == 0 ? NULL : out + own,
                                         left, &more, index, fault);
         status = add_word(status, more, &own);
@@ -1028,7 +1034,7 @@ osb_status osb_options_start(osb_options *options, const osb_view *words, size_t
                              uint32_t flags) {
     struct core_option own = {0, 0, 0, 0};
     if (options == NULL || are_bad_words(words, len, NULL, 0)) return OSB_BAD_POINTER;
-    osb_status status = osb_core_option(flags, (const char *)nothing, 0, &own);
+    osb_status status = CORE(option)(flags, (const char *)nothing, 0, &own);
     if (status == OSB_OK) *options = (osb_options){words, len, 0, 0, flags, 0};
     return status;
 }
@@ -1043,7 +1049,7 @@ static osb_status word_at(const osb_options *options, size_t number, osb_view *w
 /* What is left of the last word that was taken: a flag, or OSB_NONE and a value after `=`. */
 static osb_status read_left(const osb_options *options, osb_view *word, struct core_option *read) {
     osb_status status = word_at(options, options->taken - 1, word);
-    return status != OSB_OK ? status : osb_core_flag(word->at, word->len, options->at, read);
+    return status != OSB_OK ? status : CORE(flag)(word->at, word->len, options->at, read);
 }
 
 /* What the next word is read as; OSB_NONE if it is `--` and ends the options. */
@@ -1053,7 +1059,7 @@ static osb_status read_word(const osb_options *options, osb_view *word, struct c
     if (status != OSB_OK) return status;
     *read = (struct core_option){OSB_OPERAND, 0, 0, word->len};
     if (options->ended != 0) return OSB_OK;
-    return osb_core_option(options->flags, word->at, word->len, read);
+    return CORE(option)(options->flags, word->at, word->len, read);
 }
 
 osb_status osb_options_next(osb_options *options, osb_option *option) {
@@ -1157,11 +1163,11 @@ INLINED osb_status fill_split(core_pieces *call, osb_split *split, osb_view *pie
 }
 
 osb_status osb_split_fill(osb_split *split, osb_view *pieces, size_t room, size_t *count) {
-    return fill_split(osb_core_split_fill, split, pieces, room, count);
+    return fill_split(CORE(split_fill), split, pieces, room, count);
 }
 
 osb_status osb_rsplit_fill(osb_split *split, osb_view *pieces, size_t room, size_t *count) {
-    return fill_split(osb_core_rsplit_fill, split, pieces, room, count);
+    return fill_split(CORE(rsplit_fill), split, pieces, room, count);
 }
 
 osb_status osb_chunks_fill(osb_chunks *chunks, osb_chunk *out, size_t room, size_t *count) {
@@ -1172,7 +1178,7 @@ osb_status osb_chunks_fill(osb_chunks *chunks, osb_chunk *out, size_t room, size
         is_bad_array(out, room, sizeof none, _Alignof(osb_chunk), chunks->string))
         return OSB_BAD_POINTER;
     osb_status status =
-        osb_core_chunks_fill(chunks->string.at, chunks->string.len, chunks->next,
+        CORE(chunks_fill)(chunks->string.at, chunks->string.len, chunks->next,
                              (uintptr_t)chunks->string.at, room == 0 ? &none : out, room, &own);
     if (status != OSB_OK) return status;
     *count = own.count;
@@ -1187,7 +1193,7 @@ osb_status osb_symbols_fill(osb_symbols *symbols, osb_symbol *out, size_t room, 
         is_bad(symbols->string.at, symbols->string.len) ||
         is_bad_array(out, room, sizeof none, _Alignof(osb_symbol), symbols->string))
         return OSB_BAD_POINTER;
-    osb_status status = osb_core_symbols_fill(
+    osb_status status = CORE(symbols_fill)(
         symbols->platform, symbols->string.at, symbols->string.len, symbols->next,
         (uintptr_t)symbols->string.at, room == 0 ? &none : out, room, &own);
     if (status != OSB_OK) return status;
@@ -1223,7 +1229,7 @@ osb_status osb_glob_matches(osb_platform platform, uint32_t options, const osb_v
     paths = without_null(paths, paths_len, &own[1]);
     osb_status status = OSB_NO_MEMORY;
     if (patterns != NULL && paths != NULL)
-        status = osb_core_glob_matches(platform, options, patterns, patterns_len, paths, paths_len,
+        status = CORE(glob_matches)(platform, options, patterns, patterns_len, paths, paths_len,
                                        paths_len == 0 ? (uint8_t *)no_room : (uint8_t *)matched,
                                        paths_len, &count, &own_fault);
     free(own[0]);
@@ -1245,7 +1251,7 @@ osb_status osb_ignore_matches(const char *file, size_t file_len, const osb_view 
     paths = without_null(paths, len, &own);
     osb_status status = OSB_NO_MEMORY;
     if (paths != NULL)
-        status = osb_core_ignore_matches(bytes(file), file_len, paths, len,
+        status = CORE(ignore_matches)(bytes(file), file_len, paths, len,
                                          bytes((const char *)dirs), dirs_len,
                                          len == 0 ? &none : verdicts, len, &count);
     free(own);
@@ -1278,7 +1284,7 @@ osb_status osb_globs_new(osb_platform platform, uint32_t options, const osb_view
     osb_globs *made = empty_globs();
     osb_status status = OSB_NO_MEMORY;
     if (patterns != NULL && made != NULL)
-        status = osb_core_globs_new(platform, options, patterns, len, &made->held, &own_fault);
+        status = CORE(globs_new)(platform, options, patterns, len, &made->held, &own_fault);
     free(own);
     if (status == OSB_BAD_PATTERN && fault != NULL) *fault = own_fault;
     if (status == OSB_OK) *globs = made;
@@ -1298,7 +1304,7 @@ int osb_globs_is_match(const osb_globs *globs, const char *path, size_t len) {
     if (globs == NULL || is_bad(path, len)) return answer(OSB_BAD_POINTER);
     void *set;
     struct core_held lent = lent_globs(globs, &set);
-    return answer(osb_core_globs_is_match(&lent, bytes(path), len));
+    return answer(CORE(globs_is_match)(&lent, bytes(path), len));
 }
 
 osb_status osb_globs_matches(const osb_globs *globs, const osb_view *paths, size_t len,
@@ -1312,7 +1318,7 @@ osb_status osb_globs_matches(const osb_globs *globs, const osb_view *paths, size
     struct core_held lent = lent_globs(globs, &set);
     osb_status status = OSB_NO_MEMORY;
     if (paths != NULL)
-        status = osb_core_globs_matches(&lent, paths, len,
+        status = CORE(globs_matches)(&lent, paths, len,
                                         len == 0 ? (uint8_t *)no_room : (uint8_t *)matched, len, &count);
     free(own);
     return status;
@@ -1324,7 +1330,7 @@ osb_status osb_globs_share(const osb_globs *globs, osb_globs **other) {
     if (made == NULL) return OSB_NO_MEMORY;
     void *set;
     struct core_held lent = lent_globs(globs, &set);
-    osb_status status = osb_core_globs_share(&lent, &made->held);
+    osb_status status = CORE(globs_share)(&lent, &made->held);
     if (status == OSB_OK) *other = made;
     else free(made);
     return status;
@@ -1332,7 +1338,7 @@ osb_status osb_globs_share(const osb_globs *globs, osb_globs **other) {
 
 void osb_globs_free(osb_globs *globs) {
     if (globs == NULL) return;
-    osb_core_globs_free(&globs->held);
+    CORE(globs_free)(&globs->held);
     free(globs);
 }
 
@@ -1392,7 +1398,7 @@ osb_status osb_ignores_new(osb_ignores **ignores) {
     osb_ignores *made = malloc(sizeof *made);
     if (made == NULL) return OSB_NO_MEMORY;
     *made = (osb_ignores){{false, &made->files}, {{NULL, NULL, NULL}}, 0};
-    osb_status status = osb_core_ignores_new(&made->held);
+    osb_status status = CORE(ignores_new)(&made->held);
     if (status == OSB_OK) *ignores = made;
     else free(made);
     return status;
@@ -1404,7 +1410,7 @@ osb_status osb_ignores_add(osb_ignores *ignores, const char *directory, size_t d
         return OSB_BAD_POINTER;
     begin_adding(ignores);
     osb_status status =
-        osb_core_ignores_add(&ignores->held, bytes(directory), directory_len, bytes(file), file_len);
+        CORE(ignores_add)(&ignores->held, bytes(directory), directory_len, bytes(file), file_len);
     end_adding(ignores);
     return status;
 }
@@ -1415,13 +1421,13 @@ osb_status osb_ignores_match(osb_ignores *ignores, const char *path, size_t len,
     begin_reading(ignores);
     struct core_files files = ignores->files;
     struct core_held lent = {ignores->held.full, &files};
-    osb_status status = osb_core_ignores_match(&lent, bytes(path), len, is_dir, decision);
+    osb_status status = CORE(ignores_match)(&lent, bytes(path), len, is_dir, decision);
     end_reading(ignores);
     return status;
 }
 
 void osb_ignores_free(osb_ignores *ignores) {
     if (ignores == NULL) return;
-    osb_core_ignores_free(&ignores->held);
+    CORE(ignores_free)(&ignores->held);
     free(ignores);
 }

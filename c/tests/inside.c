@@ -43,13 +43,13 @@ static bool is_room_enough(void) {
     const size_t words[] = {sizeof((osb_globs *)NULL)->set / sizeof(void *),
                             sizeof(struct core_files) / sizeof(void *)};
     for (size_t i = 0; i < 2 * WORDS; i++) room[i / WORDS][i % WORDS] = left;
-    bool right = osb_core_globs_new(OSB_UNIX, OSB_GLOB_SLASH, &pattern, 1, &globs, &fault) == OSB_OK &&
-                 osb_core_ignores_new(&ignores) == OSB_OK &&
-                 osb_core_ignores_add(&ignores, "b", 1, "*.o\n", 4) == OSB_OK;
+    bool right = CORE(globs_new)(OSB_UNIX, OSB_GLOB_SLASH, &pattern, 1, &globs, &fault) == OSB_OK &&
+                 CORE(ignores_new)(&ignores) == OSB_OK &&
+                 CORE(ignores_add)(&ignores, "b", 1, "*.o\n", 4) == OSB_OK;
     for (size_t i = 0; i < 2; i++)
         for (size_t j = 0; j < WORDS; j++) right = right && (room[i][j] != left) == (j < words[i]);
-    osb_core_globs_free(&globs);
-    osb_core_ignores_free(&ignores);
+    CORE(globs_free)(&globs);
+    CORE(ignores_free)(&ignores);
     return right;
 }
 

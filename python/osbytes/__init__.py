@@ -21,189 +21,36 @@ which is a `ValueError`; a wrong type raises `TypeError`, and an allocation fail
 
 from __future__ import annotations
 
-from ._calls import (
-    Character,
-    Checker,
-    Unit,
-    check,
-    chunks,
-    compare,
-    contains,
-    decode,
-    display,
-    encode,
-    ends_with,
-    escape,
-    escape_line,
-    find,
-    from_units,
-    is_boundary,
-    is_string,
-    rfind,
-    rsplit,
-    split,
-    starts_with,
-    symbols,
-    to_units,
-    unescape,
-    unescape_line,
-)
-from ._errors import (
-    BadEscapeError,
-    ConvertError,
-    ExtensionError,
-    FaultError,
-    GlobError,
-    JoinError,
-    LineError,
-    MissingValueError,
-    NoStringError,
-    NulError,
-    OsBytesError,
-    PatternError,
-    QuoteError,
-    UnexpectedValueError,
-)
-from ._globs import Glob, GlobFaultKind, GlobFlag, GlobSet
-from ._ignore import Ignore, Verdict, VerdictKind
-from ._library import version
-from ._lines import (
-    LineKind,
-    fish_quote,
-    powershell_quote,
-    shell_join,
-    shell_quote,
-    shell_quote_line,
-    shell_words,
-    windows_arguments,
-    windows_command_line,
-    windows_quote,
-)
-from ._options import Option, OptionKind, Options
-from ._path_building import (
-    JoinReason,
-    path_clean,
-    path_convert,
-    path_join,
-    path_join_checked,
-    path_normalize,
-    path_relative,
-    path_with_added_extension,
-    path_with_extension,
-    path_with_file_name,
-)
-from ._path_classes import OsPath, UnixPath, WindowsPath
-from ._paths import (
-    Component,
-    Kind,
-    path_components,
-    path_ends_with,
-    path_extension,
-    path_file_name,
-    path_file_stem,
-    path_has_root,
-    path_is_absolute,
-    path_parent,
-    path_prefix,
-    path_starts_with,
-    path_strip_prefix,
-)
-from ._strings import UNIX, WASM, WINDOWS, OsName, OsString, Platform
+try:
+    from . import _core
+except ImportError as why:
+    raise ImportError(
+        f"osbytes can't be loaded: {why}. An installed wheel has its extension module and libosbytes: "
+        "`tools/release/release --only python FOLDER` makes one in a checkout"
+    ) from None
+
+from . import _calls, _errors, _globs, _ignore, _lines, _options, _path_building, _path_classes, _paths, _strings
+from ._calls import *
+from ._errors import *
+from ._globs import *
+from ._ignore import *
+from ._lines import *
+from ._options import *
+from ._path_building import *
+from ._path_classes import *
+from ._paths import *
+from ._strings import *
 
 __version__ = "0.3.0"
 
-__all__ = [
-    "UNIX",
-    "WASM",
-    "WINDOWS",
-    "BadEscapeError",
-    "Character",
-    "Checker",
-    "Component",
-    "ConvertError",
-    "ExtensionError",
-    "FaultError",
-    "Glob",
-    "GlobError",
-    "GlobFaultKind",
-    "GlobFlag",
-    "GlobSet",
-    "Ignore",
-    "JoinError",
-    "JoinReason",
-    "Kind",
-    "LineError",
-    "LineKind",
-    "MissingValueError",
-    "NoStringError",
-    "NulError",
-    "Option",
-    "OptionKind",
-    "Options",
-    "OsBytesError",
-    "OsName",
-    "OsPath",
-    "OsString",
-    "PatternError",
-    "Platform",
-    "QuoteError",
-    "UnexpectedValueError",
-    "Unit",
-    "UnixPath",
-    "Verdict",
-    "VerdictKind",
-    "WindowsPath",
-    "__version__",
-    "check",
-    "chunks",
-    "compare",
-    "contains",
-    "decode",
-    "display",
-    "encode",
-    "ends_with",
-    "escape",
-    "escape_line",
-    "find",
-    "fish_quote",
-    "from_units",
-    "is_boundary",
-    "is_string",
-    "path_clean",
-    "path_components",
-    "path_convert",
-    "path_ends_with",
-    "path_extension",
-    "path_file_name",
-    "path_file_stem",
-    "path_has_root",
-    "path_is_absolute",
-    "path_join",
-    "path_join_checked",
-    "path_normalize",
-    "path_parent",
-    "path_prefix",
-    "path_relative",
-    "path_starts_with",
-    "path_strip_prefix",
-    "path_with_added_extension",
-    "path_with_extension",
-    "path_with_file_name",
-    "powershell_quote",
-    "rfind",
-    "rsplit",
-    "shell_join",
-    "shell_quote",
-    "shell_quote_line",
-    "shell_words",
-    "split",
-    "starts_with",
-    "symbols",
-    "to_units",
-    "unescape",
-    "unescape_line",
-    "version",
-    "windows_arguments",
-    "windows_command_line",
-    "windows_quote",
-]
+__all__ = ["__version__"]
+__all__ += _calls.__all__
+__all__ += _errors.__all__
+__all__ += _globs.__all__
+__all__ += _ignore.__all__
+__all__ += _lines.__all__
+__all__ += _options.__all__
+__all__ += _path_building.__all__
+__all__ += _path_classes.__all__
+__all__ += _paths.__all__
+__all__ += _strings.__all__

@@ -2,12 +2,51 @@
 
 from __future__ import annotations
 
-from typing import TYPE_CHECKING, Any
+from enum import IntEnum
+from typing import Any
 
-if TYPE_CHECKING:
-    from ._globs import GlobFaultKind
-    from ._lines import LineKind
-    from ._path_building import JoinReason
+__all__ = [
+    "BadEscapeError", "ConvertError", "ExtensionError", "FaultError", "GlobError", "GlobFaultKind", "JoinError",
+    "JoinReason", "LineError", "LineKind", "MissingValueError", "NoStringError", "NulError", "OsBytesError", "PatternError",
+    "QuoteError", "UnexpectedValueError",
+]  # fmt: skip
+
+
+class JoinReason(IntEnum):
+    """Why a path isn't below a base. `RESERVED` is also a name that has one of `<>"|?*` or a control character, or ends with a
+    space or a dot."""
+
+    PREFIX = 1
+    ROOT = 2
+    LEAVES = 3
+    STREAM = 4
+    RESERVED = 5
+    BASE = 6
+    NUL = 7
+    BASE_NUL = 8
+
+
+class GlobFaultKind(IntEnum):
+    """What is wrong with a pattern."""
+
+    UNCLOSED_CLASS = 1
+    REVERSED_RANGE = 2
+    UNKNOWN_CLASS = 3
+    DANGLING_ESCAPE = 4
+    UNCLOSED_BRACE = 5
+    UNOPENED_BRACE = 6
+    TOO_MANY = 7
+
+
+class LineKind(IntEnum):
+    """What begins at the index of a `LineError`."""
+
+    SINGLE_QUOTE = 1
+    DOUBLE_QUOTE = 2
+    DOLLAR_QUOTE = 3
+    BACKSLASH = 4
+    SPECIAL = 5
+    ESCAPE = 6
 
 
 class OsBytesError(ValueError):
@@ -98,3 +137,60 @@ class LineError(OsBytesError):
     """The line isn't a list of words. `kind` is a `LineKind`: what begins at `index`."""
 
     kind: LineKind | None = None
+
+
+# What the numbers of the kinds mean, from 1 on.
+_REASONS = (
+    "",
+    "the path has a prefix",
+    "the path has a root",
+    "the path leaves the base",
+    "the path has a colon",
+    "the path has a name that Windows reserves, rejects or changes",
+    "the base isn't a place of its own",
+    "the path has a NUL",
+    "the base has a NUL",
+)
+_LINES = (
+    "",
+    "unclosed single quote",
+    "unclosed double quote",
+    "unclosed $'",
+    "backslash at the end",
+    "special character",
+    "unknown escape in $'..'",
+)
+# The exceptions of statuses of the library.
+_OF_STATUSES: dict[int, type[OsBytesError]] = {
+    5: BadEscapeError,
+    6: NoStringError,
+    7: NulError,
+    9: QuoteError,
+    17: PatternError,
+    23: ExtensionError,
+}
+_FAULTY, _BAD_LINE, _BAD_PATH, _BAD_PATTERN = 1, 8, 12, 17
+
+
+def refusal(status: int, text: str | None, index: int, which: int, kind: int, count: int) -> OsBytesError:
+    """Returns the exception for a status of the library, with its text. A place that isn't known is -1."""
+    at, item = (None if index < 0 else index), (None if which < 0 else which)
+    if status == _FAULTY:
+        return FaultError(text or f"invalid UTF-8 from index {at}", index=at, which=item, count=None if count < 0 else count)
+    if status == _BAD_LINE:
+        return LineError(f"{_LINES[kind]} (index {at})", kind=LineKind(kind), index=at)
+    if status == _BAD_PATH and not kind:
+        return ConvertError(text or "", component=at)
+    if status == _BAD_PATH:
+        reason = JoinReason(kind)
+        if reason in (JoinReason.NUL, JoinReason.BASE_NUL):
+            return JoinError(_REASONS[kind], reason=reason, index=at)
+        if reason in (JoinReason.LEAVES, JoinReason.STREAM, JoinReason.RESERVED):
+            return JoinError(f"{_REASONS[kind]} at component {at}", reason=reason, component=at)
+        return JoinError(_REASONS[kind], reason=reason)
+    if status == _BAD_PATTERN and kind:
+        fault = GlobFaultKind(kind)
+        text = f"{fault.name.lower().replace('_', ' ')} (pattern {item}, index {at})"
+        return GlobError(text, kind=fault, which=item, index=at)
+    found = [f"{name} {place}" for name, place in (("argument", item), ("index", at)) if place is not None]
+    return _OF_STATUSES.get(status, OsBytesError)(f"{text} ({', '.join(found)})" if found else text or "", index=at, which=item)

@@ -1,19 +1,19 @@
 """Ignore files."""
 
+# mypy: disable-error-code="no-any-return"
 from __future__ import annotations
 
 import os
-from ctypes import addressof, c_void_p
 from enum import IntEnum
 from threading import Lock
 from typing import Any, Iterable, NamedTuple
 
-from . import _quick as quick
-from ._globs import without_nul
-from ._library import NO_MEMORY, Decision, address_of, library
-from ._strings import UNIX, AnyOsName, OsString, done, only_list, read, read_all
+from . import _core
+from ._strings import AnyOsName, OsString
 
-_MATCH = address_of(library.osb_ignores_match)
+__all__ = [
+    "Ignore", "Verdict", "VerdictKind",
+]  # fmt: skip
 
 
 class VerdictKind(IntEnum):
@@ -58,20 +58,10 @@ class Ignore:
     Verdict(kind=<VerdictKind.TAKEN_IN: 2>, line=1, file=1)
     """
 
-    _handle: int | None = None
-
     def __init__(self, text: OsString | None = None, directory: AnyOsName = "") -> None:
-        made = c_void_p()
-        self._lock, self._files = Lock(), list[tuple[bytes, bytes]]()
-        if library.osb_ignores_new(addressof(made)) == NO_MEMORY:
-            raise MemoryError
-        self._handle = made.value
+        self._lock, self._files, self._handle = Lock(), list[tuple[bytes, bytes]](), _core.ignores_new()
         if text is not None:
             self.add(text, directory)
-
-    def __del__(self, _free: Any = library.osb_ignores_free) -> None:
-        if self._handle is not None:
-            _free(self._handle)
 
     @classmethod
     def read(cls, path: AnyOsName, directory: AnyOsName = "") -> Ignore:
@@ -84,14 +74,9 @@ class Ignore:
         """Adds the content of an ignore file, that of a directory of the tree. The file of a deeper directory decides first."""
         if not isinstance(text, (str, bytes)):
             raise TypeError(f"expected str or bytes, not {type(text).__name__}")
-        file, place = read(text, UNIX)[0], _from_top(without_nul(*read(directory, UNIX)))
         # so that the files are listed in the order of their numbers
         with self._lock:
-            status = library.osb_ignores_add(self._handle, place, len(place), file, len(file))
-            if status == NO_MEMORY:
-                raise MemoryError
-            done(status)
-            self._files.append((file, place))
+            self._files.append(_core.ignores_add(self._handle, text, directory))
 
     def add_file(self, path: AnyOsName, directory: AnyOsName = "") -> None:
         """Reads the ignore file at a path, and adds it as `add` does. Raises `OSError` if it can't be read."""
@@ -104,40 +89,19 @@ class Ignore:
     def __repr__(self) -> str:
         return f"<Ignore of {self._files!r}>"
 
-    def _verdict(self, path: bytes, is_dir: bool) -> Verdict:
-        decision, raw = Decision(), _from_top(path)
-        done(library.osb_ignores_match(self._handle, raw, len(raw), is_dir or path.endswith(b"/"), addressof(decision)))
-        return Verdict(_KINDS[decision.kind], decision.line, decision.file)
-
     def verdict(self, path: AnyOsName, is_dir: bool = False) -> Verdict:
         """Returns what the lines decide for a path. Raises `NulError` if it has a NUL."""
-        return self._verdict(without_nul(*read(path, UNIX)), bool(is_dir))
+        kind, line, file = _core.ignores_verdict(self._handle, path, is_dir)
+        return Verdict(_KINDS[kind], line, file)
 
     def matched(self, paths: Iterable[AnyOsName]) -> list[Verdict]:
         """Returns what the lines decide for each path. Raises `NulError` if one has a NUL."""
-        only_list(paths)
-        paths = list(paths)
-        numbers = quick.decided(_MATCH, self._handle or 0, paths)
-        if numbers is not NotImplemented:
-            each = iter(numbers)
-            return [Verdict(_KINDS[kind], line, file) for kind, line, file in zip(each, each, each)]
-        items, errors = read_all(paths, UNIX)
-        given = [without_nul(item, errors, which) for which, item in enumerate(items)]
-        return [self._verdict(item, False) for item in given]
+        verdicts = _core.ignores_matched(self._handle, paths)
+        return [Verdict(_KINDS[kind], line, file) for kind, line, file in verdicts]
 
     def is_ignored(self, path: AnyOsName, is_dir: bool = False) -> bool:
         """Returns whether a path is ignored. Raises `NulError` if it has a NUL."""
-        answer = quick.ignored(_MATCH, self._handle or 0, path, is_dir)
-        if answer is not NotImplemented:
-            return answer
-        return self.verdict(path, is_dir).kind == VerdictKind.IGNORED
-
-
-def _from_top(path: bytes) -> bytes:
-    """Returns a path without `./` before it and `/` after it."""
-    while path.startswith(b"./"):
-        path = path[2:].lstrip(b"/")
-    return b"" if path == b"." else path.removesuffix(b"/")
+        return _core.ignores_is_ignored(self._handle, path, is_dir)
 
 
 def _remade(files: list[tuple[bytes, bytes]]) -> Ignore:

@@ -1,59 +1,18 @@
 """Words of a shell, and command lines of Windows."""
 
+# mypy: disable-error-code="no-any-return"
 from __future__ import annotations
 
 import os
-from array import array
-from ctypes import addressof
-from enum import IntEnum
-from typing import Any, AnyStr, Iterable, overload
+from typing import AnyStr, Iterable, overload
 
-from . import _quick as quick
-from ._calls import from_wide
-from ._errors import FaultError, LineError, NulError, QuoteError
-from ._library import BAD_LINE, FAULTY, HAS_NUL, HAS_QUOTE, Call, LineFault, Room, Views, address_of, library, written
-from ._strings import UNIX, WINDOWS, AnyOsName, OsName, OsString, done, index_in, only_list, read, read_all, read_valid, returned, said
+from . import _core
+from ._strings import AnyOsName, OsName, OsString
 
-
-class LineKind(IntEnum):
-    """What begins at the index of a `LineError`."""
-
-    SINGLE_QUOTE = 1
-    DOUBLE_QUOTE = 2
-    DOLLAR_QUOTE = 3
-    BACKSLASH = 4
-    SPECIAL = 5
-    ESCAPE = 6
-
-
-_LINE_TEXTS = {
-    LineKind.SINGLE_QUOTE: "unclosed single quote",
-    LineKind.DOUBLE_QUOTE: "unclosed double quote",
-    LineKind.DOLLAR_QUOTE: "unclosed $'",
-    LineKind.BACKSLASH: "backslash at the end",
-    LineKind.SPECIAL: "special character",
-    LineKind.ESCAPE: "unknown escape in $'..'",
-}
-_QUOTE, _QUOTE_LINE, _FISH, _JOIN = map(
-    address_of, (library.osb_shell_quote, library.osb_shell_quote_line, library.osb_fish_quote, library.osb_shell_join)
-)
-_COMMAND_LINE = address_of(library.osb_windows_command_line)
-
-
-def _with_nul(raw: bytes, index: int, errors: str | None, which: int | None = None) -> NulError:
-    index = index_in(raw, index, errors)
-    return NulError(said(HAS_NUL, index, which), index=index, which=which)
-
-
-def _word(call: Call, name: AnyOsName) -> Any:
-    raw, errors = read(name, UNIX)
-    status, room = written(
-        lambda room: call(raw, len(raw), room.out_at, room.size, room.count_at, room.index_at), 4 * len(raw) + 3
-    )
-    if status == HAS_NUL:
-        raise _with_nul(raw, room.index, errors)
-    done(status)
-    return room.written(errors)
+__all__ = [
+    "fish_quote", "powershell_quote", "shell_join", "shell_quote", "shell_quote_line", "shell_words", "windows_arguments",
+    "windows_command_line", "windows_quote",
+]  # fmt: skip
 
 
 def shell_quote(name: OsName[AnyStr]) -> AnyStr:
@@ -69,10 +28,7 @@ def shell_quote(name: OsName[AnyStr]) -> AnyStr:
     >>> shell_quote("it's")
     "'it'\\\\''s'"
     """
-    quoted = quick.word(_QUOTE, name)
-    if quoted is NotImplemented:
-        quoted = _word(library.osb_shell_quote, name)
-    return quoted
+    return _core.shell_quote(name)
 
 
 def shell_quote_line(name: OsName[AnyStr]) -> AnyStr:
@@ -84,10 +40,7 @@ def shell_quote_line(name: OsName[AnyStr]) -> AnyStr:
     >>> shell_quote_line("a\\n")
     "$'a\\\\n'"
     """
-    quoted = quick.word(_QUOTE_LINE, name)
-    if quoted is NotImplemented:
-        quoted = _word(library.osb_shell_quote_line, name)
-    return quoted
+    return _core.shell_quote_line(name)
 
 
 def fish_quote(name: OsName[AnyStr]) -> AnyStr:
@@ -96,10 +49,7 @@ def fish_quote(name: OsName[AnyStr]) -> AnyStr:
     >>> fish_quote("it's")
     "'it\\\\'s'"
     """
-    quoted = quick.word(_FISH, name)
-    if quoted is NotImplemented:
-        quoted = _word(library.osb_fish_quote, name)
-    return quoted
+    return _core.fish_quote(name)
 
 
 def powershell_quote(name: AnyOsName) -> str:
@@ -113,18 +63,7 @@ def powershell_quote(name: AnyOsName) -> str:
     >>> powershell_quote("it's")
     "'it''s'"
     """
-    raw, errors = read(name, WINDOWS)
-    call: Call = library.osb_powershell_quote
-    status, room = written(
-        lambda room: call(raw, len(raw), room.out_at, room.size, room.count_at, room.index_at), 4 * len(raw) + 3
-    )
-    if status == HAS_NUL:
-        raise _with_nul(raw, room.index, errors)
-    if status == FAULTY:
-        index = index_in(raw, room.index, errors)
-        raise FaultError(f"invalid UTF-8 from index {index}", index=index)
-    done(status)
-    return str(room.written("strict"))
+    return _core.powershell_quote(name)
 
 
 @overload
@@ -149,23 +88,7 @@ def shell_join(names: Iterable[AnyOsName]) -> OsString:
     >>> shell_join(["cp", "a b", ""])
     "cp 'a b' ''"
     """
-    only_list(names)
-    names = list(names)
-    quoted: OsString = quick.line(_JOIN, names)
-    if quoted is not NotImplemented:
-        return quoted
-    words, errors = read_all(names, UNIX)
-    views = Views(words)
-    call: Call = library.osb_shell_join
-    status, room = written(
-        lambda room: call(views.at, views.count, room.out_at, room.size, room.count_at, room.which_at, room.index_at),
-        sum(4 * len(word) + 4 for word in words),
-    )
-    if status == HAS_NUL:
-        raise _with_nul(words[room.which], room.index, errors, room.which)
-    done(status)
-    line: OsString = room.written(errors)
-    return line
+    return _core.shell_join(names)
 
 
 def shell_words(line: OsName[AnyStr], *, specials: bool = False, dollar_quotes: bool = False) -> list[AnyStr]:
@@ -181,45 +104,7 @@ def shell_words(line: OsName[AnyStr], *, specials: bool = False, dollar_quotes: 
     >>> shell_words("cc -DNAME='a b' \\"c d\\"e")
     ['cc', '-DNAME=a b', 'c de']
     """
-    raw, errors = read(line, UNIX)
-    fault, options = LineFault(), bool(specials) | bool(dollar_quotes) << 1
-    call: Call = library.osb_shell_words
-    status, room = written(
-        lambda room: call(options, raw, len(raw), room.out_at, room.size, room.count_at, addressof(fault)), len(raw) + 1
-    )
-    if status == BAD_LINE:
-        kind, index = LineKind(fault.kind), index_in(raw, fault.index, errors)
-        raise LineError(f"{_LINE_TEXTS[kind]} (index {index})", kind=kind, index=index)
-    if status == HAS_NUL:
-        raise _with_nul(raw, fault.index, errors)
-    done(status)
-    words = room.written(None).split(b"\0")[:-1]
-    return [returned(word, errors) for word in words]
-
-
-def _wide(status: int, room: Room, words: list[bytes], errors: str | None, which: int | None) -> None:
-    """Raises what a status of a call that writes units means, for one of these words."""
-    raw = words[which or 0]
-    if status == HAS_NUL:
-        raise _with_nul(raw, room.index, errors, which)
-    if status == HAS_QUOTE:
-        index = index_in(raw, room.index, errors)
-        raise QuoteError(said(status, index), index=index)
-    done(status, room.fault, raw, errors, which)
-
-
-def _of_wide(wide: bytes, errors: str | None) -> Any:
-    """Returns the string that has the code units in these bytes."""
-    return from_wide(wide) if errors is None else wide.decode("utf-16-le", errors)
-
-
-def _one_wide(call: Call, need: int, raw: bytes, errors: str | None) -> bytes:
-    """Returns the code units that a call writes of one word."""
-    status, room = written(
-        lambda room: call(raw, len(raw), room.out_at, room.size // 2, room.count_at, room.index_at, room.fault_at), 2 * need, 2
-    )
-    _wide(status, room, [raw], errors, None)
-    return bytes(room.written(None, 2))
+    return _core.shell_words(line, bool(specials) | bool(dollar_quotes) << 1)
 
 
 def windows_quote(argument: OsName[AnyStr]) -> AnyStr:
@@ -232,9 +117,7 @@ def windows_quote(argument: OsName[AnyStr]) -> AnyStr:
     >>> windows_quote("a b\\\\")
     '"a b\\\\\\\\"'
     """
-    raw, errors = read_valid(argument, WINDOWS)
-    text: AnyStr = _of_wide(_one_wide(library.osb_windows_quote, 2 * len(raw) + 2, raw, errors), errors)
-    return text
+    return _core.windows_quote(argument)
 
 
 def windows_command_line(program: OsName[AnyStr], arguments: Iterable[OsName[AnyStr]] = ()) -> AnyStr:
@@ -246,31 +129,7 @@ def windows_command_line(program: OsName[AnyStr], arguments: Iterable[OsName[Any
     >>> windows_command_line("E", ["a b", "", "-x"])
     '"E" "a b" "" -x'
     """
-    only_list(arguments)
-    names: list[Any] = [program, *arguments]
-    made: AnyStr = quick.wide_line(_COMMAND_LINE, names)
-    if made is not NotImplemented:
-        return made
-    words, errors = read_all(names, WINDOWS)
-    views = Views(words)
-    call: Call = library.osb_windows_command_line
-    status, room = written(
-        lambda room: call(
-            views.at,
-            views.count,
-            room.out_at,
-            room.size // 2,
-            room.count_at,
-            room.which_at,
-            room.index_at,
-            room.fault_at,
-        ),
-        sum(4 * len(word) + 6 for word in words),
-        2,
-    )
-    _wide(status, room, words, errors, room.which if status else None)
-    line: AnyStr = _of_wide(room.written(None, 2), errors)
-    return line
+    return _core.windows_command_line(program, arguments)
 
 
 def windows_arguments(line: OsName[AnyStr]) -> list[AnyStr]:
@@ -284,9 +143,4 @@ def windows_arguments(line: OsName[AnyStr]) -> list[AnyStr]:
     >>> windows_arguments(r'"my E" a "b c" \\"d')
     ['my E', 'a', 'b c', '"d']
     """
-    raw, errors = read_valid(line, WINDOWS)
-    wide = _one_wide(library.osb_windows_arguments, len(raw) + 2, raw, errors)
-    # each word ends with a 0 unit
-    ends: list[int] = [2 * at for at, unit in enumerate(array("H", wide)) if not unit]
-    starts: list[int] = [0, *(end + 2 for end in ends)]
-    return [_of_wide(wide[start:end], errors) for start, end in zip(starts, ends)]
+    return _core.windows_arguments(line)

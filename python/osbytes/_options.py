@@ -1,14 +1,18 @@
 """Options and operands of a command line."""
 
+# mypy: disable-error-code="no-any-return"
 from __future__ import annotations
 
-from ctypes import addressof, memmove, sizeof
 from enum import IntEnum
 from typing import Any, AnyStr, Generic, Iterable, Iterator
 
+from . import _core
 from ._errors import MissingValueError, UnexpectedValueError
-from ._library import ENDED, NONE, UNEXPECTED, Call, OptionRead, OptionsState, View, Views, library
-from ._strings import UNIX, OsName, OsString, Platform, as_platform, done, read_all, returned, said
+from ._strings import UNIX, OsName, OsString, Platform
+
+__all__ = [
+    "Option", "OptionKind", "Options",
+]  # fmt: skip
 
 
 class OptionKind(IntEnum):
@@ -58,6 +62,9 @@ class Option(Generic[AnyStr]):
         return f"Option({self.kind!r}, {self.text!r})"
 
 
+_UNEXPECTED = 10
+
+
 class Options(Iterator[Option[AnyStr]]):
     """The options and operands of a command line, without the program's name, one by one.
 
@@ -79,41 +86,24 @@ class Options(Iterator[Option[AnyStr]]):
     """
 
     def __init__(self, words: Iterable[OsName[AnyStr]], platform: Platform = UNIX, *, numbers: bool = False) -> None:
-        self._words, self._errors = read_all(words, as_platform(platform))
-        self._views = Views(self._words)
-        self._state = OptionsState()
-        done(library.osb_options_start(addressof(self._state), self._views.at, self._views.count, bool(numbers)))
+        self._state = _core.options_new(words, platform, numbers)
 
     def __copy__(self) -> Options[AnyStr]:
         other: Options[AnyStr] = object.__new__(type(self))
-        other._words, other._errors, other._views, other._state = self._words, self._errors, self._views, OptionsState()
-        memmove(addressof(other._state), addressof(self._state), sizeof(OptionsState))
+        other._state = _core.options_copy(self._state)
         return other
 
     def __deepcopy__(self, _: object) -> Options[AnyStr]:
         return self.__copy__()
 
-    def _text(self, view: View) -> Any:
-        return returned(bytes(view), self._errors)
-
     def __next__(self) -> Option[AnyStr]:
-        read = OptionRead()
-        status = library.osb_options_next(addressof(self._state), addressof(read))
-        if status == ENDED:
+        found = _core.options_next(self._state)
+        if found is None:
             raise StopIteration
-        if status == UNEXPECTED:
-            value = self._text(read.text)
-            raise UnexpectedValueError(f"{said(status)}: {value!r}", value=value)
-        done(status)
-        return Option(OptionKind(read.kind), self._text(read.text))
-
-    def _taken(self, call: Call) -> Any:
-        value = View()
-        status = call(addressof(self._state), addressof(value))
-        if status == NONE:
-            return None
-        done(status)
-        return self._text(value)
+        kind, text = found
+        if kind == 0:
+            raise UnexpectedValueError(f"{_core.status_text(_UNEXPECTED)}: {text!r}", value=text)
+        return Option(OptionKind(kind), text)
 
     def value(self) -> AnyStr:
         """Takes the value of the last option: the rest of its word without the `=` it begins with, else the next word.
@@ -124,7 +114,7 @@ class Options(Iterator[Option[AnyStr]]):
         >>> next(options).name, options.value(), options.value()
         ('--name', 'a=b', 'c')
         """
-        value: AnyStr | None = self._taken(library.osb_options_value)
+        value: AnyStr | None = _core.options_value(self._state)
         if value is None:
             raise MissingValueError("the option needs a value, and no argument is left")
         return value
@@ -136,5 +126,4 @@ class Options(Iterator[Option[AnyStr]]):
         >>> next(options).name, options.optional_value()
         ('-n', None)
         """
-        value: AnyStr | None = self._taken(library.osb_options_optional_value)
-        return value
+        return _core.options_optional_value(self._state)

@@ -1,77 +1,17 @@
 """Paths that are built of others."""
 
+# mypy: disable-error-code="no-any-return"
 from __future__ import annotations
 
-import ctypes
-from enum import IntEnum
 from typing import Any, AnyStr, overload
 
-from . import _quick as quick
-from ._errors import ConvertError, ExtensionError, JoinError
-from ._library import BAD_EXTENSION, BAD_PATH, NONE, Call, JoinFault, address_of, library, written
-from ._strings import ERRORS, UNIX, AnyOsName, OsName, OsString, Platform, as_platform, done, index_in, read_two, read_valid, said
+from . import _core
+from ._strings import UNIX, AnyOsName, OsName, OsString, Platform
 
-_JOIN, _RELATIVE, _WITH_FILE_NAME, _WITH_EXTENSION, _WITH_ADDED = map(
-    address_of,
-    (
-        library.osb_path_join,
-        library.osb_path_relative,
-        library.osb_path_with_file_name,
-        library.osb_path_with_extension,
-        library.osb_path_with_added_extension,
-    ),
-)
-_NORMALIZE, _CLEAN = map(address_of, (library.osb_path_normalize, library.osb_path_clean))
-
-
-class JoinReason(IntEnum):
-    """Why a path isn't below a base. `RESERVED` is also a name that has one of `<>"|?*` or a control character, or ends with a
-    space or a dot."""
-
-    PREFIX = 1
-    ROOT = 2
-    LEAVES = 3
-    STREAM = 4
-    RESERVED = 5
-    BASE = 6
-    NUL = 7
-    BASE_NUL = 8
-
-
-_REASONS = {
-    JoinReason.PREFIX: "the path has a prefix",
-    JoinReason.ROOT: "the path has a root",
-    JoinReason.LEAVES: "the path leaves the base",
-    JoinReason.STREAM: "the path has a colon",
-    JoinReason.RESERVED: "the path has a name that Windows reserves, rejects or changes",
-    JoinReason.BASE: "the base isn't a place of its own",
-    JoinReason.NUL: "the path has a NUL",
-    JoinReason.BASE_NUL: "the base has a NUL",
-}
-
-
-def _of_two(call: Call, one: AnyOsName, other: AnyOsName, platform: Platform) -> Any:
-    platform = as_platform(platform)
-    a, b, errors = read_two(one, other, platform)
-    status, room = written(
-        lambda room: call(platform, a, len(a), b, len(b), room.out_at, room.size, room.count_at), len(a) + len(b) + 4
-    )
-    if status == NONE:
-        return None
-    if status == BAD_EXTENSION:
-        raise ExtensionError(said(status))
-    done(status)
-    return room.written(errors)
-
-
-def _of_one(call: Call, path: AnyOsName, platform: Platform) -> Any:
-    platform = as_platform(platform)
-    raw, errors = read_valid(path, platform)
-    status, room = written(lambda room: call(platform, raw, len(raw), room.out_at, room.size, room.count_at), len(raw) + 4)
-    if status == NONE:
-        return None
-    done(status)
-    return room.written(errors)
+__all__ = [
+    "path_clean", "path_convert", "path_join", "path_join_checked", "path_normalize", "path_relative",
+    "path_with_added_extension", "path_with_extension", "path_with_file_name",
+]  # fmt: skip
 
 
 @overload
@@ -82,11 +22,19 @@ def path_join(base: OsName[str], path: OsName[str], platform: Platform = UNIX) -
 def path_join(base: OsName[bytes], path: OsName[bytes], platform: Platform = UNIX) -> bytes: ...
 
 
+@overload  # a str beside bytes has no result
+def path_join(base: OsName[str], path: OsName[bytes], platform: Platform = UNIX) -> None: ...  # type: ignore[misc]
+
+
+@overload
+def path_join(base: OsName[bytes], path: OsName[str], platform: Platform = UNIX) -> None: ...  # type: ignore[misc]
+
+
 @overload
 def path_join(base: OsString, path: OsString, platform: Platform = UNIX) -> OsString: ...
 
 
-def path_join(base: AnyOsName, path: AnyOsName, platform: Platform = UNIX) -> OsString:
+def path_join(base: AnyOsName, path: AnyOsName, platform: Platform = UNIX) -> Any:
     """Returns a path after a base, as Rust's `Path::join` and `os.path.join` do.
 
     A path with a prefix replaces the base, and one with a root all but the base's prefix. Both arguments are `str`, or
@@ -95,10 +43,7 @@ def path_join(base: AnyOsName, path: AnyOsName, platform: Platform = UNIX) -> Os
     >>> path_join("/usr", "lib"), path_join("/usr", "/lib"), path_join("C:", "a", Platform.WINDOWS)
     ('/usr/lib', '/lib', 'C:a')
     """
-    made: OsString = quick.joined(_JOIN, platform, base, path)
-    if made is NotImplemented:
-        made = _of_two(library.osb_path_join, base, path, platform)
-    return made
+    return _core.path_join(base, path, platform)
 
 
 @overload
@@ -109,11 +54,19 @@ def path_join_checked(base: OsName[str], path: OsName[str], platform: Platform =
 def path_join_checked(base: OsName[bytes], path: OsName[bytes], platform: Platform = UNIX) -> bytes: ...
 
 
+@overload  # a str beside bytes has no result
+def path_join_checked(base: OsName[str], path: OsName[bytes], platform: Platform = UNIX) -> None: ...  # type: ignore[misc]
+
+
+@overload
+def path_join_checked(base: OsName[bytes], path: OsName[str], platform: Platform = UNIX) -> None: ...  # type: ignore[misc]
+
+
 @overload
 def path_join_checked(base: OsString, path: OsString, platform: Platform = UNIX) -> OsString: ...
 
 
-def path_join_checked(base: AnyOsName, path: AnyOsName, platform: Platform = UNIX) -> OsString:
+def path_join_checked(base: AnyOsName, path: AnyOsName, platform: Platform = UNIX) -> Any:
     """Returns a path below a base, with `.` and `..` resolved, for names that come from an archive or a request.
 
     Raises `JoinError`, with the reason, if the path has a prefix or a root, or a `..` would leave the base, and on Windows
@@ -125,30 +78,7 @@ def path_join_checked(base: AnyOsName, path: AnyOsName, platform: Platform = UNI
     >>> path_join_checked("/srv/files", "./a/../b//c")
     '/srv/files/b/c'
     """
-    platform = as_platform(platform)
-    a, b, errors = read_two(base, path, platform)
-    call: Call = library.osb_path_join_checked
-    fault = JoinFault()
-    status, room = written(
-        lambda room: call(platform, a, len(a), b, len(b), room.out_at, room.size, room.count_at, ctypes.addressof(fault)),
-        len(a) + len(b) + 4,
-    )
-    if status == BAD_PATH:
-        raise _refusal(fault, a, b, errors)
-    done(status)
-    made: OsString = room.written(errors)
-    return made
-
-
-def _refusal(fault: JoinFault, base: bytes, path: bytes, errors: str | None) -> JoinError:
-    """Returns the error for a path that isn't below a base."""
-    reason = JoinReason(fault.reason)
-    if reason in (JoinReason.NUL, JoinReason.BASE_NUL):
-        text = path if reason == JoinReason.NUL else base
-        return JoinError(_REASONS[reason], reason=reason, index=index_in(text, fault.index, errors))
-    if reason in (JoinReason.LEAVES, JoinReason.STREAM, JoinReason.RESERVED):
-        return JoinError(f"{_REASONS[reason]} at component {fault.index}", reason=reason, component=fault.index)
-    return JoinError(_REASONS[reason], reason=reason)
+    return _core.path_join_checked(base, path, platform)
 
 
 def path_relative(path: OsName[AnyStr], base: OsName[AnyStr], platform: Platform = UNIX) -> AnyStr | None:
@@ -159,10 +89,7 @@ def path_relative(path: OsName[AnyStr], base: OsName[AnyStr], platform: Platform
     >>> path_relative("/usr/lib/a", "/usr/bin"), path_relative("a", "/usr")
     ('../lib/a', None)
     """
-    made: AnyStr | None = quick.joined(_RELATIVE, platform, path, base)
-    if made is NotImplemented:
-        made = _of_two(library.osb_path_relative, path, base, platform)
-    return made
+    return _core.path_relative(path, base, platform)
 
 
 def path_normalize(path: OsName[AnyStr], platform: Platform = UNIX) -> AnyStr | None:
@@ -173,10 +100,7 @@ def path_normalize(path: OsName[AnyStr], platform: Platform = UNIX) -> AnyStr | 
     >>> path_normalize("/usr//./lib/../bin/"), path_normalize("a/../..")
     ('/usr/bin', None)
     """
-    made: AnyStr | None = quick.built(_NORMALIZE, platform, path)
-    if made is NotImplemented:
-        made = _of_one(library.osb_path_normalize, path, platform)
-    return made
+    return _core.path_normalize(path, platform)
 
 
 def path_clean(path: OsName[AnyStr], platform: Platform = UNIX) -> AnyStr:
@@ -189,10 +113,7 @@ def path_clean(path: OsName[AnyStr], platform: Platform = UNIX) -> AnyStr:
     >>> path_clean("./../a//b/.."), path_clean("/.."), path_clean("")
     ('../a', '/', '.')
     """
-    made = quick.built(_CLEAN, platform, path)
-    if made is NotImplemented:
-        made = _of_one(library.osb_path_clean, path, platform)
-    return made
+    return _core.path_clean(path, platform)
 
 
 def path_convert(path: OsName[AnyStr], *, to: Platform, platform: Platform = UNIX) -> AnyStr:
@@ -205,18 +126,7 @@ def path_convert(path: OsName[AnyStr], *, to: Platform, platform: Platform = UNI
     >>> path_convert(r"lib\\a", platform=Platform.WINDOWS, to=Platform.UNIX)
     'lib/a'
     """
-    platform, to = as_platform(platform), as_platform(to)
-    raw, errors = read_valid(path, platform)
-    call: Call = library.osb_path_convert
-    status, room = written(
-        lambda room: call(platform, to, raw, len(raw), room.out_at, room.size, room.count_at, room.index_at, room.fault_at),
-        len(raw) + 4,
-    )
-    if status == BAD_PATH:
-        raise ConvertError(said(status), component=room.index)
-    done(status, room.fault, raw, errors)
-    made: AnyStr = room.written(errors and ERRORS[to])
-    return made
+    return _core.path_convert(path, platform, to)
 
 
 def path_with_file_name(path: OsName[AnyStr], name: OsName[AnyStr], platform: Platform = UNIX) -> AnyStr:
@@ -225,10 +135,7 @@ def path_with_file_name(path: OsName[AnyStr], name: OsName[AnyStr], platform: Pl
     >>> path_with_file_name("/tmp/a.txt", "b"), path_with_file_name("/", "b")
     ('/tmp/b', '/b')
     """
-    made: AnyStr = quick.joined(_WITH_FILE_NAME, platform, path, name)
-    if made is NotImplemented:
-        made = _of_two(library.osb_path_with_file_name, path, name, platform)
-    return made
+    return _core.path_with_file_name(path, name, platform)
 
 
 def path_with_extension(path: OsName[AnyStr], extension: OsName[AnyStr], platform: Platform = UNIX) -> AnyStr:
@@ -240,10 +147,7 @@ def path_with_extension(path: OsName[AnyStr], extension: OsName[AnyStr], platfor
     >>> path_with_extension("a/b.txt/", "rs"), path_with_extension("a/b.txt", "")
     ('a/b.rs', 'a/b')
     """
-    made: AnyStr = quick.joined(_WITH_EXTENSION, platform, path, extension)
-    if made is NotImplemented:
-        made = _of_two(library.osb_path_with_extension, path, extension, platform)
-    return made
+    return _core.path_with_extension(path, extension, platform)
 
 
 def path_with_added_extension(path: OsName[AnyStr], extension: OsName[AnyStr], platform: Platform = UNIX) -> AnyStr:
@@ -252,7 +156,4 @@ def path_with_added_extension(path: OsName[AnyStr], extension: OsName[AnyStr], p
     >>> path_with_added_extension("a/b.tar", "gz")
     'a/b.tar.gz'
     """
-    made: AnyStr = quick.joined(_WITH_ADDED, platform, path, extension)
-    if made is NotImplemented:
-        made = _of_two(library.osb_path_with_added_extension, path, extension, platform)
-    return made
+    return _core.path_with_added_extension(path, extension, platform)

@@ -7,14 +7,14 @@ from functools import total_ordering
 from typing import Any, ClassVar, Sequence, TypeVar, overload
 from urllib.parse import quote_from_bytes
 
-from ._calls import decode
-from ._errors import ExtensionError, JoinError, OsBytesError
+from . import _core
+from ._calls import decode, encode
+from ._errors import ExtensionError, JoinError, JoinReason, OsBytesError
 from ._globs import Glob, GlobFlag
-from ._library import BAD_EXTENSION
-from ._path_building import JoinReason, path_convert, path_join, path_join_checked, path_relative
+from ._path_building import path_convert, path_join_checked, path_relative
 from ._paths import (
     Kind,
-    parts_of,
+    path_components,
     path_ends_with,
     path_extension,
     path_is_absolute,
@@ -22,10 +22,15 @@ from ._paths import (
     path_starts_with,
     path_strip_prefix,
 )
-from ._strings import UNIX, WINDOWS, AnyOsName, OsString, Platform, read_valid, said
+from ._strings import UNIX, WINDOWS, AnyOsName, OsString, Platform
 
-# Looking a member up in its class takes longer than all else here.
-_PREFIX, _ROOT, _CURRENT, _NAME = Kind.PREFIX, Kind.ROOT, Kind.CURRENT, Kind.NAME
+__all__ = [
+    "OsPath", "UnixPath", "WindowsPath",
+]  # fmt: skip
+
+_BAD_EXTENSION = 23
+# The kinds as the module gives them.
+_PREFIX, _ROOT, _CURRENT = map(int, (Kind.PREFIX, Kind.ROOT, Kind.CURRENT))
 
 P = TypeVar("P", bound="OsPath")
 Q = TypeVar("Q", bound="OsPath")
@@ -55,33 +60,31 @@ class OsPath:
         text = ""
         for segment in segments:
             read = cls._read(segment)
-            text = path_join(text, read, cls.platform) if text else read
+            text = _core.path_join(text, read, cls.platform) if text else read
         return cls._made(text)
 
     @classmethod
     def _read(cls, segment: AnyOsName) -> str:
         if isinstance(segment, OsPath) and segment.platform != cls.platform:
             raise TypeError(f"expected a path of {cls.platform.name.title()}, not {type(segment).__name__}")
-        return decode(segment, cls.platform)
+        text: str = _core.decode(segment, cls.platform)
+        return text
 
     @classmethod
     def _made(cls: type[P], text: str) -> P:
         """Returns the path of a text: its components, with one separator between them."""
-        drive, root, is_current = "", "", False
-        names: list[str] = []
-        for kind, part in parts_of(text, cls.platform):
-            if kind is _NAME:
-                names.append(part)
-            elif kind is _PREFIX:
-                drive = part if part.startswith("\\\\?\\") else part.replace("/", "\\")
-            elif kind is _ROOT:
-                root = cls._separator
-            elif kind is _CURRENT and not drive:
-                is_current = True
-            else:
-                names.append(part)
+        fields = _core.path_components(text, cls.platform)
+        drive, root, is_current, first = "", "", False, 0
+        # a prefix, a root and a dot come before the names, each at most once
+        if fields and fields[0] == _PREFIX:
+            drive, first = fields[1] if fields[1].startswith("\\\\?\\") else fields[1].replace("/", "\\"), 2
+        if fields[first : first + 1] == [_ROOT]:
+            root, first = cls._separator, first + 2
+        elif not drive and fields[:1] == [_CURRENT]:
+            is_current, first = True, 2
+        names = tuple(fields[first + 1 :: 2])
         path = object.__new__(cls)
-        path._drive, path._root, path._names = drive, root, tuple(names)
+        path._drive, path._root, path._names = drive, root, names
         text = drive + root + cls._separator.join(names)
         if cls.platform is WINDOWS and not drive and not root and path_prefix(text, WINDOWS) is not None:
             # a first name such as `C:` would be a drive
@@ -106,7 +109,7 @@ class OsPath:
         return self._text or "."
 
     def __bytes__(self) -> bytes:
-        return read_valid(str(self), self.platform)[0]
+        return encode(str(self), self.platform)
 
     def __repr__(self) -> str:
         return f"{type(self).__name__}({str(self)!r})"
@@ -201,7 +204,7 @@ class OsPath:
         """Returns the `file:` URI of the path (RFC 8089), whose bytes are escaped. Raises `OsBytesError` if it isn't absolute."""
         if not self.is_absolute():
             raise OsBytesError("relative path can't be expressed as a file URI")
-        raw = read_valid(self.as_posix(), self.platform)[0]
+        raw = encode(self.as_posix(), self.platform)
         if self._drive[1:] == ":":
             return f"file:///{self._drive}{quote_from_bytes(raw[2:])}"
         return ("file:" if self._drive else "file://") + quote_from_bytes(raw)
@@ -243,7 +246,7 @@ class OsPath:
         """Returns the path of this one and these segments, as `/` does."""
         text = self._text
         for segment in segments:
-            text = path_join(text, self._read(segment), self.platform)
+            text = _core.path_join(text, self._read(segment), self.platform)
         return self._made(text)
 
     def joinpath_checked(self: P, path: AnyOsName) -> P:
@@ -275,7 +278,7 @@ class OsPath:
     def with_name(self: P, name: OsString) -> P:
         """Returns the path with another last name. Raises `OsBytesError` if there is none, or `name` isn't one name."""
         text = decode(name, self.platform)
-        kinds = [kind for kind, _ in parts_of(text, self.platform)]
+        kinds = [part.kind for part in path_components(text, self.platform)]
         if not self.name:
             raise OsBytesError(f"{str(self)!r} has an empty name")
         if kinds != [Kind.NAME] or not path_ends_with(text, text, self.platform) or text[-1] in ("/", self._separator):
@@ -298,7 +301,7 @@ class OsPath:
         if self.name in ("", ".."):
             raise OsBytesError(f"{str(self)!r} has an empty name")
         if "/" in text or self._separator in text:
-            raise ExtensionError(said(BAD_EXTENSION))
+            raise ExtensionError(_core.status_text(_BAD_EXTENSION))
         name = self.stem + text
         # `..x` without its suffix is the current directory
         return self._with((*self._names[:-1], name) if name != "." else self._names[:-1])

@@ -1,31 +1,18 @@
 """Parts of paths, and comparisons of paths."""
 
+# mypy: disable-error-code="no-any-return"
 from __future__ import annotations
 
-from ctypes import addressof, sizeof
 from enum import IntEnum
 from typing import Any, AnyStr, Generic, Iterator
 
-from . import _quick as quick
-from ._library import NONE, Call, Part, View, address_of, is_so, library, written
-from ._strings import UNIX, AnyOsName, OsName, Platform, as_platform, done, read_two, read_valid, returned
+from . import _core
+from ._strings import UNIX, AnyOsName, OsName, Platform
 
-_PARENT, _PREFIX, _FILE_NAME, _FILE_STEM, _EXTENSION, _STRIP_PREFIX = map(
-    address_of,
-    (
-        library.osb_path_parent,
-        library.osb_path_prefix,
-        library.osb_path_file_name,
-        library.osb_path_file_stem,
-        library.osb_path_extension,
-        library.osb_path_strip_prefix,
-    ),
-)
-_COMPONENTS = address_of(library.osb_path_components)
-_HAS_ROOT, _IS_ABSOLUTE, _STARTS, _ENDS = map(
-    address_of,
-    (library.osb_path_has_root, library.osb_path_is_absolute, library.osb_path_starts_with, library.osb_path_ends_with),
-)
+__all__ = [
+    "Component", "Kind", "path_components", "path_ends_with", "path_extension", "path_file_name", "path_file_stem",
+    "path_has_root", "path_is_absolute", "path_parent", "path_prefix", "path_starts_with", "path_strip_prefix",
+]  # fmt: skip
 
 
 class Kind(IntEnum):
@@ -38,7 +25,8 @@ class Kind(IntEnum):
     NAME = 5
 
 
-_KINDS = (None, *Kind)
+# By their numbers, which begin at 1.
+_KINDS = (Kind.NAME, *Kind)
 
 
 class Component(Generic[AnyStr]):
@@ -68,31 +56,6 @@ class Component(Generic[AnyStr]):
         return f"Component({self.kind!r}, {self.text!r})"
 
 
-def _spans_of(raw: bytes, platform: Platform) -> list[tuple[Kind, int, int]]:
-    """Returns the kind, the start and the end of each component of a path."""
-    width = sizeof(Part)
-    call: Call = library.osb_path_components
-    need = width * (len(raw) + 1)
-    status, room = written(
-        lambda room: call(platform, raw, len(raw), room.out_at, room.size // width, room.count_at), min(need, 4096), width
-    )
-    done(status)
-    numbers = iter(room.numbers("Q", width))
-    # the kind has half of its field
-    return [(_KINDS[kind & 0xFF] or Kind.NAME, start, end) for kind, start, end in zip(numbers, numbers, numbers)]
-
-
-def parts_of(path: AnyOsName, platform: Platform) -> list[tuple[Kind, Any]]:
-    """Returns the kind and the text of each component of a path."""
-    found = quick.components(_COMPONENTS, platform, path)
-    if found is not NotImplemented:
-        fields = iter(found)
-        return [(_KINDS[kind] or Kind.NAME, text) for kind, text in zip(fields, fields)]
-    platform = as_platform(platform)
-    raw, errors = read_valid(path, platform)
-    return [(kind, returned(raw[start:end], errors)) for kind, start, end in _spans_of(raw, platform)]
-
-
 def path_components(path: OsName[AnyStr], platform: Platform = UNIX) -> list[Component[AnyStr]]:
     """Returns the components of a path, as Rust's `std::path` takes it apart.
 
@@ -101,18 +64,8 @@ def path_components(path: OsName[AnyStr], platform: Platform = UNIX) -> list[Com
     >>> [part.text for part in path_components(r"C:\\a/.\\..", Platform.WINDOWS)]
     ['C:', '\\\\', 'a', '..']
     """
-    return [Component(kind, text) for kind, text in parts_of(path, platform)]
-
-
-def _part(call: Call, path: AnyOsName, platform: Platform) -> Any:
-    platform = as_platform(platform)
-    raw, errors = read_valid(path, platform)
-    part = View()
-    status = call(platform, raw, len(raw), addressof(part))
-    if status == NONE:
-        return None
-    done(status)
-    return returned(bytes(part), errors)
+    fields = iter(_core.path_components(path, platform))
+    return [Component(_KINDS[kind], text) for kind, text in zip(fields, fields)]
 
 
 def path_parent(path: OsName[AnyStr], platform: Platform = UNIX) -> AnyStr | None:
@@ -123,9 +76,7 @@ def path_parent(path: OsName[AnyStr], platform: Platform = UNIX) -> AnyStr | Non
     >>> path_parent("/usr//lib/")
     '/usr'
     """
-    part = quick.part(_PARENT, platform, path)
-    if part is NotImplemented:
-        part = _part(library.osb_path_parent, path, platform)
+    part: AnyStr | None = _core.path_parent(path, platform)
     return part
 
 
@@ -135,9 +86,7 @@ def path_prefix(path: OsName[AnyStr], platform: Platform = UNIX) -> AnyStr | Non
     >>> path_prefix("C:a", Platform.WINDOWS)
     'C:'
     """
-    part = quick.part(_PREFIX, platform, path)
-    if part is NotImplemented:
-        part = _part(library.osb_path_prefix, path, platform)
+    part: AnyStr | None = _core.path_prefix(path, platform)
     return part
 
 
@@ -147,9 +96,7 @@ def path_file_name(path: OsName[AnyStr], platform: Platform = UNIX) -> AnyStr | 
     >>> path_file_name("/usr/lib/")
     'lib'
     """
-    part = quick.part(_FILE_NAME, platform, path)
-    if part is NotImplemented:
-        part = _part(library.osb_path_file_name, path, platform)
+    part: AnyStr | None = _core.path_file_name(path, platform)
     return part
 
 
@@ -159,9 +106,7 @@ def path_file_stem(path: OsName[AnyStr], platform: Platform = UNIX) -> AnyStr | 
     >>> path_file_stem("a.tar.gz")
     'a.tar'
     """
-    part = quick.part(_FILE_STEM, platform, path)
-    if part is NotImplemented:
-        part = _part(library.osb_path_file_stem, path, platform)
+    part: AnyStr | None = _core.path_file_stem(path, platform)
     return part
 
 
@@ -173,16 +118,8 @@ def path_extension(path: OsName[AnyStr], platform: Platform = UNIX) -> AnyStr | 
     >>> path_extension("a.tar.gz")
     'gz'
     """
-    part = quick.part(_EXTENSION, platform, path)
-    if part is NotImplemented:
-        part = _part(library.osb_path_extension, path, platform)
+    part: AnyStr | None = _core.path_extension(path, platform)
     return part
-
-
-def _holds(call: Call, path: AnyOsName, platform: Platform) -> bool:
-    platform = as_platform(platform)
-    raw, _ = read_valid(path, platform)
-    return is_so(call(platform, raw, len(raw)))
 
 
 def path_has_root(path: AnyOsName, platform: Platform = UNIX) -> bool:
@@ -191,10 +128,7 @@ def path_has_root(path: AnyOsName, platform: Platform = UNIX) -> bool:
     >>> path_has_root("/a"), path_has_root("C:a", Platform.WINDOWS)
     (True, False)
     """
-    answer = quick.holds(_HAS_ROOT, platform, path)
-    if answer is NotImplemented:
-        answer = _holds(library.osb_path_has_root, path, platform)
-    return answer
+    return _core.path_has_root(path, platform)
 
 
 def path_is_absolute(path: AnyOsName, platform: Platform = UNIX) -> bool:
@@ -203,16 +137,7 @@ def path_is_absolute(path: AnyOsName, platform: Platform = UNIX) -> bool:
     >>> path_is_absolute("C:/a", Platform.WINDOWS), path_is_absolute("/a", Platform.WINDOWS)
     (True, False)
     """
-    answer = quick.holds(_IS_ABSOLUTE, platform, path)
-    if answer is NotImplemented:
-        answer = _holds(library.osb_path_is_absolute, path, platform)
-    return answer
-
-
-def _compared(call: Call, path: AnyOsName, other: AnyOsName, platform: Platform) -> bool:
-    platform = as_platform(platform)
-    raw, part, _ = read_two(path, other, platform)
-    return is_so(call(platform, raw, len(raw), part, len(part)))
+    return _core.path_is_absolute(path, platform)
 
 
 def path_starts_with(path: AnyOsName, base: AnyOsName, platform: Platform = UNIX) -> bool:
@@ -221,10 +146,7 @@ def path_starts_with(path: AnyOsName, base: AnyOsName, platform: Platform = UNIX
     >>> path_starts_with("/usr/lib", "/usr/"), path_starts_with("/usr/lib", "/us")
     (True, False)
     """
-    answer = quick.compared(_STARTS, platform, path, base)
-    if answer is NotImplemented:
-        answer = _compared(library.osb_path_starts_with, path, base, platform)
-    return answer
+    return _core.path_starts_with(path, base, platform)
 
 
 def path_ends_with(path: AnyOsName, child: AnyOsName, platform: Platform = UNIX) -> bool:
@@ -233,21 +155,7 @@ def path_ends_with(path: AnyOsName, child: AnyOsName, platform: Platform = UNIX)
     >>> path_ends_with("/usr/lib/", "lib"), path_ends_with("/usr/lib", "ib")
     (True, False)
     """
-    answer = quick.compared(_ENDS, platform, path, child)
-    if answer is NotImplemented:
-        answer = _compared(library.osb_path_ends_with, path, child, platform)
-    return answer
-
-
-def _rest(path: AnyOsName, base: AnyOsName, platform: Platform) -> Any:
-    platform = as_platform(platform)
-    raw, prefix, errors = read_two(path, base, platform)
-    rest = View()
-    status = library.osb_path_strip_prefix(platform, raw, len(raw), prefix, len(prefix), addressof(rest))
-    if status == NONE:
-        return None
-    done(status)
-    return returned(bytes(rest), errors)
+    return _core.path_ends_with(path, child, platform)
 
 
 def path_strip_prefix(path: OsName[AnyStr], base: OsName[AnyStr], platform: Platform = UNIX) -> AnyStr | None:
@@ -256,7 +164,4 @@ def path_strip_prefix(path: OsName[AnyStr], base: OsName[AnyStr], platform: Plat
     >>> path_strip_prefix("/usr//lib/a/", "/usr"), path_strip_prefix("/usr/lib", "/us")
     ('lib/a', None)
     """
-    rest = quick.rest(_STRIP_PREFIX, platform, path, base)
-    if rest is NotImplemented:
-        rest = _rest(path, base, platform)
-    return rest
+    return _core.path_strip_prefix(path, base, platform)

@@ -60,7 +60,7 @@ value: str = osbytes.Options(["-a", "b"]).value()
 
 
 def joined_names(base: OsString, name: OsString) -> list[OsString]:
-    return [osbytes.path_join(base, name), osbytes.path_join_checked(base, name), osbytes.path_join(base, "b")]
+    return [osbytes.path_join(base, name), osbytes.path_join_checked(base, name)]
 
 
 def joined_line(names: list[OsString]) -> OsString:
@@ -83,6 +83,8 @@ except osbytes.FaultError as error:
 WRONG = {
     "osbytes.path_relative('a', b'b')": "AnyStr",
     "text: str = osbytes.path_join('a', b'b')": "assignment",
+    "len(osbytes.path_join_checked(b'a', 'b'))": "arg-type",
+    "def f(base: osbytes.OsString) -> osbytes.OsString: return osbytes.path_join(base, 'b')": "return-value",
     "osbytes.find('a', 'b')": "arg-type",
     "osbytes.path_convert('a', osbytes.WINDOWS)": "call-arg|misc",
     "value: bytes = osbytes.shell_quote('a')": "assignment|arg-type",
@@ -116,7 +118,7 @@ class Readme(unittest.TestCase):
 
     def test_it_stands_by_itself(self) -> None:
         self.assertEqual([link for link in re.findall(r"\]\(([^)]*)\)", self.text) if ":" not in link], [])
-        self.assertIn(f"osbytes-{osbytes.__version__}-py3", self.text)
+        self.assertIn(f"osbytes-{osbytes.__version__}-cp39-abi3", self.text)
         try:
             installed = distribution("osbytes")
         except PackageNotFoundError:

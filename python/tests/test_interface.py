@@ -3,6 +3,7 @@
 from __future__ import annotations
 
 import copy
+import importlib
 import inspect
 import ntpath
 import os
@@ -18,7 +19,6 @@ from typing import Any, Callable
 
 import osbytes
 from osbytes import UNIX, WASM, WINDOWS, Glob, GlobFlag, GlobSet, Ignore, NulError, OsBytesError, Options, PatternError
-from osbytes._quick import is_there
 
 HUGE = (2**64, 2**64 + 1, 2**200, -(2**64))
 
@@ -263,7 +263,7 @@ class Errors(unittest.TestCase):
             self.assertNotRegex(str(raised(call)), r"status \d|refuses it|_")
 
     def test_wrong_types(self) -> None:
-        """A wrong type is a `TypeError`, of ctypes too, and never another exception."""
+        """A wrong type is a `TypeError`, and never another exception."""
         of_names = [
             name for name in osbytes.__all__ if name.startswith(("path_", "shell_", "windows_", "fish", "power", "display", "escape"))
         ]
@@ -310,9 +310,7 @@ class Types(unittest.TestCase):
             lambda a, b: osbytes.path_with_extension(a, b),
             lambda a, b: osbytes.path_with_added_extension(a, b),
             lambda a, b: osbytes.path_components(a)[-1].text,
-            lambda a, b: osbytes.shell_quote(a),
-            lambda a, b: osbytes.shell_quote_line(a),
-            lambda a, b: osbytes.fish_quote(a),
+            *(lambda a, b, quote=quote: quote(a) for name, quote in vars(osbytes).items() if name.startswith(("shell_quote", "fish_quote"))),
             lambda a, b: osbytes.shell_join([a, b]),
             lambda a, b: osbytes.shell_words(b)[0],
             lambda a, b: osbytes.windows_quote(b),
@@ -399,19 +397,28 @@ class Objects(unittest.TestCase):
         self.assertEqual([option.text for option in other], ["b", "c"])
 
 
-@unittest.skipUnless(is_there, "there is no extension module")
-class Both(unittest.TestCase):
-    def test_results(self) -> None:
-        """The extension module and ctypes give the same results and the same errors."""
-        command = [sys.executable, "-B", str(Path(__file__).with_name("made_up_calls.py")), str(random.randrange(1 << 30)), "100"]
-        ways = ({}, {"OSBYTES_CTYPES": "1"})
-        by_module, by_ctypes = (
-            subprocess.run(command, env={**os.environ, **way}, check=True, stdout=subprocess.PIPE).stdout.splitlines() for way in ways
-        )
-        self.assertGreater(len(by_module), 3000)
-        for one, other in zip(by_module, by_ctypes):
-            self.assertEqual(one, other, command)
-        self.assertEqual(len(by_module), len(by_ctypes))
+class Interpreters(unittest.TestCase):
+    def test_another(self) -> None:
+        """The package works in another interpreter of the process, beside this one and after it has ended."""
+        try:
+            interpreters: Any = importlib.import_module("_interpreters" if sys.version_info >= (3, 13) else "_xxsubinterpreters")
+        except ImportError:
+            self.skipTest("this Python makes no other interpreter")
+        code = f"""import sys
+sys.path[:] = {sys.path!r}
+import osbytes
+assert osbytes.shell_join(["a b", "c"] * 50) == " ".join(["'a b' c"] * 50)
+try:
+    osbytes.shell_quote("a\\0")
+except osbytes.NulError as error:
+    assert error.index == 1
+osbytes.UnixPath("a") / "\\udcff", osbytes.GlobSet(["*"]).matches(["a"]), list(osbytes.symbols(b"\\xff"))
+"""
+        for _ in range(3):
+            one = interpreters.create()
+            self.assertIsNone(interpreters.run_string(one, code))
+            self.assertEqual(osbytes.shell_quote("a b"), "'a b'")
+            interpreters.destroy(one)
 
 
 def without_current(path: str, platform: osbytes.Platform) -> list[Any]:
@@ -510,6 +517,8 @@ class Paths(unittest.TestCase):
                 own = of(pattern)
                 if own.anchor or not own.parts or str(own) != str(python(pattern)):
                     continue
+                if "**" in pattern and sys.version_info[:2] == (3, 12):
+                    continue  # `match` reads it otherwise there
                 if not wanted.anchor or len(own.parts) < len(path.parts):
                     self.assertEqual(path.match(pattern), wanted.match(pattern), (text, pattern))
                 if path.parts and not wanted.anchor and hasattr(wanted, "full_match"):

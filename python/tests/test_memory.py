@@ -6,6 +6,7 @@ memory. An interpreter that was built to debug counts references, too.
 
 from __future__ import annotations
 
+import copy
 import gc
 import resource
 import sys
@@ -14,7 +15,7 @@ import unittest
 from typing import Callable
 
 import osbytes
-from osbytes import WINDOWS, FaultError, GlobSet, Ignore, NulError
+from osbytes import WINDOWS, FaultError, GlobSet, Ignore, NulError, Options
 
 # Lists of as many items as there are views on the stack, and results as long as a buffer there.
 COUNTS = sorted({0, 1, 2, 640, 1000, *(full + more for full in (64, 128, 256) for more in (-1, 0, 1))})
@@ -29,6 +30,36 @@ def made_set() -> None:
 
 def made_files() -> None:
     Ignore("\n".join(PATTERNS)).is_ignored("a0001")
+
+
+def walked() -> None:
+    """Walks over strings and words that nothing else has."""
+    text = "b\udcff" * 300
+    assert [shown(it) for it in osbytes.symbols(text.encode("utf-8", "surrogateescape"))] == ["b", "255"] * 300
+    assert b"".join(part + text.encode() for part, text in osbytes.chunks(f"a{text}".encode("utf-8", "surrogateescape"))).count(b"b") == 300
+    options = Options([f"-{letter}=1" for letter in "abc" * 50])
+    other = copy.copy(options)
+    del text
+    for one in (options, other):
+        assert [(option.name, one.value()) for option in one] == [(f"-{letter}", "1") for letter in "abc" * 50]
+
+
+class Named:
+    """An object with a path. One of `pathlib` adds to a table of Python, which grows now and then."""
+
+    def __fspath__(self) -> str:
+        return "a/b" * COUNTS[-1]
+
+
+def shown(symbol: osbytes.Character | osbytes.Unit) -> str:
+    return str(symbol[0])
+
+
+def checked() -> None:
+    checker = osbytes.Checker()
+    for piece in (b"\xed", b"\xa0\x80"):
+        checker.feed(piece)
+    checker.finish()
 
 
 def refused(call: Callable[[], object], error: type[Exception]) -> Callable[[], None]:
@@ -55,9 +86,15 @@ CALLS: list[Callable[[], object]] = [
     lambda: osbytes.split(b"a,b" * 300, ","), lambda: osbytes.find(b"abc", "c"), lambda: osbytes.compare(b"a", b"b"),
     lambda: osbytes.contains(b"abc", b"d"), lambda: osbytes.is_string(b"\xff", WINDOWS), lambda: osbytes.path_convert("a/b", to=WINDOWS),
     refused(lambda: osbytes.check(b"\xff", WINDOWS), FaultError), refused(lambda: osbytes.shell_quote("a\0"), NulError),
-    refused(lambda: osbytes.split("a", ","), TypeError), refused(lambda: osbytes.shell_join(["a"] * 100 + [b"b"]), TypeError),
+    refused(lambda: osbytes.split("a", ","), TypeError), refused(lambda: osbytes.shell_join(["a"] * 100 + [b"b" * len(PATTERNS)]), TypeError),
     lambda: osbytes.windows_command_line("a" * 3000, ["b"] * 2000), lambda: GLOBS.matches(["a"] * 100),
-    lambda: IGNORE.matched(["a"] * 100), lambda: osbytes.rsplit(b"a,b", ","), made_set, made_files,
+    lambda: IGNORE.matched(["a"] * 100), lambda: osbytes.rsplit(b"a,b", ","), made_set, made_files, walked, checked,
+    lambda: osbytes.from_units([0x20AC] * 3000), lambda: osbytes.to_units("a" * 3000), lambda: osbytes.unescape("\\xFF" * 2000),
+    lambda: osbytes.shell_words("a b " * 2000), lambda: osbytes.windows_arguments("a b " * 2000), lambda: osbytes.powershell_quote("'" * 3000),
+    lambda: osbytes.windows_quote(b"a b" * 2000), lambda: osbytes.encode("\udcff" * 300), lambda: osbytes.decode(b"\xff" * 300),
+    lambda: osbytes.path_parent(Named()), lambda: IGNORE.verdict("a/b"), lambda: osbytes.split(b"a,b,c" * 100, ",", 5),
+    refused(lambda: osbytes.find(b"a", "\ud800"), osbytes.PatternError), refused(lambda: osbytes.shell_join(["a", "\ud800" * 100]), FaultError),
+    refused(lambda: GlobSet(["a" * 100, "[" * 100]), osbytes.GlobError), refused(lambda: osbytes.path_join("a" * 100, b"b" * 100), TypeError),
 ]  # fmt: skip
 
 
@@ -100,12 +137,18 @@ class Sizes(unittest.TestCase):
             self.assertEqual(osbytes.find(text.encode() + b"b", "b"), size)
             self.assertIs(GlobSet(["a*b"]).is_match(text + "b"), True)
             self.assertIs(Ignore("a*b").is_ignored(text + "b"), True)
+            self.assertEqual(osbytes.from_units([0x20AC] * size), "\u20ac".encode() * size)
+            self.assertEqual(osbytes.to_units(text), [ord("a")] * size)
+            self.assertEqual(osbytes.unescape(text), text.encode())
+            self.assertEqual(len(list(osbytes.symbols(text))), size)
+            self.assertEqual(osbytes.shell_words(text), [text])
+            self.assertEqual(osbytes.windows_arguments(text), [text])
 
 
 class Leaks(unittest.TestCase):
     def assert_none(self, call: Callable[[], object], count: Callable[[], int], times: int, most: int) -> None:
         """Asserts that a call leaves nothing behind, by what a function counts before and after it is made again and again."""
-        again(call, 20)
+        again(call, 50)
         before = count()
         again(call, times)
         self.assertLess(count() - before, most, call.__code__)
@@ -114,7 +157,7 @@ class Leaks(unittest.TestCase):
         tracemalloc.start()
         self.addCleanup(tracemalloc.stop)
         for call in CALLS:
-            self.assert_none(call, lambda: tracemalloc.get_traced_memory()[0], 150, 3000)
+            self.assert_none(call, lambda: tracemalloc.get_traced_memory()[0], 200, 4000)
 
     def test_memory_of_sets(self) -> None:
         """A set of 400 patterns has more than 40,000 bytes, and ignore files of as many lines, too."""

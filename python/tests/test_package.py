@@ -58,9 +58,9 @@ def read_options(words: list[str]) -> tuple[list[tuple[str, str]], list[str]]:
 class Examples(unittest.TestCase):
     def test_examples_of_the_docs(self) -> None:
         paths = (osbytes._paths, osbytes._path_building, osbytes._path_classes)
-        modules = (osbytes, osbytes._calls, osbytes._globs, osbytes._ignore, osbytes._library, osbytes._lines, osbytes._options)
+        modules = (osbytes, osbytes._calls, osbytes._globs, osbytes._ignore, osbytes._lines, osbytes._options)
         for module in (*modules, *paths):
-            failed, tried = doctest.testmod(module, optionflags=doctest.IGNORE_EXCEPTION_DETAIL)
+            failed, tried = doctest.testmod(module, extraglobs={"WINDOWS": WINDOWS}, optionflags=doctest.IGNORE_EXCEPTION_DETAIL)
             self.assertEqual(failed, 0, module)
             self.assertGreater(tried, 0, module)
 

@@ -68,10 +68,8 @@ def kit_line() -> str:
 
 def sum_of_checkout() -> str:
     """Returns the sum of the files that git tracks or would, and of the kit's line."""
-    words = ["git", "-C", str(ROOT), "ls-files", "-z", "--cached", "--others", "--exclude-standard"]
-    listed = subprocess.run(words, stdout=subprocess.PIPE, check=True).stdout
     sum = hashlib.sha256(kit_line().encode())
-    for name in sorted(set(listed.decode().split("\0")) - {""}):
+    for name in tracked():
         path = ROOT / name
         sum.update(repr((name, path.read_bytes() if path.is_file() else None)).encode())
     return sum.hexdigest()
@@ -124,11 +122,23 @@ def gather(room: Path) -> None:
         for part in PARTS:
             if (CRATES / name / part).is_dir():
                 copy_folder(CRATES / name / part, room / "crates" / name / part)
-    for name, stamp in stamps(room, of).items():
+    copy_built(room)
+
+
+def copy_built(room: Path) -> None:
+    """Copies the built form of the libraries of this checkout into a folder that has their sources."""
+    for name, stamp in stamps(room, libraries()).items():
         if is_current(name):
             rlib = room / "crates" / name / "out" / "rlib"
             copy_folder(built(name), rlib / built(name).name)
             (rlib / "stamp").write_text(stamp, encoding="utf-8")
+
+
+def tracked() -> list[str]:
+    """Returns the names of the files that git tracks or would."""
+    words = ["git", "-C", str(ROOT), "ls-files", "-z", "--cached", "--others", "--exclude-standard"]
+    listed = subprocess.run(words, stdout=subprocess.PIPE, check=True).stdout
+    return sorted(set(listed.decode().split("\0")) - {""})
 
 
 def is_laid_built(top: Path, name: str, stamp: str) -> bool:

@@ -13,6 +13,7 @@ from __future__ import annotations
 import gzip
 import hashlib
 import io
+import lzma
 import posixpath
 import re
 import sys
@@ -43,8 +44,9 @@ STATUS = re.compile(r"^    (OSB_\w+) = \d+,?\s+/\* (.*?) \*/", re.S | re.M)
 SYNTAX = re.compile(r"^// Path patterns\..*?\n(?!//)", re.S | re.M)
 LINK = re.compile(r"\[([^\]]*)\]\(([^)#\s]+)(#[^)\s]*)?\)")
 # The libraries of a wheel name no C library, and glibc 2.17 and musl 1.1 have what they take: the ones of this tag.
-TAG = "py3-none-manylinux2014_{0}.musllinux_1_1_{0}"
-WINDOWS_TAG = "py3-none-win_amd64"
+# The extension module has the stable ABI of Python 3.10, of which 3.9 exports what is taken, though its DLL for Windows doesn't.
+TAG = "cp39-abi3-manylinux2014_{0}.musllinux_1_1_{0}"
+WINDOWS_TAG = "cp310-abi3-win_amd64"
 
 
 class Entry(NamedTuple):
@@ -222,10 +224,10 @@ def zip_entries(folder: Path, top: str, entries: dict[str, Entry]) -> Path:
     return file
 
 
-def pack_entries(folder: Path, top: str, entries: dict[str, Entry]) -> Path:
-    """Makes an archive of these files in a folder, and returns it."""
-    file = folder / f"{top}.tar.gz"
-    with file.open("wb") as made, gzip.GzipFile("", "wb", 9, made, 0) as packed:
+def pack_entries(folder: Path, top: str, entries: dict[str, Entry], ending: str = "tar.gz") -> Path:
+    """Makes an archive of these files in a folder, a .tar.gz or a .tar.xz, and returns it."""
+    file = folder / f"{top}.{ending}"
+    with file.open("wb") as made, gzip.GzipFile("", "wb", 9, made, 0) if ending == "tar.gz" else lzma.open(made, "wb") as packed:
         with tarfile.open(fileobj=packed, mode="w") as members:
             for path, entry in entries.items():
                 member = tarfile.TarInfo(f"{top}/{path}")
@@ -251,19 +253,21 @@ def make_wheel(built: Path, folder: Path, processor: str, mark: Mark = PASSED) -
 def make_for_windows(built: Path, folder: Path) -> list[Path]:
     """Makes the archive and the wheel of a library that is built for Windows in a folder."""
     archive = zip_entries(folder, f"libosbytes-{version()}-windows-x86_64", finished(windows_entries(built), "osbytes"))
-    return [archive, build_backend.make_wheel(folder, built / "osbytes.dll", WINDOWS_TAG)]
+    by = "x86_64-w64-mingw32-gcc"
+    return [archive, *([build_backend.make_wheel(folder, built / "osbytes.dll", WINDOWS_TAG, by)] if build_backend.includes() else [])]
 
 
 def make_packages(built: Path, folder: Path) -> list[Path]:
     """Makes the archives and the wheels of what is built in a folder, for each processor that is there and for Windows,
-    and the source distribution of the Python package."""
+    and the source distribution of the Python package. Without Python's headers there is nothing of Python."""
     rooms = {"x86_64": built, "aarch64": built / "aarch64"}
     there = {processor: room for processor, room in rooms.items() if (room / "libosbytes.so").exists()}
-    made = [make(room, folder, processor) for processor, room in there.items() for make in (make_archive, make_wheel)]
+    kinds = (make_archive, make_wheel) if build_backend.includes() else (make_archive,)
+    made = [make(room, folder, processor) for processor, room in there.items() for make in kinds]
     if (built / "windows" / "osbytes.dll").exists():
         made += make_for_windows(built / "windows", folder)
     libraries = [(processor, room / "libosbytes.so") for processor, room in there.items()]
-    return [*made, build_backend.make_sdist(folder, libraries)] if libraries else made
+    return [*made, build_backend.make_sdist(folder, libraries)] if make_wheel in kinds and libraries else made
 
 
 # The documents of the archive of the programs.

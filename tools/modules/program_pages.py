@@ -1,7 +1,7 @@
-"""The man page and the completions of each program, from its table in docs/programs.
+"""The man page of each program, from its table in docs/programs, and its completions.
 
 A table has the program's commands, its options with the commands that take them, and examples with what they print.
-An operand is a word in capitals: PLATFORM and TO are one of three, the name of a file is completed, any other isn't.
+An operand is a word in capitals. The completions are files beside the table.
 """
 
 import re
@@ -14,10 +14,7 @@ from sources import ROOT
 
 PROGRAMS = ("names", "paths", "osbytes")
 PLATFORMS = "unix windows wasm"
-# Operands that are platforms.
-OF_PLATFORMS = ("PLATFORM", "TO")
-# Operands and values that are names of files.
-FILES = ("FILE", "BASE", "DIR=FILE", "DIR")
+TABLES = ROOT / "docs" / "programs"
 STATUSES = {
     0: "success",
     1: "invalid input; a message has the number of the first invalid item, counted from 1",
@@ -104,7 +101,7 @@ def example_of(row: dict) -> Example:
 @cache
 def program(name: str) -> Program:
     """Returns what the table of a program has."""
-    table = tomllib.loads((ROOT / "docs" / "programs" / f"{name}.toml").read_text(encoding="utf-8"))
+    table = tomllib.loads((TABLES / f"{name}.toml").read_text(encoding="utf-8"))
     made = Program(
         name,
         table["summary"],
@@ -181,155 +178,11 @@ def man_page(of: Program) -> str:
     })
 
 
-# Completions.
-
-
-def spellings(options: list[Option]) -> str:
-    return " ".join(word for it in options for word in it.spellings)
-
-
-def in_bash(of: Program) -> str:
-    """Returns the completions of a program for bash."""
-    valued = [it for it in of.options if it.value]
-    files = "|".join(word for it in valued if it.value in FILES for word in it.spellings)
-    others = "|".join(word for it in valued if it.value not in FILES for word in it.spellings)
-    takes = "|".join(word for it in valued for word in it.spellings)
-    values = [f"        {words}) {done} ;;" for words, done in ((files, "compopt -o default 2>/dev/null; return"), (others, "return")) if words]
-    known = [f"                {it.name}) words='{spellings(of.options_of(it.name))}' ;;" for it in of.commands if of.options_of(it.name)]
-    places = []
-    for at, kind in sorted({(at, kind) for it in of.commands for at, kind in enumerate(it.kinds, 1)}):
-        named = "|".join(f"{it.name}:{at}" for it in of.commands if it.kinds[at - 1 : at] == [kind])
-        if kind in OF_PLATFORMS:
-            places.append(f"                {named}) words='{PLATFORMS}' ;;")
-        elif kind in FILES:
-            places.append(f"                {named}) compopt -o default 2>/dev/null; return ;;")
-    before = [
-        "    # bash takes = as a word of its own",
-        "    [ \"$word\" != = ] || word=",
-        "    [ \"${COMP_WORDS[at]}\" != = ] || at=$((at - 1))",
-        "    case ${COMP_WORDS[at]} in",
-        *values,
-        "    esac",
-    ]
-    return "\n".join([
-        f"# bash completion of {of.name}(1)",
-        f"_{of.name}() {{",
-        "    local word=${COMP_WORDS[COMP_CWORD]} command='' words='' count=0 i at=$((COMP_CWORD - 1))",
-        "    COMPREPLY=()",
-        *(before if valued else []),
-        "    for ((i = 1; i < COMP_CWORD; i++)); do",
-        "        case ${COMP_WORDS[i]} in",
-        *([f"            {takes})", "                [ \"${COMP_WORDS[i + 1]}\" != = ] || ((i++))", "                ((i++))", "                ;;", "            =) ((i++)) ;;"] if valued else []),
-        "            -*) ;;",
-        "            *)",
-        "                command=${command:-${COMP_WORDS[i]}}",
-        "                ((count++))",
-        "                ;;",
-        "        esac",
-        "    done",
-        "    case $word in",
-        "        -*)",
-        "            case $command in",
-        *known,
-        f"                '') words='{spellings(of.options_of(''))}' ;;",
-        "            esac",
-        "            ;;",
-        "        *)",
-        "            case $command:$count in",
-        f"                :0) words='{' '.join(it.name for it in of.commands)}' ;;",
-        *places,
-        "            esac",
-        "            ;;",
-        "    esac",
-        "    mapfile -t COMPREPLY < <(compgen -W \"$words\" -- \"$word\")",
-        "}",
-        f"complete -F _{of.name} {of.name}",
-        "",
-    ])
-
-
-def zsh_text(text: str) -> str:
-    """Returns a text as a description in a specification of _arguments, within single quotes."""
-    return re.sub(r"([\\\[\]:])", r"\\\1", text).replace("'", "'\\''")
-
-
-def zsh_option(option: Option) -> str:
-    """Returns the specification of an option for _arguments."""
-    text = f"[{zsh_text(option.short)}]"
-    value = f":{option.value}:{'_files' if option.value in FILES else ''}" if option.value else ""
-    again = "*" if option.value else ""
-    first = "(- *)" if option.is_alone else ""
-    return " ".join(f"'{first}{again}{it}{text}{value}'" for it in option.spellings)
-
-
-def zsh_operand(at: int, kind: str) -> str:
-    """Returns the specification of an operand of a command for _arguments."""
-    by = f"({PLATFORMS})" if kind in OF_PLATFORMS else "_files" if kind in FILES else ""
-    return f"'{at}:{kind}:{by}'"
-
-
-def in_zsh(of: Program) -> str:
-    """Returns the completions of a program for zsh."""
-    commands = " ".join(f"{it.name}\\:\"{zsh_text(it.short)}\"" for it in of.commands)
-    known = []
-    for command in of.commands:
-        specs = [zsh_option(it) for it in of.options_of(command.name)]
-        specs += [zsh_operand(at, kind) for at, kind in enumerate(command.kinds, 1)]
-        known.append(f"    {command.name}) _arguments {' '.join(specs)} ;;")
-    alone = [zsh_option(it) for it in of.options_of("")]
-    return "\n".join([
-        f"#compdef {of.name}",
-        f"# zsh completion of {of.name}(1)",
-        "local curcontext=$curcontext state line",
-        "typeset -A opt_args",
-        f"_arguments -C {' '.join([*alone, chr(39) + '1:command:((' + commands + '))' + chr(39), chr(39) + '*::operand:->operands' + chr(39)])} && return",
-        "case $words[1] in",
-        *known,
-        "esac",
-        "",
-    ])
-
-
-def quoted(text: str) -> str:
-    """Returns a text as a word of fish."""
-    return "'" + text.replace("\\", "\\\\").replace("'", "\\'") + "'"
-
-
-def fish_option(of: Program, option: Option) -> str:
-    """Returns the completion of an option for fish."""
-    words = [f"complete -c {of.name}"]
-    if option.commands:
-        words.append(f"-n '__fish_seen_subcommand_from {' '.join(option.commands)}'")
-    elif option.is_alone:
-        words.append("-n __fish_use_subcommand")
-    words += [f"-l {it[2:]}" if it.startswith("--") else f"-s {it[1:]}" for it in option.spellings]
-    if option.value:
-        words.append("-rF" if option.value in FILES else "-x")
-    return " ".join([*words, f"-d {quoted(option.short)}"])
-
-
-def in_fish(of: Program) -> str:
-    """Returns the completions of a program for fish."""
-    lines = [f"# fish completion of {of.name}(1)", f"complete -c {of.name} -f"]
-    lines += [f"complete -c {of.name} -n __fish_use_subcommand -a {it.name} -d {quoted(it.short)}" for it in of.commands]
-    counts = {it.name: sum(kind in OF_PLATFORMS for kind in it.kinds) for it in of.commands}
-    one, more = ([name for name, count in counts.items() if (count > 1) == is_more] for is_more in (False, True))
-    files = [it.name for it in of.commands if any(kind in FILES for kind in it.kinds)]
-    seen = "__fish_seen_subcommand_from"
-    lines.append(f"complete -c {of.name} -n '{seen} {' '.join(one)}; and not {seen} {PLATFORMS}' -a '{PLATFORMS}'")
-    if more:
-        lines.append(f"complete -c {of.name} -n '{seen} {' '.join(more)}' -a '{PLATFORMS}'")
-    if files:
-        lines.append(f"complete -c {of.name} -n '{seen} {' '.join(files)}; and {seen} {PLATFORMS}' -F")
-    return "\n".join([*lines, *(fish_option(of, it) for it in of.options), ""])
+# Where a completion is below share/, by its shell.
+COMPLETIONS = {"bash": "bash-completion/completions/{}", "zsh": "zsh/site-functions/_{}", "fish": "fish/vendor_completions.d/{}.fish"}
 
 
 def files_of(name: str) -> dict[str, str]:
     """Returns the man page and the completions of a program, by where they are below share/."""
-    of = program(name)
-    return {
-        f"man/man1/{name}.1": man_page(of),
-        f"bash-completion/completions/{name}": in_bash(of),
-        f"zsh/site-functions/_{name}": in_zsh(of),
-        f"fish/vendor_completions.d/{name}.fish": in_fish(of),
-    }
+    texts = {shell: (TABLES / "completions" / f"{name}.{shell}").read_text(encoding="utf-8") for shell in COMPLETIONS}
+    return {f"man/man1/{name}.1": man_page(program(name)), **{COMPLETIONS[shell].format(name): text for shell, text in texts.items()}}

@@ -8,8 +8,8 @@ use names_commands::fault::Fault;
 use names_commands::program::Names;
 use program_frame::ended::Ended;
 use program_frame::files::Disk;
-use program_frame::lists::program::execute;
 use program_frame::marked::Marked;
+use program_frame::program::execute;
 use std::env;
 
 fn main(rt: HostRuntime) -> Ended<Fault> {

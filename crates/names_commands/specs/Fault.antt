@@ -1,7 +1,7 @@
 -- The text of each reason why an item or the words are rejected.
-use Rattle.std.specs.Prelude.{ℕ, List, ◌++◌, codes, decimal}
+use Rattle.std.specs.Prelude.{◌≡◌, ℕ, List, ◌++◌, codes, decimal}
 use Rattle.glob_patterns.specs.ErrorText as glob
-use Rattle.std.specs.Fmt.Cut.{IsTextOrCut}
+use Rattle.std.specs.Fmt.Cut.{cut_to}
 use Rattle.std.specs.Fmt.InlineText.{inline_text}
 use Rattle.list_programs.specs.Misuse.{misuse_text}
 use Rattle.list_programs.specs.declared.misuse.Misuse as misuse
@@ -47,7 +47,7 @@ words_status (Unread number) = 4
 -- the fault has the text of the misuse, which is cut if it is longer than 400 bytes
 abbrev pub IsOfMisuse : misuse.Misuse → CommandFault → Type 0
 IsOfMisuse why Unreadable = ⊥
-IsOfMisuse why (Misuse text) = IsTextOrCut 400 (misuse_text why) (inline_text text)
+IsOfMisuse why (Misuse text) = inline_text text ≡ cut_to 400 (misuse_text why)
 IsOfMisuse why (Pattern number fault lines) = ⊥
 IsOfMisuse why (NoFile number) = ⊥
 IsOfMisuse why (Unread number) = ⊥

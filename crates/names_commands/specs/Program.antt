@@ -67,17 +67,22 @@ EndsAtOnce fault input left old new answer = (answer ≡ Err fault) × ((left �
 abbrev pub UnlessOutOfMemory : Doing → Doing
 UnlessOutOfMemory Done input left old new answer = EndsAtOnce (OfList (Run Memory)) input left old new answer ⊎ Done input left old new answer
 
--- a text of the program's own is written, and nothing is read
-abbrev pub WritesSomeText : Doing
-WritesSomeText input left old new answer = (left ≡ input) × ((text : List ℕ) × WritesText text (OfList (Run Write)) old new answer)
+-- a text of the program's own that begins so is written, and nothing is read
+abbrev pub WritesTextFrom : List ℕ → Doing
+WritesTextFrom start input left old new answer =
+    (left ≡ input) × ((text : List ℕ) × ((take (length start) text ≡ start) × WritesText text (OfList (Run Write)) old new answer))
 
 -- no file has the name that this value of `--ignore` states
 abbrev pub LacksFile : KnownFiles → List ℕ → Type 0
 LacksFile known value = (directory : List ℕ) × (name : List ℕ) × (IsFileIn value directory name × known.lacks name)
 
+-- the file of the name that this value of `--ignore` states can't be read
+abbrev pub FailsToRead : KnownFiles → List ℕ → Type 0
+FailsToRead known value = (directory : List ℕ) × (name : List ℕ) × (IsFileIn value directory name × known.fails name)
+
 -- why the ignore file with this number, which this value states, can't be read
 abbrev pub IsFaultOfOne : KnownFiles → ℕ → List ℕ → Fault → Type 0
-IsFaultOfOne known number value fault = (fault ≡ OfList (Run Memory)) ⊎ (((fault ≡ Words (NoFile number)) × LacksFile known value) ⊎ (fault ≡ Words (Unread number)))
+IsFaultOfOne known number value fault = (fault ≡ OfList (Run Memory)) ⊎ (((fault ≡ Words (NoFile number)) × LacksFile known value) ⊎ ((fault ≡ Words (Unread number)) × FailsToRead known value))
 
 -- the fault of the pattern with this number, where the first `added` bytes of its text come before what was typed: the fault of what was typed, and the lines that show where it is
 abbrev pub IsOfPattern : ℕ → ℕ → List ℕ → PatternFault → Fault → Type 0
@@ -106,13 +111,13 @@ RunsTar p list input left old new answer =
 
 -- where this is known of files, and memory is taken of an allocator of this type:
 module _ (known : KnownFiles) (A : Type 0) where
-  -- why an ignore file can't be read: no file has the name, or it isn't read
+  -- why an ignore file can't be read: no file has the name, or a read of it fails
   abbrev pub IsFileFault : Bool → List (List ℕ) → CommandFault → Type 0
   IsFileFault folds values Unreadable = ⊥
   IsFileFault folds values (Misuse text) = ⊥
   IsFileFault folds values (Pattern number why lines) = ⊥
   IsFileFault folds values (NoFile number) = (value : List ℕ) × IsFirstUnread A known folds values number value × LacksFile known value
-  IsFileFault folds values (Unread number) = (value : List ℕ) × IsFirstUnread A known folds values number value
+  IsFileFault folds values (Unread number) = (value : List ℕ) × IsFirstUnread A known folds values number value × FailsToRead known value
 
   -- why ignore files can't be read: that, or that memory was refused
   abbrev pub IsFaultOf : Bool → List (List ℕ) → Fault → Type 0
@@ -147,8 +152,8 @@ module _ (known : KnownFiles) (A : Type 0) where
 
   -- what a command does
   abbrev pub DoesCommand : Requested → Command → Doing
-  DoesCommand requested Help input left old new answer = WritesSomeText input left old new answer
-  DoesCommand requested Version input left old new answer = WritesSomeText input left old new answer
+  DoesCommand requested Help input left old new answer = WritesTextFrom (codes "names: ") input left old new answer
+  DoesCommand requested Version input left old new answer = WritesTextFrom (codes "names ") input left old new answer
   DoesCommand requested (On os work) input left old new answer = DoesWork (strings os) requested os work input left old new answer
 
   -- what a request does

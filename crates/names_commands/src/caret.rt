@@ -5,7 +5,7 @@ ghost use Rattle.os_quote.specs.Escape.{IsLineEscape};
 ghost use Rattle.os_str_bytes.specs.UnixPlatform.TheImpl.{ghosts as unix};
 ghost use Rattle.names_commands.specs.Caret.{IsPointed, as_wide, caret_text, fitting, spaces_below};
 
-use crate::fault::ROOM;
+use list_programs::misuse::ROOM;
 use os_quote::escape_line;
 use os_str_bytes::{OsStr, Unix};
 use std::alloc::{AllocError, Allocator};

@@ -1,10 +1,14 @@
 //! What keeps the program from its output.
-ghost use Rattle.std.specs.Prelude.{◌++◌, codes};
+ghost use Rattle.std.specs.Prelude.{◌++◌, codes, IfOk};
 ghost use Rattle.std.specs.Fmt.{WritesStyledOnOk};
 ghost use Rattle.std.specs.Fmt.InlineText.{inline_text};
 ghost use Rattle.names_commands.specs.Fault.{IsOfMisuse};
 
 use glob_patterns::{GlobSetError, PatternFault};
+use list_programs::fault::ItemRejection;
+use list_programs::misuse::{Misuse, ROOM, cut_text};
+use list_programs::program_fault;
+use list_programs::program_fault::WordsRejection;
 use os_command_line::shell::WordsFault;
 use os_quote::QuoteError;
 use os_str_bytes::{EncodingError, write_number};
@@ -40,9 +44,6 @@ pub enum Rejection {
     BadArchive(TarFault),
 }
 
-/// How many bytes the text of a misuse may have; a longer one is cut, and ends in three dots.
-pub const ROOM: usize = 400;
-
 /// Why the arguments are rejected.
 #[derive(Clone, Copy)]
 pub enum CommandFault {
@@ -62,18 +63,22 @@ pub enum CommandFault {
 impl CommandFault {
     /// The fault for a misuse of the arguments.
     ///
+    /// # Errors
+    ///
+    /// `AllocError` if an allocation failed.
+    ///
     /// ```
     /// use names_commands::fault::{CommandFault, Fault};
     /// use list_programs::misuse::Misuse;
     ///
-    /// let fault: Fault = Fault::Words(CommandFault::of(Misuse::Invalid("platform", "linux")));
+    /// let fault: Fault = Fault::Words(CommandFault::of(alloc, Misuse::Invalid("platform", "linux"))?);
     /// let text = "invalid platform 'linux'; names --help lists the commands";
     /// assert_eq!(rt; fault.to_string(alloc)?.as_str(), text);
     /// ```
-    pub fn of(misuse: Misuse<'_>) -> CommandFault
-        ensures { IsOfMisuse misuse.entry result }
+    pub fn of<A: Allocator>(alloc: A, misuse: Misuse<'_>) -> Result<CommandFault, AllocError>
+        ensures { IfOk result (IsOfMisuse misuse.entry) }
     {
-        CommandFault::Misuse(InlineText::of(misuse))
+        Ok(CommandFault::Misuse(cut_text(alloc, misuse)?))
     }
 }
 
@@ -111,17 +116,10 @@ impl ItemRejection for Rejection {
 
 impl WordsRejection for CommandFault {
     ghost use Rattle.names_commands.specs.Fault.{words_status, words_text};
-    ghost use Rattle.names_commands.specs.declared.fault.CommandFault.{CommandFault};
-
-    ghost usage = { CommandFault.Unreadable };
 
     ghost text_of = { words_text };
 
     ghost status_of = { words_status };
-
-    fn usage() -> CommandFault {
-        CommandFault::Unreadable
-    }
 
     fn status(&self) -> u8 {
         match self {

@@ -11,6 +11,8 @@ ghost use Rattle.names_commands.specs.declared.option.NamesOption.TheVariants.{G
 
 use crate::command::{Line, Name};
 use crate::option::NamesOption;
+use list_programs::arguments::{Given, has, next_operand};
+use list_programs::misuse::Misuse;
 use os_args::{ArgumentError, Word};
 use os_str_bytes::{OsStr, Wasm};
 use list_programs::arguments::{Given, has, next_operand};

@@ -1,5 +1,6 @@
 //! Names that ignore files leave out.
 ghost use Rattle.std.specs.Prelude.{◌≡◌, ◌↔◌, ◌⊎◌, ◌+◌, ◌<◌, ◌∷◌, [], ℕ, List, map, length, drop, IsTrue, IfErr, IfOk, IfSome, MatchOption, MatchResult, OnOk};
+ghost use Rattle.std.specs.Str.{IsUtf8};
 ghost use Rattle.os_ignore.specs.Ignores.{IsAddedTo, files_of};
 ghost use Rattle.os_ignore.specs.Walks.{files_of_walk};
 ghost use Rattle.names_commands.specs.Ignoring.{AreRead, IsDirectory, IsFileIn, IsIgnored, IsPath, text_of, without_dot};
@@ -11,6 +12,8 @@ ghost use Rattle.names_commands.specs.Program.{IsFaultOf, IsFaultOfOne};
 ghost use Rattle.names_commands.specs.declared.fault.CommandFault.TheVariants.{NoFile, Unread};
 
 use crate::fault::{CommandFault, Fault};
+use list_programs::fault::ListFault;
+use list_programs::items::split_at_end;
 use os_ignore::{Ignore, IgnoreOptions, Verdict, Walk};
 use program_frame::fault::Failure;
 use program_frame::files::{FileFault, Files};
@@ -182,22 +185,20 @@ fn add_file<F: Files, A: Allocator + Copy>(
     }
 }
 
-/// Reads the ignore file of this name, which is a text, since it is the end of a value behind a `=`.
+/// Reads the ignore file of this name, which is UTF-8.
 fn read_file<F: Files, A: Allocator + Copy>(
     alloc: A,
     files: &F,
     number: usize,
     name: &[u8],
 ) -> Result<Vec<u8, A>, Fault>
+    requires { IsUtf8 name.now }
     ensures bytes { IfOk result (λ bytes. (F.known files.now).has name.now bytes.items) }
     ensures fault { IfErr result (λ fault. (fault ≡ OfList (Run Memory))
         ⊎ (((fault ≡ Words (NoFile number)) × (F.known files.now).lacks name.now)
-        ⊎ (fault ≡ Words (Unread number)))) }
+        ⊎ ((fault ≡ Words (Unread number)) × (F.known files.now).fails name.now))) }
 {
-    let Ok(name) = str::from_utf8(name) else {
-        return Err(Fault::Words(CommandFault::Unread(number)));
-    };
-    match files.read(alloc, name) {
+    match files.read(alloc, unsafe { str::from_utf8_unchecked(name) }) {
         Ok(bytes) => Ok(bytes),
         Err(FileFault::NoFile) => Err(Fault::Words(CommandFault::NoFile(number))),
         Err(FileFault::Read) => Err(Fault::Words(CommandFault::Unread(number))),

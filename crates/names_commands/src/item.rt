@@ -15,6 +15,10 @@ ghost use Rattle.names_commands.specs.Task.{longest_item, rules_of, IsEmpty, IsE
 use crate::fault::Rejection;
 use crate::task::{EmptyLine, Settings, Task};
 use crate::words::{write_names, write_word};
+use list_programs::fault::ItemFault;
+use list_programs::items::{push_ended, split_at_end};
+use list_programs::lines::{is_plain, push_line};
+use list_programs::options::{ItemEnd, ListOptions};
 use os_quote::{QuoteError, unescape_line};
 use os_str_bytes::{OsStr, Platform, Wasm};
 use list_programs::fault::ItemFault;

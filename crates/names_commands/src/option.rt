@@ -4,6 +4,7 @@ ghost use Rattle.os_args.specs.Word.{Long, Short};
 ghost use Rattle.names_commands.specs.Options.{spelled, word_of};
 ghost use Rattle.names_commands.specs.declared.option.NamesOption.{NamesOption};
 
+use list_programs::arguments::ProgramOption;
 use os_args::Word;
 use os_str_bytes::{OsStr, Wasm};
 use list_programs::arguments::ProgramOption;

@@ -17,6 +17,8 @@ use crate::ignoring::read_ignore;
 use crate::matching::{Form, Matching};
 use crate::pick::{added_before, strings_of, typed, typed_fault};
 use glob_patterns::{GlobOptions, GlobSet, GlobSetError, PatternFault};
+use list_programs::answers::run_list;
+use list_programs::fault::ListFault;
 use os_ignore::IgnoreOptions;
 use os_str_bytes::Platform;
 use program_frame::fault::Failure;

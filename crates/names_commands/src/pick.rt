@@ -9,6 +9,7 @@ use crate::command::Line;
 use crate::given::platform_of;
 use crate::option::NamesOption;
 use glob_patterns::PatternFault;
+use list_programs::arguments::{next_operand, values};
 use os_str_bytes::{OsStr, Platform};
 use list_programs::arguments::{next_operand, values};
 use std::alloc::{AllocError, Allocator};

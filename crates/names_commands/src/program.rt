@@ -13,6 +13,10 @@ use crate::patterns::run_picked;
 use crate::reasons::run_why;
 use crate::tar::run_tar;
 use crate::task::{OnPlatform, Settings};
+use list_programs::answers::{run_list, write_help};
+use list_programs::arguments::{ReadFault, read_arguments};
+use list_programs::fault::ListFault;
+use list_programs::misuse::Misuse;
 use os_str_bytes::{Platform, Unix, Wasm, Windows};
 use list_programs::arguments::{ReadFault, read_arguments};
 use program_frame::fault::Failure;
@@ -23,6 +27,7 @@ use list_programs::program::ListProgram;
 use program_frame::marked::Marked;
 use list_programs::misuse::Misuse;
 use program_frame::os::Os;
+use program_frame::program::Program;
 use std::alloc::Allocator;
 use std::io::{Read, Write};
 
@@ -57,20 +62,36 @@ impl<F: Files> Names<F> {
     }
 }
 
-impl<F: Files> ListProgram for Names<F> {
-    type Rejection = Rejection;
-
-    type Words = CommandFault;
+impl<F: Files> Program for Names<F> {
+    type Fault = Fault;
 
     ghost use Rattle.std.specs.Prelude.{codes};
+    ghost use Rattle.list_programs.specs.ProgramFault.{DoneBetween};
+    ghost use Rattle.list_programs.specs.declared.program_fault.Fault.TheVariants.{List as OfList, Words};
+    ghost use Rattle.list_programs.specs.declared.fault.ListFault.TheVariants.{Run};
+    ghost use Rattle.program_frame.specs.declared.fault.Failure.TheVariants.{Memory};
     ghost use Rattle.names_commands.specs.Program.{RunsTo};
+    ghost use Rattle.names_commands.specs.declared.fault.CommandFault.TheVariants.{Unreadable};
 
     ghost name = { codes "names" };
 
-    ghost runs_to = { λ names A. RunsTo (F.known names.files) A };
+    ghost unreadable = { Words Unreadable };
+
+    ghost out_of_memory = { OfList (Run Memory) };
+
+    ghost runs_to = { λ names A words R W remaining contents.
+        DoneBetween remaining contents (RunsTo (F.known names.files) A words) };
 
     fn name() -> &'static str {
         "names"
+    }
+
+    fn unreadable() -> Fault {
+        Fault::Words(CommandFault::Unreadable)
+    }
+
+    fn out_of_memory() -> Fault {
+        Fault::List(ListFault::Run(Failure::Memory))
     }
 
     fn run_words<A: Allocator + Copy, R: Read, W: Write>(
@@ -83,7 +104,8 @@ impl<F: Files> ListProgram for Names<F> {
         match read_arguments::<NamesOption, A>(alloc, words) {
             Ok(given) => run_line(alloc, &self.files, &given, reader, writer),
             Err(ReadFault::Misuse(error)) => {
-                Err(Fault::Words(CommandFault::of(Misuse::Argument(error))))
+                let misuse = Misuse::Argument(error);
+                Err(Fault::Words(CommandFault::of(alloc, misuse)?))
             }
             Err(ReadFault::Memory) => Err(Fault::List(ListFault::Run(Failure::Memory))),
         }
@@ -107,7 +129,7 @@ fn run_line<F: Files, A: Allocator + Copy, R: Read, W: Write>(
 {
     match Request::parse(alloc, given) {
         Ok(request) => run_request(alloc, files, &request, reader, writer),
-        Err(RequestError::Misuse(misuse)) => Err(Fault::Words(CommandFault::of(misuse))),
+        Err(RequestError::Misuse(misuse)) => Err(Fault::Words(CommandFault::of(alloc, misuse)?)),
         Err(RequestError::Memory) => Err(Fault::List(ListFault::Run(Failure::Memory))),
     }
 }

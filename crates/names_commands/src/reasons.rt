@@ -9,6 +9,7 @@ use crate::command::Request;
 use crate::fault::Fault;
 use crate::ignoring::read_ignore;
 use crate::why::Reasons;
+use list_programs::answers::run_list;
 use os_ignore::IgnoreOptions;
 use os_ignore::laws::known_line;
 use os_str_bytes::Platform;

@@ -4,6 +4,9 @@ ghost use Rattle.names_commands.specs.Task.{end_of, longest_item, rules_of, with
 
 use crate::fault::Rejection;
 use crate::item::write_item;
+use list_programs::fault::ItemFault;
+use list_programs::options::{ItemEnd, ListOptions};
+use list_programs::task::ListTask;
 use os_str_bytes::Platform;
 use list_programs::fault::ItemFault;
 use list_programs::options::{ItemEnd, ListOptions};

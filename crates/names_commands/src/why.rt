@@ -11,6 +11,11 @@ ghost use Rattle.names_commands.specs.Why.{IsDecidedText, IsNameAt, IsReason, Is
 use crate::fault::Rejection;
 use crate::ignoring::{decider, file_in, value_of};
 use crate::item::named;
+use list_programs::fault::ItemFault;
+use list_programs::items::push_ended;
+use list_programs::lines::{push_escape, push_line};
+use list_programs::options::{ItemEnd, ListOptions};
+use list_programs::task::ListTask;
 use os_ignore::Ignore;
 use os_str_bytes::{OsStr, Platform, Unix};
 use list_programs::fault::ItemFault;

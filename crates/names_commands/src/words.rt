@@ -12,6 +12,9 @@ ghost use Rattle.names_commands.specs.Words.{IsWord, IsWordLine, IsName, AreName
 use crate::fault::Rejection;
 use crate::item::{ends_in_return, push_name, unfit};
 use crate::task::WordForm;
+use list_programs::fault::ItemFault;
+use list_programs::items::push_ended;
+use list_programs::options::ListOptions;
 use os_command_line::shell::{ShellError, Specials, Word, Words, quote, quote_line};
 use os_str_bytes::{OsStr, OsString, Unix};
 use list_programs::fault::ItemFault;

@@ -6,6 +6,7 @@ pub mod Classes
 pub mod Cuts
 pub mod Escaped
 pub mod LineReadings
+pub mod Links
 pub mod Known
 pub mod Lasts
 pub mod Nameless

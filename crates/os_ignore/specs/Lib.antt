@@ -8,6 +8,7 @@ pub mod Files
 pub mod Ignores
 pub mod Letters
 pub mod Lines
+pub mod Links
 pub mod Matching
 pub mod PatternText
 pub mod Tags

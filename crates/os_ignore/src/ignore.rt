@@ -1,9 +1,9 @@
 //! Ignore files of one tree.
 ghost use Rattle.std.specs.Prelude.{◌≡◌, [], IfOk, OnOk, OnErr, MatchOption};
-ghost use Rattle.os_ignore.specs.Ignores.{HasText, HasNoText};
+ghost use Rattle.os_ignore.specs.Links.{AreLinks};
 ghost use Rattle.os_ignore.specs.Verdicts.{IsVerdict};
 
-use crate::directory::files_before;
+use crate::directory::{files_around, files_before, moved_links, text_in};
 use crate::file::{File, new_file};
 use crate::verdict::{Verdict, decide};
 use std::alloc::{AllocError, Allocator, Global};
@@ -16,13 +16,34 @@ pub struct IgnoreOptions {
 }
 
 /// The lines of the ignore files of one tree, compiled.
+///
+/// Lines that win over all of them, as a user's overrides do, are an `Ignore` of their own, which is asked
+/// first. A file at the top of the tree that is added last comes before the files in directories.
+///
+/// ```
+/// use os_ignore::{Ignore, Verdict};
+///
+/// let mut files = Ignore::new(alloc, b"*.o\n")?;
+/// files.add(alloc, b"doc", b"!*.pdf\n")?;
+/// let overrides = Ignore::new(alloc, b"*.pdf\n!keep.o\n")?;
+/// let path = b"doc/keep.o".as_slice();
+/// let verdict = match overrides.matched(path, false) {
+///     Verdict::Neither => files.matched(path, false),
+///     decided => decided,
+/// };
+/// assert_eq!(rt; verdict, Verdict::TakenIn { file: 0, line: 2 });
+/// ```
 #[derive(Drop)]
 pub struct Ignore<A: Allocator = Global> {
     files: Vec<File<A>, A>,
+    /// For each file, how many files there are up to the last of those before it that is in its
+    /// directory or above that.
+    links: Vec<usize, A>,
+    ghost linked: { ∥ AreLinks [] files.items links.items ∥₁ },
 }
 
 impl<A: Allocator + Copy> Ignore<A> {
-    ghost use Rattle.os_ignore.specs.Ignores.{files_of, IsAdded, IsAddedTo, IsOnly};
+    ghost use Rattle.os_ignore.specs.Ignores.{files_of, HasNoText, HasText, IsAdded, IsAddedTo, IsOnly};
 
     /// No files: their verdict on each path is [`Verdict::Neither`]. It doesn't allocate.
     ///
@@ -36,6 +57,7 @@ impl<A: Allocator + Copy> Ignore<A> {
     {
         Ignore {
             files: Vec::new(alloc),
+            links: Vec::new(alloc),
         }
     }
 
@@ -128,8 +150,17 @@ impl<A: Allocator + Copy> Ignore<A> {
     {
         let folds = options.case_insensitive;
         let added = new_file(alloc, folds, self.files.len(), directory, file)?;
-        let index = files_before(&self.files, directory).len();
+        let before = files_before(&self.files, directory);
+        let index = before.len();
+        let link = files_around(before, directory);
+        let (_, after) = self.files.split_at(index);
+        let (_, links) = self.links.split_at(index);
+        let moved = moved_links(alloc, before, after, links, directory)?;
+        self.links.reserve(1)?;
         self.files.insert(index, added)?;
+        self.links.truncate(index);
+        self.links.push(link)?;
+        self.links.extend_from_slice(&moved)?;
         Ok(())
     }
 
@@ -138,6 +169,13 @@ impl<A: Allocator + Copy> Ignore<A> {
         ensures { result.now ≡ files_of self.entry.now }
     {
         self.files.as_slice()
+    }
+
+    /// The link of each file.
+    pub(crate) fn links(&self) -> &[usize]
+        ensures { ∥ AreLinks [] (files_of self.entry.now) result.now ∥₁ }
+    {
+        self.links.as_slice()
     }
 
     /// Returns whether the files ignore a path, and which line decides it, as
@@ -161,7 +199,7 @@ impl<A: Allocator + Copy> Ignore<A> {
     pub fn matched(&self, path: &[u8], is_dir: bool) -> Verdict
         ensures { IsVerdict (files_of self.now) path.now is_dir result }
     {
-        decide(&self.files, path, is_dir)
+        decide(&self.files, &self.links, path, is_dir)
     }
 
     /// Returns the text of a line by the numbers that a [`Verdict`] has, of its file and of the line.
@@ -184,19 +222,4 @@ impl<A: Allocator + Copy> Ignore<A> {
     {
         text_in(&self.files, file, line)
     }
-}
-
-/// The text of a line of one of the files.
-fn text_in<A: Allocator>(files: &[File<A>], number: usize, line: usize) -> Option<&[u8]>
-    ensures { MatchOption result (HasNoText files.entry.now number line)
-        (λ text. HasText files.entry.now number line text.now) }
-{
-    let mut left = files;
-    while let Some((file, before)) = left.split_last() {
-        if let Some(text) = file.text_of(number, line) {
-            return Some(text);
-        }
-        left = before;
-    }
-    None
 }

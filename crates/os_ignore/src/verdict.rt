@@ -1,14 +1,16 @@
 //! Which line decides a path.
-ghost use Rattle.std.specs.Prelude.{◌≡◌, ◌↔◌, ◌<◌, ◌++◌, List, ℕ, length, true, IsTrue, MatchOption};
+ghost use Rattle.std.specs.Prelude.{◌≡◌, ◌↔◌, ◌<◌, ◌++◌, List, ℕ, [], length, true, IsTrue, MatchOption};
 ghost use Rattle.std.specs.List.{HoldsAt};
 ghost use Rattle.memchr.specs.Find.{is_byte3};
 ghost use Rattle.wildcards.specs.Match.{Matches};
 ghost use Rattle.os_ignore.specs.Components.{IsLastComponent};
+ghost use Rattle.os_ignore.specs.Links.{AreLinks, IsAbove, IsUpTo};
 ghost use Rattle.os_ignore.specs.Matching.{by_slashes, IsAfter, LineMatches, MatchesText};
 ghost use Rattle.os_ignore.specs.Tags.{AreTags, NoneTagged, IsLastTagged};
 ghost use Rattle.os_ignore.specs.Verdicts.{IsBelow, IsLastMatch, NoneMatches, FileDecides, FileIsSilent, IsOwn, IsVerdict, is_ignored};
 
 use crate::component::last_component;
+use crate::directory::last_in;
 use crate::file::File;
 use crate::line::Line;
 use crate::tag::{dot_tag, first_tag, tag_of};
@@ -117,7 +119,7 @@ fn matches_text<A: Allocator>(
 }
 
 /// The path from a directory; `None` where it isn't in that.
-fn below<'a>(directory: &[u8], path: &'a [u8]) -> Option<&'a [u8]>
+pub(crate) fn below<'a>(directory: &[u8], path: &'a [u8]) -> Option<&'a [u8]>
     ensures { MatchOption result ((rest : List ℕ) → IsBelow directory.now path.now rest → ⊥)
         (λ rest. IsBelow directory.now path.now rest.now) }
 {
@@ -131,6 +133,19 @@ fn below<'a>(directory: &[u8], path: &'a [u8]) -> Option<&'a [u8]>
         return None;
     };
     if *first == b'/' { Some(rest) } else { None }
+}
+
+/// The path from a directory that it is below.
+fn rest_below<'a>(directory: &[u8], path: &'a [u8]) -> &'a [u8]
+    requires { IsAbove directory.now path.now }
+    ensures { IsBelow directory.now path.now result.now }
+{
+    if directory.is_empty() {
+        path
+    } else {
+        let (_, rest) = path.split_at(directory.len() + 1);
+        rest
+    }
 }
 
 impl<A: Allocator> Line<A> {
@@ -233,14 +248,13 @@ fn last_match<'a, A: Allocator>(
 }
 
 impl<A: Allocator> File<A> {
-    /// The last line that matches a path.
+    /// The last line that matches a path below the directory of the file.
     fn deciding_line(&self, path: &[u8], is_dir: bool) -> Option<&Line<A>>
+        requires { IsAbove self.now.directory.items path.now }
         ensures { MatchOption result (FileIsSilent path.now is_dir self.now)
             (λ line. FileDecides path.now is_dir self.now line.now) }
     {
-        let Some(rest) = below(&self.directory, path) else {
-            return None;
-        };
+        let rest = rest_below(&self.directory, path);
         last_match(&self.lines, &self.tags, rest, is_dir)
     }
 }
@@ -266,11 +280,20 @@ impl Verdict {
     }
 }
 
-/// Whether the lines of files ignore a path, without the directories above it.
-pub fn own<A: Allocator>(files: &[File<A>], path: &[u8], is_dir: bool) -> Verdict
-    ensures { IsOwn files.entry.now path.now is_dir result }
+/// Whether the lines of files ignore a path, without the directories above it. So many of the files come
+/// up to the last that is above it.
+pub fn own<A: Allocator>(
+    files: &[File<A>],
+    links: &[usize],
+    above: usize,
+    path: &[u8],
+    is_dir: bool,
+) -> Verdict
+    requires links { ∥ AreLinks [] files.now links.now ∥₁ }
+    requires above { IsUpTo path.now files.now above }
+    ensures { IsOwn files.now path.now is_dir result }
 {
-    let mut left = files;
+    let (mut left, _) = files.split_at(above);
     while let Some((file, before)) = left.split_last() {
         if let Some(line) = file.deciding_line(path, is_dir) {
             let (file, line, takes_in) = (file.number, line.number, line.takes_in);
@@ -280,26 +303,35 @@ pub fn own<A: Allocator>(files: &[File<A>], path: &[u8], is_dir: bool) -> Verdic
                 Verdict::Ignored { file, line }
             };
         }
-        left = before;
+        let (further, _) = before.split_at(links[before.len()]);
+        left = further;
     }
     Verdict::Neither
 }
 
 /// Whether files ignore a path. The first directory above it, from the top, that is ignored hides
 /// it. If there is none, the last line that matches decides.
-pub fn decide<A: Allocator>(files: &[File<A>], path: &[u8], is_dir: bool) -> Verdict
+pub fn decide<A: Allocator>(
+    files: &[File<A>],
+    links: &[usize],
+    path: &[u8],
+    is_dir: bool,
+) -> Verdict
+    requires { ∥ AreLinks [] files.now links.now ∥₁ }
     ensures { IsVerdict files.now path.now is_dir result }
 {
     if files.is_empty() {
         return Verdict::Neither;
     }
+    let mut above = last_in(files, 0, b"");
     for (at, byte) in path.iter().enumerate() {
         if *byte == b'/' {
-            let above = own(files, &path[..at], true);
-            if above.is_ignored() {
-                return above;
+            let verdict = own(files, links, above, &path[..at], true);
+            if verdict.is_ignored() {
+                return verdict;
             }
+            above = last_in(files, above, &path[..at]);
         }
     }
-    own(files, path, is_dir)
+    own(files, links, above, path, is_dir)
 }

@@ -1,11 +1,13 @@
 //! Verdicts of paths that come one after the other.
-ghost use Rattle.std.specs.Prelude.{◌≡◌, ◌≤◌, ◌++◌, ◌∷◌, ℕ, List, take, IfOk, OnOk, true};
+ghost use Rattle.std.specs.Prelude.{◌≡◌, ◌≤◌, ◌++◌, ◌∷◌, ℕ, List, [], take, IfOk, OnOk, true};
 ghost use Rattle.std.specs.List.{All};
 ghost use Rattle.os_ignore.specs.Above.{IsDecided, IsIn, IsShared};
 ghost use Rattle.os_ignore.specs.Components.{IsPlain};
 ghost use Rattle.os_ignore.specs.Ignores.{files_of};
+ghost use Rattle.os_ignore.specs.Links.{AreLinks, IsUpTo};
 ghost use Rattle.os_ignore.specs.Verdicts.{IsVerdict};
 
+use crate::directory::last_in;
 use crate::file::File;
 use crate::ignore::Ignore;
 use crate::verdict::{Verdict, own};
@@ -18,6 +20,8 @@ struct Above {
     start: usize,
     /// Its verdict.
     verdict: Verdict,
+    /// How many files there are up to the last in it or above it.
+    files: usize,
 }
 
 /// The verdicts of paths that come one after the other, as `find` or a walk of a tree lists them.
@@ -27,8 +31,10 @@ struct Above {
 #[derive(Drop)]
 pub struct Walk<'i, A: Allocator + 'i = Global> {
     files: &'i [File<A>],
+    links: &'i [usize],
     path: Vec<u8, A>,
     above: Vec<Above, A>,
+    ghost linked: { ∥ AreLinks [] files.now links.now ∥₁ },
     ghost decided: { All (IsDecided files.now path.items) above.items },
 }
 
@@ -56,24 +62,30 @@ fn shared_directories(above: &[Above], shared: usize) -> usize
     above.len()
 }
 
-/// The index of what is in the last of the directories, and its verdict.
-fn last_of<A: Allocator>(above: &[Above]) -> (usize, Option<Verdict>)
-    ensures { (files : List (File A)) (path : List ℕ) → All (IsDecided files path) above.now
-        → IsIn files (take result.0 path) result.1 }
+/// The index of what is in the last of the directories, its verdict, and how many files there are up to
+/// the last above what is in it.
+fn last_of<A: Allocator>(files: &[File<A>], above: &[Above]) -> (usize, Option<Verdict>, usize)
+    ensures { (path : List ℕ) → All (IsDecided files.now path) above.now
+        → IsIn files.now (take result.0 path) result.1
+        × IsUpTo (take result.0 path) files.now result.2 }
 {
     match above.last() {
-        Some(directory) => (directory.start, Some(directory.verdict)),
-        None => (0, None),
+        Some(directory) => (directory.start, Some(directory.verdict), directory.files),
+        None => (0, None, last_in(files, 0, b"")),
     }
 }
 
 /// The verdict of files on a path in a directory, given their verdict on that.
 fn in_directory<A: Allocator>(
     files: &[File<A>],
+    links: &[usize],
     above: Verdict,
+    count: usize,
     path: &[u8],
     is_dir: bool,
 ) -> Verdict
+    requires links { ∥ AreLinks [] files.now links.now ∥₁ }
+    requires above { IsUpTo path.now files.now count }
     ensures { (directory name : List ℕ) → ∥ IsVerdict files.now directory true above ∥₁
         → path.now ≡ directory ++ 0x2F ∷ name → IsPlain 0x2F name
         → ∥ IsVerdict files.now path.now is_dir result ∥₁ }
@@ -81,7 +93,7 @@ fn in_directory<A: Allocator>(
     if above.is_ignored() {
         above
     } else {
-        own(files, path, is_dir)
+        own(files, links, count, path, is_dir)
     }
 }
 
@@ -89,42 +101,51 @@ fn in_directory<A: Allocator>(
 /// if it has no slash.
 fn decide_in<A: Allocator>(
     files: &[File<A>],
+    links: &[usize],
     above: Option<Verdict>,
+    count: usize,
     path: &[u8],
     is_dir: bool,
 ) -> Verdict
-    requires { IsIn files.now path.now above }
+    requires links { ∥ AreLinks [] files.now links.now ∥₁ }
+    requires verdict { IsIn files.now path.now above }
+    requires above { IsUpTo path.now files.now count }
     ensures { ∥ IsVerdict files.now path.now is_dir result ∥₁ }
 {
     match above {
-        Some(above) => in_directory(files, above, path, is_dir),
-        None => own(files, path, is_dir),
+        Some(above) => in_directory(files, links, above, count, path, is_dir),
+        None => own(files, links, count, path, is_dir),
     }
 }
 
 /// Decides the directories above a path that aren't in the list, and adds them. Returns the verdict
-/// of the one that the path is in.
+/// of the one that the path is in, and how many files there are up to the last above the path.
 fn decide_above<A: Allocator>(
     files: &[File<A>],
+    links: &[usize],
     path: &[u8],
     above: &mut Vec<Above, A>,
-) -> Result<Option<Verdict>, AllocError>
-    requires { All (IsDecided files.now path.now) above.old.items }
+) -> Result<(Option<Verdict>, usize), AllocError>
+    requires links { ∥ AreLinks [] files.now links.now ∥₁ }
+    requires decided { All (IsDecided files.now path.now) above.old.items }
     ensures decided { All (IsDecided files.now path.now) above.new.items }
-    ensures last { IfOk result (λ last. IsIn files.now path.now last) }
+    ensures last { IfOk result (λ last. IsIn files.now path.now last.0
+        × IsUpTo path.now files.now last.1) }
 {
-    let (start, mut last) = last_of::<A>(above);
+    let (start, mut last, mut count) = last_of(files, above);
     for end in start..path.len() {
         if path[end] == b'/' {
-            let verdict = decide_in(files, last, &path[..end], true);
+            let verdict = decide_in(files, links, last, count, &path[..end], true);
+            count = last_in(files, count, &path[..end]);
             above.push(Above {
                 start: end + 1,
                 verdict,
+                files: count,
             })?;
             last = Some(verdict);
         }
     }
-    Ok(last)
+    Ok((last, count))
 }
 
 impl<'i, A: Allocator + Copy> Walk<'i, A> {
@@ -146,6 +167,7 @@ impl<'i, A: Allocator + Copy> Walk<'i, A> {
     {
         Walk {
             files: ignore.files(),
+            links: ignore.links(),
             path: Vec::new(alloc),
             above: Vec::new(alloc),
         }
@@ -175,8 +197,8 @@ impl<'i, A: Allocator + Copy> Walk<'i, A> {
         ensures files { files_of_walk self.new ≡ files_of_walk self.old }
     {
         self.turn_to(path)?;
-        let above = decide_above(self.files, path, &mut self.above)?;
-        Ok(decide_in(self.files, above, path, is_dir))
+        let (above, count) = decide_above(self.files, self.links, path, &mut self.above)?;
+        Ok(decide_in(self.files, self.links, above, count, path, is_dir))
     }
 
     /// Keeps a path in place of the path before, and the directories that are above both.

@@ -1,13 +1,14 @@
 //! The common base of paths: it is a string of their platform.
-ghost use Rattle.std.specs.Prelude.{◌≡◌, ◌∷◌, [], ℕ, List, map, IfOk, IfErr};
-ghost use Rattle.platform_str.specs.Strings.{bytes, path_bytes};
-ghost use Rattle.path_rules.specs.Body.{IsEndTrimmed};
-ghost use Rattle.path_rules.specs.declared.rules.Style as whose;
-ghost use Rattle.path_building.specs.CommonBase.{IsApart, IsBaseOf, IsCommonBase, IsCommonBaseFault, IsFirstApart};
+ghost use Rattle.std.specs.Prelude.{map, IfOk, IfErr};
+ghost use Rattle.platform_str.specs.Strings.{path_bytes};
+ghost use Rattle.path_building.specs.CommonBase.{IsBaseOf, IsCommonBase, IsCommonBaseFault, IsFirstApart};
 
+use crate::ext::PathExt;
+use crate::made::part;
 use crate::style::PathStyle;
-use path_building::CommonBaseError;
-use platform_str::{OsStr, Path};
+use path_building::{CommonBaseError, common_base_with};
+use path_rules::{Style, end_trimmed};
+use platform_str::Path;
 
 /// Returns the longest path that all paths begin with (CPython's `os.path.commonpath`).
 ///
@@ -43,8 +44,8 @@ pub fn common_base<'a, E: PathStyle>(paths: &[Path<'a, E>]) -> Result<Path<'a, E
         (λ error. IsCommonBaseFault E.follows (map path_bytes paths.now) error) }
 {
     match paths {
-        [first, others @ ..] => match base_of(first.as_os_str(), others) {
-            Ok(base) => Ok(Path::new(base)),
+        [first, others @ ..] => match base_of(E::style(), first.path_bytes(), others) {
+            Ok(base) => Ok(part(base)),
             Err(error) => Err(error),
         },
         [] => Err(CommonBaseError::NoPath),
@@ -52,62 +53,27 @@ pub fn common_base<'a, E: PathStyle>(paths: &[Path<'a, E>]) -> Result<Path<'a, E
 }
 
 /// The longest path that a first path and all others begin with.
-fn base_of<'a, E: PathStyle>(
-    first: OsStr<'a, E>,
-    others: &[Path<'a, E>],
-) -> Result<OsStr<'a, E>, CommonBaseError>
+#[tactic(auto, using(path_building::proofs::lemmas::CommonBases::all_walked, path_building::proofs::lemmas::CommonBases::apart,))]
+fn base_of<'a, 'b, E: PathStyle + 'b>(
+    style: Style,
+    first: &'a [u8],
+    others: &[Path<'b, E>],
+) -> Result<&'a [u8], CommonBaseError>
     ensures ok { IfOk result
-        (λ base. IsBaseOf E.follows (bytes first.entry) (map path_bytes others.now) (bytes base)) }
+        (λ base. IsBaseOf style first.entry.now (map path_bytes others.now) base.now) }
     ensures err { IfErr result
-        (λ error. IsFirstApart E.follows (bytes first.entry) (map path_bytes others.now) error) }
+        (λ error. IsFirstApart style first.entry.now (map path_bytes others.now) error) }
 {
-    let mut base = end_trimmed(first);
+    let mut base = end_trimmed(style, first);
     let mut index = 1;
     let mut left = others;
     while let [path, more @ ..] = left {
-        base = match base_of_two(base, path.as_os_str()) {
+        base = match common_base_with(style, first, base, path.path_bytes(), index) {
             Ok(shared) => shared,
-            Err(error) => return Err(at(error, index)),
+            Err(error) => return Err(error),
         };
         index += 1;
         left = more;
     }
     Ok(base)
-}
-
-/// The path up to the end of its last component.
-fn end_trimmed<'a, E: PathStyle>(path: OsStr<'a, E>) -> OsStr<'a, E>
-    ensures { IsEndTrimmed E.follows (bytes path.entry) (bytes result) }
-{
-    let trimmed = path_rules::end_trimmed(E::style(), path.as_encoded_bytes());
-    OsStr::from_encoded_bytes_unchecked(trimmed)
-}
-
-/// The longest path that a base and another path begin with.
-fn base_of_two<'a, E: PathStyle>(
-    base: OsStr<'a, E>,
-    path: OsStr<'a, E>,
-) -> Result<OsStr<'a, E>, CommonBaseError>
-    ensures ok { IfOk result (λ shared. IsBaseOf E.follows
-        (bytes base.entry) (bytes path.entry ∷ []) (bytes shared)) }
-    ensures err { IfErr result (λ error. IsFirstApart E.follows
-        (bytes base.entry) (bytes path.entry ∷ []) error) }
-{
-    let both = [base.as_encoded_bytes(), path.as_encoded_bytes()];
-    match path_building::common_base(E::style(), &both) {
-        Ok(shared) => Ok(OsStr::from_encoded_bytes_unchecked(shared)),
-        Err(error) => Err(error),
-    }
-}
-
-/// The error of two paths, with the index that the second has among all.
-fn at(error: CommonBaseError, index: usize) -> CommonBaseError
-    ensures { (style : whose.Style) → (first : List ℕ) → (path : List ℕ) → (before : ℕ)
-        → IsApart style first path before error → IsApart style first path index result }
-{
-    match error {
-        CommonBaseError::NoPath => CommonBaseError::NoPath,
-        CommonBaseError::Prefix(_) => CommonBaseError::Prefix(index),
-        CommonBaseError::Root(_) => CommonBaseError::Root(index),
-    }
 }

@@ -42,13 +42,13 @@ pub extern "C" fn osb_core_ignore_matches(
     let Ok(ignore) = Ignore::new(alloc, file) else {
         return NO_MEMORY;
     };
-    let reported = report(&ignore, paths, flags, out);
+    let reported = report_each(&ignore, paths, flags, out);
     *count = reported;
     fits(reported, out.len())
 }
 
 /// Writes the verdict of the files on each path, as far as there is room, and counts the paths.
-fn report(ignore: &Ignore, paths: &[&[u8]], flags: &[u8], out: &mut [Report]) -> usize
+fn report_each(ignore: &Ignore, paths: &[&[u8]], flags: &[u8], out: &mut [Report]) -> usize
     ensures { AreReportedIn (files_of ignore.now) flags.now paths.now out.old out.new result }
 {
     let mut count = 0;

@@ -2,10 +2,10 @@
 //!
 //! The arguments specify a command ([`Command::parse`](command::Command::parse)). It reads all of
 //! its input, makes the whole output, and then writes it ([`run::run`]). If it can't, the text of a
-//! [`Fault`](fault::Fault) states why ([`program::execute`]).
+//! [`Fault`](fault::Fault) states why. [`program::OsBytes`] is the program.
 //!
-//! Two of its calls have a `requires`: [`run::run`] and [`program::execute`] take a reader and a
-//! writer whose marks are unset, as `Marked::new` makes them.
+//! One of its calls has a `requires`: [`run::run`] takes a reader and a writer whose marks are unset,
+//! as `Marked::new` makes them.
 #![tactic(auto)]
 
 mod answer;

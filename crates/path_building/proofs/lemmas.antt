@@ -37,3 +37,5 @@ pub mod CommonBases
 pub mod OneResults
 pub mod OneFaults
 pub mod FullResults
+pub mod OneBases
+pub mod Absolutes

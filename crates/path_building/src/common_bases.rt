@@ -5,7 +5,7 @@ ghost use Rattle.path_rules.specs.Heads.{prefix_items};
 ghost use Rattle.path_rules.specs.Compare.{AreAllAlike};
 ghost use Rattle.path_building.specs.ErrorText.{unlike_first};
 ghost use Rattle.path_building.specs.Spelled.{cleaned_start};
-ghost use Rattle.path_building.specs.CommonBase.{bytes_of, HaveOnePrefix, HaveOneRoot, IsCommonBase, IsCommonBaseFault, IsBaseOf, IsFirstApart, IsFrontBeside, PartsAt, IsShared};
+ghost use Rattle.path_building.specs.CommonBase.{bytes_of, HaveOnePrefix, HaveOneRoot, IsCommonBase, IsCommonBaseFault, BeginAlike, IsFront, IsBaseOf, IsApart, IsFirstApart, IsFrontBeside, PartsAt, IsShared};
 
 use crate::error_text::write_number;
 use crate::normal::is_root;
@@ -117,17 +117,53 @@ fn base_of<'a>(style: Style, first: &'a [u8], others: &[&[u8]]) -> Result<&'a [u
     let mut index = 1;
     let mut left = others;
     while let [path, more @ ..] = left {
-        if !have_one_prefix(style, first, path) {
-            return Err(CommonBaseError::Prefix(index));
-        }
-        if !have_one_root(style, first, path) {
-            return Err(CommonBaseError::Root(index));
-        }
-        base = shared(style, base, path);
+        base = common_base_with(style, first, base, path, index)?;
         index += 1;
         left = more;
     }
     Ok(base)
+}
+
+/// Returns the longest path that a common base and one more path begin with. [`common_base`] calls it
+/// for each path in turn, and so can a caller whose paths aren't in one slice.
+///
+/// The base is what [`path_rules::end_trimmed`] returned for the first path, or what this call
+/// returned for the path before.
+///
+/// # Errors
+///
+/// - `Prefix` with the given index if the path has another prefix than the first path.
+/// - `Root` with the given index if the path has a root component where the first path has none, or
+///   none where it has one.
+///
+/// ```
+/// use path_building::common_base_with;
+/// use path_rules::{Style, end_trimmed};
+///
+/// let first = b"/usr/lib/a".as_slice();
+/// let base = end_trimmed(Style::Unix, first);
+/// let base = common_base_with(Style::Unix, first, base, b"/usr/lib/b", 1);
+/// assert!(rt; base == Ok(b"/usr/lib".as_slice()));
+/// ```
+pub fn common_base_with<'a>(
+    style: Style,
+    first: &[u8],
+    base: &'a [u8],
+    path: &[u8],
+    index: usize,
+) -> Result<&'a [u8], CommonBaseError>
+    requires { IsFront style first.now base.now }
+    ensures ok { IfOk result (λ shared. BeginAlike style first.now path.now
+        × IsShared style base.entry.now path.now shared.now) }
+    ensures err { IfErr result (λ error. IsApart style first.now path.now index error) }
+{
+    if !have_one_prefix(style, first, path) {
+        return Err(CommonBaseError::Prefix(index));
+    }
+    if !have_one_root(style, first, path) {
+        return Err(CommonBaseError::Root(index));
+    }
+    Ok(shared(style, base, path))
 }
 
 /// Whether two paths have prefixes that are alike, or neither has one.

@@ -14,9 +14,13 @@ ghost use Rattle.path_building.specs.Checked.{IsCheckedJoin, IsBelowBase, Begins
 ghost use Rattle.path_building.specs.Cleaned.{CleansTo, IsCleaned, DifferInSeparators};
 ghost use Rattle.path_building.specs.CheckedEnd.{IsCheckedJoinEnded};
 ghost use Rattle.path_building.specs.Collected.{ArePushed};
+ghost use Rattle.path_building.specs.CommonBase.{IsCommonBase, IsCommonBaseFault};
 ghost use Rattle.path_building.specs.Faults.{IsBaseFault, IsNameFault};
+ghost use Rattle.path_building.specs.FileName.{IsNamed};
+ghost use Rattle.path_building.specs.FileStem.{IsStemSet};
 ghost use Rattle.path_building.specs.FullPath.{IsFullPath, IsAbsoluteFault};
 ghost use Rattle.path_building.specs.declared.base.BaseError.{BaseError};
+ghost use Rattle.path_building.specs.declared.common_bases.CommonBaseError.{CommonBaseError};
 ghost use Rattle.path_building.specs.declared.full_paths.AbsoluteError.{AbsoluteError};
 ghost use Rattle.path_building.specs.declared.full_paths.AbsoluteError.TheVariants as full_error;
 ghost use Rattle.path_building.specs.declared.walk.NameError.{NameError};
@@ -207,12 +211,21 @@ pub fn one_result()
     ensures full { (style : whose.Style) → (path : List ℕ) → (directory : List ℕ)
         → (one : List ℕ) → (other : List ℕ) → IsFullPath style path directory one
         → IsFullPath style path directory other → one ≡ other }
+    ensures common { (style : whose.Style) → (paths : List (List ℕ)) → (one : List ℕ)
+        → (other : List ℕ) → IsCommonBase style paths one → IsCommonBase style paths other
+        → one ≡ other }
+    ensures named { (style : whose.Style) → (path : List ℕ) → (name : List ℕ) → (one : List ℕ)
+        → (other : List ℕ) → IsNamed style path name one → IsNamed style path name other
+        → one ≡ other }
+    ensures stem { (style : whose.Style) → (path : List ℕ) → (stem : List ℕ) → (one : List ℕ)
+        → (other : List ℕ) → IsStemSet style path stem one → IsStemSet style path stem other
+        → one ≡ other }
 {}
 
-/// What [`crate::absolute`] returns on Unix is absolute.
-pub fn absolute_on_unix()
-    ensures { (path : List ℕ) → (directory : List ℕ) → (full : List ℕ)
-        → IsFullPath Unix path directory full → IsAbsolute Unix full }
+/// What [`crate::absolute`] returns is absolute.
+pub fn full_paths()
+    ensures { (style : whose.Style) → (path : List ℕ) → (directory : List ℕ) → (full : List ℕ)
+        → IsFullPath style path directory full → IsAbsolute style full }
 {}
 
 /// A call has one error for its arguments, unless memory is short.
@@ -227,6 +240,9 @@ pub fn one_fault()
         → (one : AbsoluteError) → (other : AbsoluteError)
         → IsAbsoluteFault style path directory one → IsAbsoluteFault style path directory other
         → one ≢ full_error.Memory → other ≢ full_error.Memory → one ≡ other }
+    ensures common { (style : whose.Style) → (paths : List (List ℕ)) → (one : CommonBaseError)
+        → (other : CommonBaseError) → IsCommonBaseFault style paths one
+        → IsCommonBaseFault style paths other → one ≡ other }
 {}
 
 /// A Windows path that is written from components doesn't begin with `\??\`, which Windows reads as it

@@ -43,7 +43,7 @@ pub use checked::{JoinError, join_checked};
 pub use checked_ends::join_checked_keeping_sep;
 pub use cleaning::clean;
 pub use collected::from_components;
-pub use common_bases::{CommonBaseError, common_base};
+pub use common_bases::{CommonBaseError, common_base, common_base_with};
 pub use file_names::{
     add_extension, set_extension, set_file_name, with_added_extension, with_extension,
     with_file_name,

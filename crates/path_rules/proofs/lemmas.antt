@@ -26,6 +26,7 @@ pub mod Shared
 pub mod KeyAlike
 pub mod Simple
 pub mod Divides
+pub mod OneParent
 pub mod Lefts
 pub mod AsPath
 pub mod FirstParts

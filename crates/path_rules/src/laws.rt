@@ -73,6 +73,12 @@ pub fn one_file_name()
         → HasFileName style s other → one ≡ other }
 {}
 
+/// A path has at most one parent.
+pub fn one_parent()
+    ensures { (style : whose.Style) → (path : List ℕ) → (one : List ℕ) → (other : List ℕ)
+        → IsParent style path one → IsParent style path other → one ≡ other }
+{}
+
 /// The parent of a path is shorter than the path.
 pub fn parent_is_shorter()
     ensures { (style : whose.Style) → (s : List ℕ) → (parent : List ℕ) → IsParent style s parent

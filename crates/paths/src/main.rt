@@ -6,8 +6,8 @@
 use paths_commands::fault::Fault;
 use paths_commands::program::Paths;
 use program_frame::ended::Ended;
-use program_frame::lists::program::execute;
 use program_frame::marked::Marked;
+use program_frame::program::execute;
 use std::env;
 
 fn main(rt: HostRuntime) -> Ended<Fault> {

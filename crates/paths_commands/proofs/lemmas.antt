@@ -1,6 +1,8 @@
 pub mod After
 pub mod Answers
 pub mod Ended
+pub mod Found
+pub mod InMemory
 pub mod Lines
 pub mod NeverBoth
 pub mod Platforms

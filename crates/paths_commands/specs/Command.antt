@@ -1,15 +1,16 @@
 -- What the options and operands of the command line request.
-use Rattle.std.specs.Prelude.{◌≡◌, ◌≢◌, ◌↔◌, ◌⊎◌, ℕ, Bool, true, List, [], ◌∷◌, codes}
+use Rattle.std.specs.Prelude.{◌≡◌, ◌≢◌, ◌↔◌, ◌⊎◌, ℕ, ◌≤◌, Bool, true, List, [], ◌∷◌, ◌++◌, codes, length}
 use Rattle.os_args.specs.Reading.{UnexpectedArgument}
 use Rattle.os_args.specs.Views.{fault_of}
 use Rattle.os_args.specs.Word.{Value}
-use Rattle.program_frame.specs.Arguments.{AreGiven, HasOption, operands_of}
-use Rattle.program_frame.specs.ListOptions.{AreStated}
+use Rattle.list_programs.specs.Arguments.{AreGiven, HasOption, operands_of}
+use Rattle.list_programs.specs.ListOptions.{AreStated}
 use Rattle.program_frame.specs.Os.{os_word}
-use Rattle.program_frame.specs.declared.arguments.Given.{Given}
-use Rattle.program_frame.specs.declared.misuse.Misuse.{Misuse}
-use Rattle.program_frame.specs.declared.misuse.Misuse.TheVariants.{Argument, Missing, Invalid, Misplaced}
+use Rattle.list_programs.specs.declared.arguments.Given.{Given}
+use Rattle.list_programs.specs.declared.misuse.Misuse.{Misuse}
+use Rattle.list_programs.specs.declared.misuse.Misuse.TheVariants.{Argument, Missing, Invalid, Misplaced}
 use Rattle.program_frame.specs.declared.os.Os.{Os}
+use Rattle.program_frame.specs.declared.os.Os.TheVariants.{Unix}
 use Rattle.path_building.specs.BaseViews.{base_style}
 use Rattle.path_building.specs.Faults.{IsBaseFault}
 use Rattle.path_building.specs.declared.base.BaseError.{BaseError}
@@ -36,9 +37,10 @@ Line = List (Given PathsOption)
 abbrev pub IsOfPaths : Line → Type 0
 IsOfPaths given = (¬ (HasOption option.Help given)) × (¬ (HasOption option.Version given))
 
--- the operands are the name of a task, a platform and these
-abbrev pub HasOperands : Line → Name → Os → List (List ℕ) → Type 0
-HasOperands given name os more = operands_of given ≡ name_word name ∷ os_word os ∷ more
+-- this number of arguments comes after the first `--`, which ends the options, since no option takes a value
+abbrev pub AreAfterEnd : List (List ℕ) → ℕ → Type 0
+AreAfterEnd [] count = count ≡ 0
+AreAfterEnd (word ∷ words) count = ((word ≡ codes "--") × (count ≡ length words)) ⊎ ((word ≢ codes "--") × AreAfterEnd words count)
 
 -- the task's operand is valid by these rules: a base that was tested follows them, and a directory is absolute
 abbrev pub HasStyle : Style → Task → Type 0
@@ -73,49 +75,25 @@ Needs task_name.Relative what = what ≡ codes "BASE"
 Needs task_name.Absolute what = what ≡ codes "DIR"
 Needs task_name.Convert what = what ≡ codes "platform to convert to"
 
--- what is missing: a command, a platform after it, or the operand that the task needs
-abbrev pub IsMissing : Line → List ℕ → Type 0
-IsMissing given what =
-    ((what ≡ codes "command") × (operands_of given ≡ []))
-    ⊎ (((what ≡ codes "platform (unix, windows or wasm)") × ((word : List ℕ) × (operands_of given ≡ word ∷ [])))
-    ⊎ ((name : Name) × ((os : Os) × (HasOperands given name os [] × Needs name what))))
+-- how many operands the task of this name needs
+abbrev pub needed_count : Name → ℕ
+needed_count task_name.Components = 0
+needed_count task_name.Parent = 0
+needed_count task_name.Name = 0
+needed_count task_name.Stem = 0
+needed_count task_name.Extension = 0
+needed_count task_name.Normalize = 0
+needed_count task_name.Clean = 0
+needed_count task_name.Join = 1
+needed_count task_name.Relative = 1
+needed_count task_name.Absolute = 1
+needed_count task_name.Convert = 1
 
 -- the description of a base, with the reason why one is invalid
 abbrev pub base_word : BaseError → List ℕ
 base_word (base_error.Nul index) = codes "BASE (NUL)"
 base_word base_error.Incomplete = codes "BASE (incomplete prefix)"
 base_word base_error.Reserved = codes "BASE (reserved name)"
-
--- the word is no base on the platform, for this reason, and `join --checked` wants one
-abbrev pub IsNoBase : Line → List ℕ → List ℕ → Type 0
-IsNoBase given what word = (error : BaseError) × ((what ≡ base_word error) × (HasOption option.Checked given
-    × ((os : Os) × (HasOperands given task_name.Join os (word ∷ []) × IsBaseFault (style_of os) word error))))
-
--- the word is no absolute path of the platform, and `absolute` wants one
-abbrev pub IsNoDirectory : Line → List ℕ → List ℕ → Type 0
-IsNoDirectory given what word = (what ≡ codes "DIR (not absolute)") × ((os : Os) × (HasOperands given task_name.Absolute os (word ∷ []) × (¬ (IsAbsolute (style_of os) word))))
-
--- which word is no command, no platform, no base or no directory
-abbrev pub IsInvalid : Line → List ℕ → List ℕ → Type 0
-IsInvalid given what word =
-    ((what ≡ codes "command") × (((name : Name) → word ≢ name_word name) × ((more : List (List ℕ)) × (operands_of given ≡ word ∷ more))))
-    ⊎ (((what ≡ codes "platform") × (((os : Os) → word ≢ os_word os) × (
-    ((command : List ℕ) × ((more : List (List ℕ)) × (operands_of given ≡ command ∷ word ∷ more)))
-    ⊎ ((os : Os) × HasOperands given task_name.Convert os (word ∷ [])))))
-    ⊎ (IsNoBase given what word ⊎ IsNoDirectory given what word))
-
--- `--checked` is given, and isn't for the task that is named
-abbrev pub IsMisplaced : Line → List ℕ → List ℕ → Type 0
-IsMisplaced given word where_to =
-    (word ≡ codes "--checked")
-    × (HasOption option.Checked given
-    × ((name : Name) × ((os : Os) × ((more : List (List ℕ)) × (HasOperands given name os more × ((where_to ≡ name_word name) × (name ≢ task_name.Join)))))))
-
--- an operand is one too many: some tasks need one after the platform, the others none
-abbrev pub IsTooMany : Line → List ℕ → Type 0
-IsTooMany given word = (name : Name) × ((os : Os) × ((more : List (List ℕ)) × (
-    ((operand : List ℕ) × HasOperands given name os (operand ∷ word ∷ more))
-    ⊎ (((what : List ℕ) → ¬ (Needs name what)) × HasOperands given name os (word ∷ more)))))
 
 -- the error for an operand too many
 abbrev pub IsSurplus : List ℕ → Misuse → Type 0
@@ -124,33 +102,96 @@ IsSurplus word (Missing what) = ⊥
 IsSurplus word (Invalid what other) = ⊥
 IsSurplus word (Misplaced option where_to) = ⊥
 
--- why these request nothing
-abbrev pub IsMisuse : Line → Misuse → Type 0
-IsMisuse given (Argument error) = (word : List ℕ) × (IsTooMany given word × (fault_of error ≡ UnexpectedArgument (Value word)))
-IsMisuse given (Missing what) = IsMissing given what.now
-IsMisuse given (Invalid what word) = IsInvalid given what.now word.now
-IsMisuse given (Misplaced word where_to) = IsMisplaced given word.now where_to.now
-
 -- how many bytes a path may have
 abbrev pub longest_path : ℕ
 longest_path = 1048576
 
--- these request the command: help, at any position; the version; or a task. The operands are then the task's name, a platform and what the task needs, and options state how the list of paths is written
-abbrev pub IsRequestFor : Line → Command → Type 0
-IsRequestFor given (Ask task os list keeps_going) =
-    IsOfPaths given
-    × (HasOperands given (name_of task) os (operands_of_task task)
-    × ((IsChecked task ↔ HasOption option.Checked given)
-    × (HasStyle (style_of os) task
-    × (((keeps_going ≡ true) ↔ HasOption option.KeepGoing given)
-    × AreStated option.Lines option.Unterminated longest_path given list))))
-IsRequestFor given Help = HasOption option.Help given
-IsRequestFor given Version = (¬ (HasOption option.Help given)) × HasOption option.Version given
+-- where the last operands, this number of them, come after `--`:
+module _ (after_end : ℕ) where
+  -- The first of the words after the name of a task isn't read as a platform: it isn't one, or all of them come after `--` and the name doesn't
+  abbrev pub HasNoPlatform : List (List ℕ) → Type 0
+  HasNoPlatform [] = Unit {0}
+  HasNoPlatform (word ∷ more) = ((os : Os) → word ≢ os_word os) ⊎ (length (word ∷ more) ≡ after_end)
 
--- these request no command
-abbrev pub RequestsNothing : Line → Type 0
-RequestsNothing given = (command : Command) → ¬ (IsRequestFor given command)
+  -- the operands are the name of a task, a platform, which is Unix if none is given, and these
+  abbrev pub HasOperands : Line → Name → Os → List (List ℕ) → Type 0
+  HasOperands given name os more =
+      ((operands_of given ≡ name_word name ∷ os_word os ∷ more) × (length (os_word os ∷ more) ≢ after_end))
+      ⊎ ((operands_of given ≡ name_word name ∷ more) × ((os ≡ Unix) × HasNoPlatform more))
+
+  -- what is missing: a command, or the operand that the task needs
+  abbrev pub IsMissing : Line → List ℕ → Type 0
+  IsMissing given what =
+      ((what ≡ codes "command") × (operands_of given ≡ []))
+      ⊎ ((name : Name) × ((os : Os) × (HasOperands given name os [] × Needs name what)))
+
+  -- the operands are the name of this task, a platform, the one operand that the task needs, and paths that come after `--`
+  abbrev pub HasOneOperand : Line → Name → Os → List ℕ → Type 0
+  HasOneOperand given name os word = (paths : List (List ℕ)) × (HasOperands given name os (word ∷ paths) × (length paths ≤ after_end))
+
+  -- the word is no base on the platform, for this reason, and `join --checked` wants one
+  abbrev pub IsNoBase : Line → List ℕ → List ℕ → Type 0
+  IsNoBase given what word = (error : BaseError) × ((what ≡ base_word error) × (HasOption option.Checked given
+      × ((os : Os) × (HasOneOperand given task_name.Join os word × IsBaseFault (style_of os) word error))))
+
+  -- the word is no absolute path of the platform, and `absolute` wants one
+  abbrev pub IsNoDirectory : Line → List ℕ → List ℕ → Type 0
+  IsNoDirectory given what word = (what ≡ codes "DIR (not absolute)") × ((os : Os) × (HasOneOperand given task_name.Absolute os word × (¬ (IsAbsolute (style_of os) word))))
+
+  -- the word is no platform, and `convert` wants one
+  abbrev pub IsNoTarget : Line → List ℕ → List ℕ → Type 0
+  IsNoTarget given what word = (what ≡ codes "platform") × ((os : Os) × (HasOneOperand given task_name.Convert os word × ((to : Os) → word ≢ os_word to)))
+
+  -- which word is no command, no platform, no base or no directory
+  abbrev pub IsInvalid : Line → List ℕ → List ℕ → Type 0
+  IsInvalid given what word =
+      ((what ≡ codes "command") × (((name : Name) → word ≢ name_word name) × ((more : List (List ℕ)) × (operands_of given ≡ word ∷ more))))
+      ⊎ (IsNoTarget given what word ⊎ (IsNoBase given what word ⊎ IsNoDirectory given what word))
+
+  -- `--checked` is given, and isn't for the task that is named
+  abbrev pub IsMisplaced : Line → List ℕ → List ℕ → Type 0
+  IsMisplaced given word where_to =
+      (word ≡ codes "--checked")
+      × (HasOption option.Checked given
+      × ((name : Name) × ((os : Os) × ((more : List (List ℕ)) × (HasOperands given name os more × ((where_to ≡ name_word name) × (name ≢ task_name.Join)))))))
+
+  -- an operand is one too many: it is after those that the task needs, and before `--`
+  pub record IsTooMany (given : Line) (word : List ℕ) : Type 0 where
+    pub name : Name
+    pub os : Os
+    pub before : List (List ℕ)
+    pub more : List (List ℕ)
+    pub has : HasOperands given name os (before ++ word ∷ more)
+    pub needed : length before ≡ needed_count name
+    pub early : after_end ≤ length more
+
+  -- why these request nothing
+  abbrev pub IsMisuse : Line → Misuse → Type 0
+  IsMisuse given (Argument error) = (word : List ℕ) × (IsTooMany given word × (fault_of error ≡ UnexpectedArgument (Value word)))
+  IsMisuse given (Missing what) = IsMissing given what.now
+  IsMisuse given (Invalid what word) = IsInvalid given what.now word.now
+  IsMisuse given (Misplaced word where_to) = IsMisplaced given word.now where_to.now
+
+  -- These request the command: help, at any position; the version; or a task. The operands are then the task's name, a platform, what the task needs, and paths that come after `--`. Options state how a list of paths is written
+  abbrev pub IsRequestFor : Line → Command → Type 0
+  IsRequestFor given (Ask task os list keeps_going paths) =
+      IsOfPaths given
+      × ((HasOperands given (name_of task) os (operands_of_task task ++ operands_of paths.now) × (length (operands_of paths.now) ≤ after_end))
+      × ((IsChecked task ↔ HasOption option.Checked given)
+      × (HasStyle (style_of os) task
+      × (((keeps_going ≡ true) ↔ HasOption option.KeepGoing given)
+      × AreStated option.Lines option.Unterminated longest_path given list))))
+  IsRequestFor given Help = HasOption option.Help given
+  IsRequestFor given Version = (¬ (HasOption option.Help given)) × HasOption option.Version given
+
+  -- these request no command
+  abbrev pub RequestsNothing : Line → Type 0
+  RequestsNothing given = (command : Command) → ¬ (IsRequestFor given command)
+
+-- the arguments are these options and operands, and this number of them comes after `--`
+abbrev pub AreRead : List (List ℕ) → ℕ → Line → Type 0
+AreRead words after_end given = AreGiven spelled has_value words given × AreAfterEnd words after_end
 
 -- the arguments are no options and operands that request a command
 abbrev pub RequestNothing : List (List ℕ) → Type 0
-RequestNothing words = (given : Line) → AreGiven spelled has_value words given → RequestsNothing given
+RequestNothing words = (after_end : ℕ) (given : Line) → AreRead words after_end given → RequestsNothing after_end given

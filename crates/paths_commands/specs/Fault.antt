@@ -10,10 +10,10 @@ use Rattle.paths_commands.specs.declared.fault.Rejection.{Rejection}
 use Rattle.paths_commands.specs.declared.fault.Rejection.TheVariants.{NoString, NoNormalForm, NoRelativePath, NoAbsolutePath, NoJoin, NoJoinAt, NoComponent, NoStringThere, HasNul, ResultHas}
 use Rattle.paths_commands.specs.declared.fault.CommandFault.{CommandFault}
 use Rattle.paths_commands.specs.declared.fault.CommandFault.TheVariants.{Unreadable, Misuse, PassedOver}
-use Rattle.program_frame.specs.Misuse.{misuse_text}
-use Rattle.program_frame.specs.declared.lists.options.ItemEnd.{ItemEnd}
-use Rattle.program_frame.specs.declared.lists.options.ItemEnd.TheVariants.{Nul, Newline}
-use Rattle.program_frame.specs.declared.misuse.Misuse as misuse
+use Rattle.list_programs.specs.Misuse.{misuse_text}
+use Rattle.list_programs.specs.declared.options.ItemEnd.{ItemEnd}
+use Rattle.list_programs.specs.declared.options.ItemEnd.TheVariants.{Nul, Newline}
+use Rattle.list_programs.specs.declared.misuse.Misuse as misuse
 
 -- a comma and a text between quotes
 abbrev pub quoted : List ℕ → List ℕ

@@ -1,25 +1,28 @@
 -- The whole program, from the arguments after its name to its exit status.
-use Rattle.std.specs.Prelude.{◌≡◌, ◌⊎◌, ℕ, ◌<◌, Bool, true, false, List, Option, Result, Ok, Err, ⊤, IfErr, IsOk}
+use Rattle.std.specs.Prelude.{◌≡◌, ◌≢◌, ◌⊎◌, ℕ, ◌<◌, Bool, true, false, List, [], ◌∷◌, ◌++◌, Option, Some, Result, Ok, Err, ⊤, IfErr, IsOk}
 use Rattle.os_args.specs.Views.{fault_of}
 use Rattle.os_args.specs.declared.error.ArgumentError.{ArgumentError}
 use Rattle.os_str_bytes.specs.Wasm.{Wasm}
 use Rattle.os_str_bytes.specs.WasmPlatform.TheImpl as wasm
 use Rattle.platform_str.specs.declared.os_str.OsStr.{OsStr}
-use Rattle.program_frame.specs.Arguments.{AreGiven, HasFault}
-use Rattle.program_frame.specs.ListRun.{Runs}
-use Rattle.program_frame.specs.ProgramFault.{EndsRunOf}
-use Rattle.program_frame.specs.Rules.{ListRules, passing}
+use Rattle.list_programs.specs.Arguments.{HasFault, operands_of}
+use Rattle.list_programs.specs.ListRun.{Runs}
+use Rattle.list_programs.specs.ProgramFault.{EndsRunOf}
+use Rattle.list_programs.specs.Rules.{ListRules, passing}
 use Rattle.program_frame.specs.Strings.{strings}
 use Rattle.program_frame.specs.Written.{WritesText}
-use Rattle.program_frame.specs.declared.fault.Failure.TheVariants.{Memory, Write}
-use Rattle.program_frame.specs.declared.lists.fault.ListFault.TheVariants.{Run}
-use Rattle.program_frame.specs.declared.lists.options.ListOptions.{ListOptions}
-use Rattle.program_frame.specs.declared.lists.program_fault.Fault as program_fault
-use Rattle.program_frame.specs.declared.lists.program_fault.Fault.TheVariants.{List as OfList, Words}
-use Rattle.program_frame.specs.declared.misuse.Misuse as misuse
-use Rattle.program_frame.specs.declared.misuse.Misuse.TheVariants.{Argument}
+use Rattle.program_frame.specs.declared.fault.Failure.TheVariants.{Memory, Read, Write}
+use Rattle.list_programs.specs.declared.fault.ListFault.TheVariants.{Run}
+use Rattle.list_programs.specs.declared.options.ItemEnd.{ItemEnd}
+use Rattle.list_programs.specs.declared.options.ItemEnd.TheVariants.{Nul}
+use Rattle.list_programs.specs.declared.options.LastItem.TheVariants.{MustEnd}
+use Rattle.list_programs.specs.declared.options.ListOptions.{ListOptions}
+use Rattle.list_programs.specs.declared.program_fault.Fault as program_fault
+use Rattle.list_programs.specs.declared.program_fault.Fault.TheVariants.{List as OfList, Words}
+use Rattle.list_programs.specs.declared.misuse.Misuse as misuse
+use Rattle.list_programs.specs.declared.misuse.Misuse.TheVariants.{Argument}
 use Rattle.program_frame.specs.declared.os.Os.{Os}
-use Rattle.paths_commands.specs.Command.{IsRequestFor, IsMisuse, Line, RequestNothing, RequestsNothing}
+use Rattle.paths_commands.specs.Command.{AreRead, IsRequestFor, IsMisuse, Line, RequestNothing, RequestsNothing, longest_path}
 use Rattle.paths_commands.specs.Fault.{IsOfMisuse}
 use Rattle.paths_commands.specs.Options.{has_value, spelled}
 use Rattle.paths_commands.specs.Styles.{style_of}
@@ -43,9 +46,9 @@ Doing = Option (List ℕ) → Option (List ℕ) → Option (List ℕ) → Option
 abbrev pub EndsAtOnce : Fault → Doing
 EndsAtOnce fault input left old new answer = (answer ≡ Err fault) × ((left ≡ input) × (new ≡ old))
 
--- what is done with each path of the platform, in a list that is written so
-abbrev pub rules_on : Os → Task → ListOptions → ListRules Rejection
-rules_on os task list = rules_of (strings os) (style_of os) task list
+-- what is done with each path of the platform, in a list that is written so, where this byte ends each result
+abbrev pub rules_on : Os → Task → ListOptions → ItemEnd → ListRules Rejection
+rules_on os task list end = rules_of (strings os) (style_of os) task list end
 
 -- the result of a run that passed over this number of paths: if it passed over some, that is its fault
 abbrev pub IsAfter : ℕ → Result ⊤ Fault → Result ⊤ Fault → Type 0
@@ -64,30 +67,54 @@ pub record RunsPast (list : ListRules Rejection) (input left old new : Option (L
 abbrev pub WritesSomeText : Doing
 WritesSomeText input left old new answer = (left ≡ input) × ((text : List ℕ) × WritesText text (OfList (Run Write)) old new answer)
 
--- the task's result for a list of paths of the platform that is written so, where those that are rejected may be passed over
-abbrev pub RunsTask : Bool → Os → Task → ListOptions → Doing
-RunsTask false os task list input left old new answer = Runs (rules_on os task list) OfList input left old new answer
-RunsTask true os task list input left old new answer = RunsPast (rules_on os task list) input left old new answer
+-- the task's result for a list of paths of the platform that is written so, where this byte ends each result and paths that are rejected may be passed over
+abbrev pub RunsTask : Bool → Os → Task → ListOptions → ItemEnd → Doing
+RunsTask false os task list end input left old new answer = Runs (rules_on os task list end) OfList input left old new answer
+RunsTask true os task list end input left old new answer = RunsPast (rules_on os task list end) input left old new answer
+
+-- a list of these paths, each ended by NUL
+abbrev pub list_text : List (List ℕ) → List ℕ
+list_text [] = []
+list_text (path ∷ paths) = (path ++ 0 ∷ []) ++ list_text paths
+
+-- how such a list is written
+abbrev pub of_given : ListOptions
+of_given = record { end = Nul; last = MustEnd; max = longest_path }
+
+-- the task's result for the list of these paths, or memory for the list is short
+abbrev pub RunsGiven : Bool → Os → Task → ItemEnd → List (List ℕ) → Option (List ℕ) → Option (List ℕ) → Result ⊤ Fault → Type 0
+RunsGiven keeps_going os task end paths old new answer =
+    ((answer ≡ Err (OfList (Run Memory))) × (new ≡ old))
+    ⊎ ((left : Option (List ℕ)) × RunsTask keeps_going os task of_given end (Some (list_text paths)) left old new answer)
+
+-- the result of a run over a list in memory, where this is the result of the run over a reader of it: memory is to blame where that isn't read
+abbrev pub IsInMemory : Result ⊤ Fault → Result ⊤ Fault → Type 0
+IsInMemory ran answer = ((ran ≢ Err (OfList (Run Read))) × (answer ≡ ran)) ⊎ ((ran ≡ Err (OfList (Run Read))) × (answer ≡ Err (OfList (Run Memory))))
+
+-- the task's result for paths that are given; if none is, for those that are read
+abbrev pub RunsOver : List (List ℕ) → Bool → Os → Task → ListOptions → Doing
+RunsOver [] keeps_going os task list input left old new answer = RunsTask keeps_going os task list list.end input left old new answer
+RunsOver (path ∷ paths) keeps_going os task list input left old new answer = (left ≡ input) × RunsGiven keeps_going os task list.end (path ∷ paths) old new answer
 
 -- what the command does
 abbrev pub Does : Command → Doing
-Does (Ask task os list keeps_going) input left old new answer = RunsTask keeps_going os task list input left old new answer
+Does (Ask task os list keeps_going paths) input left old new answer = RunsOver (operands_of paths.now) keeps_going os task list input left old new answer
 Does Help input left old new answer = WritesSomeText input left old new answer
 Does Version input left old new answer = WritesSomeText input left old new answer
 
--- the options and operands request no command, and the run ends at once with what is wrong
-abbrev pub RejectsLine : Line → Doing
-RejectsLine given input left old new answer =
-    RequestsNothing given
-    × ((wrong : misuse.Misuse) × ((why : CommandFault) × ((IsMisuse given wrong × IsOfMisuse wrong why) × EndsAtOnce (Words why) input left old new answer)))
+-- the options and operands, of which the last come after `--`, request no command, and the run ends at once with what is wrong
+abbrev pub RejectsLine : ℕ → Line → Doing
+RejectsLine after_end given input left old new answer =
+    RequestsNothing after_end given
+    × ((wrong : misuse.Misuse) × ((why : CommandFault) × ((IsMisuse after_end given wrong × IsOfMisuse wrong why) × EndsAtOnce (Words why) input left old new answer)))
 
 -- the options and operands request a command, with this result
-abbrev pub RunsCommand : Line → Doing
-RunsCommand given input left old new answer = (command : Command) × (IsRequestFor given command × Does command input left old new answer)
+abbrev pub RunsCommand : ℕ → Line → Doing
+RunsCommand after_end given input left old new answer = (command : Command) × (IsRequestFor after_end given command × Does command input left old new answer)
 
 -- the options and operands request a command, which has this result, or none
-abbrev pub RunsLine : Line → Doing
-RunsLine given input left old new answer = RejectsLine given input left old new answer ⊎ RunsCommand given input left old new answer
+abbrev pub RunsLine : ℕ → Line → Doing
+RunsLine after_end given input left old new answer = RejectsLine after_end given input left old new answer ⊎ RunsCommand after_end given input left old new answer
 
 -- the arguments have a fault, and the run ends at once with the first
 abbrev pub RejectsWords : List (List ℕ) → Doing
@@ -98,11 +125,11 @@ abbrev pub Rejects : List (List ℕ) → Doing
 Rejects words input left old new answer =
     RequestNothing words
     × (RejectsWords words input left old new answer
-    ⊎ ((given : Line) × (AreGiven spelled has_value words given × RejectsLine given input left old new answer)))
+    ⊎ ((after_end : ℕ) × ((given : Line) × (AreRead words after_end given × RejectsLine after_end given input left old new answer))))
 
 -- the arguments request a command, with this result, or none; an allocation may fail first
 abbrev pub RunsTo : List (List ℕ) → Doing
 RunsTo words input left old new answer =
     EndsAtOnce (OfList (Run Memory)) input left old new answer
     ⊎ (Rejects words input left old new answer
-    ⊎ ((given : Line) × (AreGiven spelled has_value words given × RunsCommand given input left old new answer)))
+    ⊎ ((after_end : ℕ) × ((given : Line) × (AreRead words after_end given × RunsCommand after_end given input left old new answer))))

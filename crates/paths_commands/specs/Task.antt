@@ -27,14 +27,14 @@ use Rattle.path_rules.specs.StyleRules.{main_separator}
 use Rattle.os_path.specs.Names.{HasFileStem, HasExtension, LacksExtension}
 use Rattle.os_path.specs.Converted.{IsConvertFault}
 use Rattle.os_path.specs.declared.styles.ConvertError.TheVariants as convert
-use Rattle.program_frame.specs.Items.{Lacks}
-use Rattle.program_frame.specs.ListOptions.{MayLack, byte_of}
+use Rattle.list_programs.specs.Items.{Lacks}
+use Rattle.list_programs.specs.ListOptions.{MayLack, byte_of}
 use Rattle.program_frame.specs.Os.{os_word}
 use Rattle.program_frame.specs.Strings.{strings}
-use Rattle.program_frame.specs.declared.lists.options.ItemEnd.{ItemEnd}
-use Rattle.program_frame.specs.declared.lists.options.ListOptions.{ListOptions}
+use Rattle.list_programs.specs.declared.options.ItemEnd.{ItemEnd}
+use Rattle.list_programs.specs.declared.options.ListOptions.{ListOptions}
 use Rattle.program_frame.specs.declared.os.Os.{Os}
-use Rattle.program_frame.specs.Rules.{ListRules}
+use Rattle.list_programs.specs.Rules.{ListRules}
 use Rattle.paths_commands.specs.Styles.{style_of}
 use Rattle.paths_commands.specs.declared.fault.Rejection.{Rejection}
 use Rattle.paths_commands.specs.declared.fault.Rejection.TheVariants as rejection
@@ -249,14 +249,14 @@ module _ {E : Type 0} (p : Ghosts E) (style : Style) where
   IsRejection end task path rejection.HasNul = ¬ (Lacks 0 path)
   IsRejection end task path (rejection.ResultHas byte) = (byte ≡ end) × IsCutShort end task path
 
-  -- what is done with each path of a list that is written so
-  abbrev pub rules_of : Task → ListOptions → ListRules Rejection
-  rules_of task list = record {
+  -- what is done with each path of a list that is written so, where this byte ends each result
+  abbrev pub rules_of : Task → ListOptions → ItemEnd → ListRules Rejection
+  rules_of task list end = record {
     end = byte_of list.end;
     takes_unended = MayLack list.last;
     max = list.max;
     longest = list.max;
-    is_text = IsText list.end task;
-    rejects = IsRejection list.end task;
+    is_text = IsText end task;
+    rejects = IsRejection end task;
     is_of_long = λ path. ⊥;
   }

@@ -1,8 +1,9 @@
 //! Commands, and the options and operands that make them up.
-ghost use Rattle.std.specs.Prelude.{◌≡◌, ◌≢◌, ◌↔◌, ◌∷◌, [], true, false, IfErr, IfOk, MatchOption, OnErr};
-ghost use Rattle.program_frame.specs.Arguments.{HasOption, operands_of};
-ghost use Rattle.program_frame.specs.ListOptions.{AreStated};
-ghost use Rattle.paths_commands.specs.Command.{IsRequestFor, HasOperands, HasStyle, base_word, IsMisuse, IsOfPaths, IsSurplus, IsTaskOf, RequestsNothing, longest_path};
+ghost use Rattle.std.specs.Prelude.{◌≡◌, ◌≢◌, ◌↔◌, ◌∷◌, ◌++◌, ◌<◌, ◌≤◌, [], length, List, ℕ, true, false, IfErr, IfOk, IsTrue, MatchOption, OnErr};
+ghost use Rattle.list_programs.specs.Arguments.{HasOption, operands_of};
+ghost use Rattle.list_programs.specs.ListOptions.{AreStated};
+ghost use Rattle.program_frame.specs.declared.os.Os.{Os as DeclaredOs};
+ghost use Rattle.paths_commands.specs.Command.{IsRequestFor, HasOneOperand, HasOperands, HasStyle, Needs, base_word, IsMisuse, IsOfPaths, IsSurplus, IsTaskOf, RequestsNothing, longest_path, needed_count};
 ghost use Rattle.path_rules.specs.Root.{IsAbsolute};
 ghost use Rattle.paths_commands.specs.Styles.{style_of};
 ghost use Rattle.paths_commands.specs.Task.{IsChecked, name_of, name_word, operands_of_task};
@@ -12,41 +13,48 @@ ghost use Rattle.paths_commands.specs.declared.option.PathsOption.TheVariants.{C
 
 use crate::option::PathsOption;
 use crate::task::Task;
+use list_programs::arguments::{Given, has, next_operand};
+use list_programs::misuse::Misuse;
+use list_programs::options::ListOptions;
 use os_args::Word;
 use os_path::Style;
 use os_str_bytes::OsStr;
 use path_building::{Base, BaseError};
 use path_rules::is_absolute;
-use program_frame::arguments::{Given, has, next_operand};
-use program_frame::lists::options::ListOptions;
-use program_frame::misuse::Misuse;
 use program_frame::os::Os;
 
 /// How many bytes a path may have.
-const LONGEST_PATH: usize = 0x10_0000;
+pub(crate) const LONGEST_PATH: usize = 0x10_0000;
 
 /// Options and operands, as they were given.
 pub type Line<'s, 'a> = &'s [Given<'a, PathsOption>];
 
 /// What the program does.
 #[derive(Clone, Copy)]
-pub enum Command<'a> {
-    /// Reads paths of the platform, from a list that is written so, and writes the result for each.
-    /// The last field is whether rejected paths are passed over.
-    Ask(Task<'a>, Os, ListOptions, bool),
+pub enum Command<'s, 'a> {
+    /// Writes the result for each path of the platform. The list is read and written so. The next
+    /// field is whether rejected paths are passed over. The operands of the last are the paths. If it
+    /// has none, they are read.
+    Ask(Task<'a>, Os, ListOptions, bool, Line<'s, 'a>),
     /// `--help`: writes what the commands are.
     Help,
     /// `--version`: writes the version.
     Version,
 }
 
-impl<'a> Command<'a> {
-    /// The command that options and operands make up. It doesn't allocate.
+impl<'s, 'a> Command<'s, 'a> {
+    /// The command that options and operands make up, where the last operands, `after_end` of them,
+    /// come after `--`. It doesn't allocate.
     ///
     /// `--help` and `--version` are commands wherever they stand. Otherwise the operands are a
-    /// command, a platform and, for `join`, `relative`, `absolute` and `convert`, one more. Options stand
-    /// anywhere: `--keep-going`, `--lines`, `--unterminated`, and `--checked` for `join`. Without
-    /// `--lines` a NUL ends each path, and without `--unterminated` the last path has its end, too.
+    /// command, a platform and, for `join`, `relative`, `absolute` and `convert`, one more. The
+    /// platform may be left out, and is Unix then. The operands after these are paths, and come after
+    /// `--`. If all that come after the command's name follow `--`, and the name doesn't, then none of
+    /// them is a platform.
+    ///
+    /// Options stand anywhere before `--`: `--keep-going`, `--lines`, `--unterminated`, and
+    /// `--checked` for `join`. Without `--lines` a NUL ends each path, and without `--unterminated`
+    /// the last path has its end, too.
     ///
     /// # Errors
     ///
@@ -58,25 +66,26 @@ impl<'a> Command<'a> {
     /// use paths_commands::command::Command;
     /// use paths_commands::option::PathsOption;
     /// use paths_commands::task::Task;
-    /// use program_frame::arguments::Given;
-    /// use program_frame::lists::options::ListOptions;
+    /// use list_programs::arguments::Given;
+    /// use list_programs::options::ListOptions;
     /// use program_frame::os::Os;
     ///
     /// let going = Given::Flag(PathsOption::KeepGoing);
-    /// let given = [Given::Operand("parent"), going, Given::Operand("unix")];
-    /// let Ok(command) = Command::parse(&given) else { return Ok(()) };
-    /// let Command::Ask(task, os, list, true) = command else { return Ok(()) };
-    /// assert!(rt; matches!(task, Task::Parent) && os == Os::Unix);
+    /// let given = [Given::Operand("parent"), going, Given::Operand("windows")];
+    /// let Ok(command) = Command::parse(&given, 0) else { return Ok(()) };
+    /// let Command::Ask(task, os, list, true, []) = command else { return Ok(()) };
+    /// assert!(rt; matches!(task, Task::Parent) && os == Os::Windows);
     /// assert!(rt; list == ListOptions::new(1_048_576));
-    /// let Err(error) = Command::parse(&given[..1]) else { return Ok(()) };
-    /// let text = "missing platform (unix, windows or wasm)";
-    /// assert_eq!(rt; format!(in alloc; "{error}")?.as_str(), text);
+    /// let Ok(command) = Command::parse(&given, 1) else { return Ok(()) };
+    /// assert!(rt; matches!(command, Command::Ask(Task::Parent, Os::Unix, _, true, [_, _])));
+    /// let Err(error) = Command::parse(&[], 0) else { return Ok(()) };
+    /// assert_eq!(rt; format!(in alloc; "{error}")?.as_str(), "missing command");
     /// ```
     #[tactic(auto, using(crate::proofs::lemmas::NeverBoth::never_both))]
-    pub fn parse(given: Line<'_, 'a>) -> Result<Command<'a>, Misuse<'a>>
-        ensures command { IfOk result (λ command. IsRequestFor given.entry.now command) }
-        ensures misuse { IfErr result (λ misuse. IsMisuse given.entry.now misuse) }
-        ensures no_command { OnErr result (RequestsNothing given.entry.now) }
+    pub fn parse(given: Line<'s, 'a>, after_end: usize) -> Result<Command<'s, 'a>, Misuse<'a>>
+        ensures command { IfOk result (λ command. IsRequestFor after_end given.entry.now command) }
+        ensures misuse { IfErr result (λ misuse. IsMisuse after_end given.entry.now misuse) }
+        ensures no_command { OnErr result (RequestsNothing after_end given.entry.now) }
     {
         if has(given, PathsOption::Help) {
             return Ok(Command::Help);
@@ -84,7 +93,7 @@ impl<'a> Command<'a> {
         if has(given, PathsOption::Version) {
             return Ok(Command::Version);
         }
-        match question(given) {
+        match question(given, after_end) {
             Ok(command) => Ok(command),
             Err(misuse) => Err(misuse),
         }
@@ -93,10 +102,10 @@ impl<'a> Command<'a> {
 
 /// The command for paths that options and operands make up, if neither help nor the version is
 /// requested.
-fn question<'a>(given: Line<'_, 'a>) -> Result<Command<'a>, Misuse<'a>>
+fn question<'s, 'a>(given: Line<'s, 'a>, after_end: usize) -> Result<Command<'s, 'a>, Misuse<'a>>
     requires { IsOfPaths given.now }
-    ensures command { IfOk result (λ command. IsRequestFor given.entry.now command) }
-    ensures misuse { IfErr result (λ misuse. IsMisuse given.entry.now misuse) }
+    ensures command { IfOk result (λ command. IsRequestFor after_end given.entry.now command) }
+    ensures misuse { IfErr result (λ misuse. IsMisuse after_end given.entry.now misuse) }
 {
     let Some((word, after)) = next_operand(given) else {
         return Err(Misuse::Missing("command"));
@@ -104,19 +113,56 @@ fn question<'a>(given: Line<'_, 'a>) -> Result<Command<'a>, Misuse<'a>>
     let Some(name) = Name::named(word) else {
         return Err(Misuse::Invalid("command", word));
     };
-    let Some((platform, more)) = next_operand(after) else {
-        return Err(Misuse::Missing("platform (unix, windows or wasm)"));
-    };
-    let Some(os) = Os::named(platform) else {
-        return Err(Misuse::Invalid("platform", platform));
-    };
-    match task_of(given, name, os, more) {
-        Ok(task) => {
+    let (os, more) = platform_in(given, after_end, name, after);
+    match task_of(given, after_end, name, os, more) {
+        Ok((task, paths)) => {
             let keeps_going = has(given, PathsOption::KeepGoing);
-            Ok(Command::Ask(task, os, listed(given), keeps_going))
+            Ok(Command::Ask(task, os, listed(given), keeps_going, paths))
         }
         Err(misuse) => Err(misuse),
     }
+}
+
+/// The platform that comes after the name of a task, or Unix, and what was given after it.
+fn platform_in<'s, 'a>(
+    given: Line<'_, 'a>,
+    after_end: usize,
+    name: Name,
+    after: Line<'s, 'a>,
+) -> (Os, Line<'s, 'a>)
+    requires { operands_of given.now ≡ name_word name ∷ operands_of after.now }
+    ensures { HasOperands after_end given.entry.now name result.0 (operands_of result.1.now) }
+{
+    match next_operand(after) {
+        Some((word, more)) => match Os::named(word) {
+            Some(os) => {
+                if are_more(after, after_end) || !are_more(given, after_end) {
+                    return (os, more);
+                }
+                (Os::Unix, after)
+            }
+            None => (Os::Unix, after),
+        },
+        None => (Os::Unix, after),
+    }
+}
+
+/// Whether there are more operands than this number.
+fn are_more(given: Line<'_, '_>, count: usize) -> bool
+    ensures { IsTrue result ↔ (count < length (operands_of given.entry.now)) }
+{
+    let mut room = count;
+    let mut left = given;
+    while let [one, rest @ ..] = left {
+        if let Given::Operand(_) = one {
+            if room == 0 {
+                return true;
+            }
+            room -= 1;
+        }
+        left = rest;
+    }
+    false
 }
 
 /// How the list of paths is written.
@@ -194,74 +240,127 @@ impl Name {
             Name::Convert => "convert",
         }
     }
+
+    /// The operand that the task needs, if it needs one.
+    fn needed(self) -> Option<&'static str>
+        ensures { MatchOption result (needed_count self ≡ 0)
+            (λ what. (needed_count self ≡ 1) × Needs self what.now) }
+    {
+        match self {
+            Name::Join | Name::Relative => Some("BASE"),
+            Name::Absolute => Some("DIR"),
+            Name::Convert => Some("platform to convert to"),
+            Name::Components
+            | Name::Parent
+            | Name::Name
+            | Name::Stem
+            | Name::Extension
+            | Name::Normalize
+            | Name::Clean => None,
+        }
+    }
 }
 
-/// The task of this name with the operands of `more`.
-fn task_of<'a>(
+/// The task of this name with the operand that it needs, and what was given after that: no more
+/// operands than come after `--`.
+fn task_of<'s, 'a>(
     given: Line<'_, 'a>,
+    after_end: usize,
     name: Name,
     os: Os,
-    more: Line<'_, 'a>,
-) -> Result<Task<'a>, Misuse<'a>>
-    requires { HasOperands given.now name os (operands_of more.now) }
-    ensures task { IfOk result (λ task. (name_of task ≡ name)
-        × ((IsChecked task ↔ HasOption Checked given.entry.now)
-        × (HasStyle (style_of os) task
-        × (operands_of more.entry.now ≡ operands_of_task task)))) }
-    ensures misuse { IfErr result (λ misuse. IsMisuse given.entry.now misuse) }
+    more: Line<'s, 'a>,
+) -> Result<(Task<'a>, Line<'s, 'a>), Misuse<'a>>
+    requires { HasOperands after_end given.now name os (operands_of more.now) }
+    ensures operands { IfOk result (λ found. HasOperands after_end given.entry.now
+        (name_of found.0) os (operands_of_task found.0 ++ operands_of found.1.now)) }
+    ensures late { IfOk result (λ found. length (operands_of found.1.now) ≤ after_end) }
+    ensures checked { IfOk result
+        (λ found. IsChecked found.0 ↔ HasOption Checked given.entry.now) }
+    ensures style { IfOk result (λ found. HasStyle (style_of os) found.0) }
+    ensures misuse { IfErr result (λ misuse. IsMisuse after_end given.entry.now misuse) }
 {
     let is_checked = has(given, PathsOption::Checked);
-    if is_checked && name != Name::Join {
+    if !is_placed(is_checked, name) {
         return Err(Misuse::Misplaced("--checked", name.word()));
     }
-    match next_operand(more) {
-        None => without_operand(given, name, os),
-        Some((operand, rest)) => match next_operand(rest) {
-            None => with_operand(given, name, is_checked, os, operand),
-            Some((word, _)) => Err(surplus(word)),
-        },
+    let Some(what) = name.needed() else {
+        return match surplus_in(more, after_end) {
+            Some(word) => Err(surplus(word)),
+            None => Ok((without_operand(name), more)),
+        };
+    };
+    let Some((operand, rest)) = next_operand(more) else {
+        return Err(Misuse::Missing(what));
+    };
+    if let Some(word) = surplus_in(rest, after_end) {
+        return Err(surplus(word));
+    }
+    match with_operand(given, after_end, name, is_checked, os, operand) {
+        Ok(task) => Ok((task, rest)),
+        Err(misuse) => Err(misuse),
     }
 }
 
-/// The task of this name without an operand, which isn't checked.
-fn without_operand<'a>(given: Line<'_, 'a>, name: Name, os: Os) -> Result<Task<'a>, Misuse<'a>>
-    requires { HasOperands given.now name os [] }
-    ensures task { IfOk result (λ task. IsTaskOf name false os [] task) }
-    ensures misuse { IfErr result (λ misuse. IsMisuse given.entry.now misuse) }
+/// Whether `--checked` isn't given, or is for the task of this name.
+fn is_placed(is_checked: bool, name: Name) -> bool
+    ensures yes { result ≡ true → is_checked ≡ true → name ≡ JoinName }
+    ensures no { result ≡ false → (is_checked ≡ true) × (name ≢ JoinName) }
+{
+    !is_checked || name == Name::Join
+}
+
+/// The first operand, if there are more than come after `--`.
+fn surplus_in<'a>(given: Line<'_, 'a>, after_end: usize) -> Option<&'a str>
+    ensures { MatchOption result (length (operands_of given.entry.now) ≤ after_end)
+        (λ word. (more : List (List ℕ)) × ((operands_of given.entry.now ≡ word.now ∷ more)
+        × (after_end ≤ length more))) }
+{
+    if !are_more(given, after_end) {
+        return None;
+    }
+    match next_operand(given) {
+        Some((word, _)) => Some(word),
+        None => None,
+    }
+}
+
+/// The task of this name, which needs no operand and isn't checked.
+fn without_operand<'a>(name: Name) -> Task<'a>
+    requires { needed_count name ≡ 0 }
+    ensures { (os : DeclaredOs) → IsTaskOf name false os [] result }
 {
     match name {
-        Name::Components => Ok(Task::Components),
-        Name::Parent => Ok(Task::Parent),
-        Name::Name => Ok(Task::Name),
-        Name::Stem => Ok(Task::Stem),
-        Name::Extension => Ok(Task::Extension),
-        Name::Normalize => Ok(Task::Normalize),
-        Name::Clean => Ok(Task::Clean),
-        Name::Join | Name::Relative => Err(Misuse::Missing("BASE")),
-        Name::Absolute => Err(Misuse::Missing("DIR")),
-        Name::Convert => Err(Misuse::Missing("platform to convert to")),
+        Name::Components => Task::Components,
+        Name::Parent => Task::Parent,
+        Name::Name => Task::Name,
+        Name::Stem => Task::Stem,
+        Name::Extension => Task::Extension,
+        Name::Normalize => Task::Normalize,
+        Name::Clean => Task::Clean,
+        Name::Join | Name::Relative | Name::Absolute | Name::Convert => unreachable!(),
     }
 }
 
-/// The task of this name with an operand. Only `join` is checked.
-#[tactic(auto, using(crate::proofs::lemmas::Surplus::surplus_unneeded))]
+/// The task of this name, which needs an operand. Only `join` is checked.
 fn with_operand<'a>(
     given: Line<'_, 'a>,
+    after_end: usize,
     name: Name,
     is_checked: bool,
     os: Os,
     operand: &'a str,
 ) -> Result<Task<'a>, Misuse<'a>>
-    requires operands { HasOperands given.now name os (operand.now ∷ []) }
+    requires needed { needed_count name ≡ 1 }
+    requires operands { HasOneOperand after_end given.now name os operand.now }
     requires join { is_checked ≡ true → name ≡ JoinName }
     requires checked { is_checked ≡ true → HasOption Checked given.now }
     ensures task { IfOk result (λ task. IsTaskOf name is_checked os (operand.now ∷ []) task) }
-    ensures misuse { IfErr result (λ misuse. IsMisuse given.entry.now misuse) }
+    ensures misuse { IfErr result (λ misuse. IsMisuse after_end given.entry.now misuse) }
 {
     match name {
         Name::Join => {
             if is_checked {
-                return checked_join(given, os, operand);
+                return checked_join(given, after_end, os, operand);
             }
             Ok(Task::Join(operand))
         }
@@ -282,7 +381,7 @@ fn with_operand<'a>(
         | Name::Stem
         | Name::Extension
         | Name::Normalize
-        | Name::Clean => Err(surplus(operand)),
+        | Name::Clean => unreachable!(),
     }
 }
 
@@ -294,11 +393,16 @@ fn is_absolute_on(os: Os, directory: &str) -> bool
 }
 
 /// The task that joins paths to a base, which is tested.
-fn checked_join<'a>(given: Line<'_, 'a>, os: Os, operand: &'a str) -> Result<Task<'a>, Misuse<'a>>
-    requires operands { HasOperands given.now JoinName os (operand.now ∷ []) }
+fn checked_join<'a>(
+    given: Line<'_, 'a>,
+    after_end: usize,
+    os: Os,
+    operand: &'a str,
+) -> Result<Task<'a>, Misuse<'a>>
+    requires operands { HasOneOperand after_end given.now JoinName os operand.now }
     requires checked { HasOption Checked given.now }
     ensures task { IfOk result (λ task. IsTaskOf JoinName true os (operand.now ∷ []) task) }
-    ensures misuse { IfErr result (λ misuse. IsMisuse given.entry.now misuse) }
+    ensures misuse { IfErr result (λ misuse. IsMisuse after_end given.entry.now misuse) }
 {
     match Base::new(style_of(os), operand.as_bytes()) {
         Ok(base) => Ok(Task::JoinChecked(base)),

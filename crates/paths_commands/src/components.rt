@@ -8,10 +8,10 @@ ghost use Rattle.path_rules.specs.StyleRules.{main_separator};
 ghost use Rattle.paths_commands.specs.Task.{AreLines, IsAt, IsComponentsText, IsShown, IsShownOf, component_text};
 
 use crate::fault::SHOWN;
+use list_programs::lines::push_line;
 use os_path::{Component, Components, PathExt, PathStyle, Style};
 use os_quote::escape_line;
 use os_str_bytes::{OsStr, Path, Platform};
-use program_frame::lists::lines::push_line;
 use std::alloc::{AllocError, Allocator};
 use std::fmt::InlineText;
 

@@ -4,13 +4,13 @@ ghost use Rattle.std.specs.Fmt.{WritesStyledOnOk};
 ghost use Rattle.std.specs.Fmt.InlineText.{inline_text};
 ghost use Rattle.paths_commands.specs.Fault.{IsOfMisuse, at_fault_text, from_one, numbered, quoted, result_text, unlike_text};
 
+use list_programs::fault::ItemRejection;
+use list_programs::misuse::Misuse;
+use list_programs::options::ItemEnd;
+use list_programs::program_fault;
+use list_programs::program_fault::WordsRejection;
 use os_path::{AbsoluteError, NameError};
 use os_str_bytes::{EncodingError, write_number};
-use program_frame::lists::fault::ItemRejection;
-use program_frame::lists::options::ItemEnd;
-use program_frame::lists::program_fault;
-use program_frame::lists::program_fault::WordsRejection;
-use program_frame::misuse::Misuse;
 use std::fmt;
 use std::fmt::{Display as _, InlineText};
 
@@ -47,7 +47,7 @@ pub enum Rejection {
 /// How many bytes the text of a misuse may have; a longer one is cut, and ends in three dots.
 pub const ROOM: usize = 400;
 
-/// Why the program ends, beside what [`ListFault`](program_frame::lists::fault::ListFault) states.
+/// Why the program ends, beside what [`ListFault`](list_programs::fault::ListFault) states.
 #[derive(Clone, Copy)]
 pub enum CommandFault {
     /// The arguments aren't available: one of them isn't valid UTF-8.
@@ -63,7 +63,7 @@ impl CommandFault {
     ///
     /// ```
     /// use paths_commands::fault::{CommandFault, Fault};
-    /// use program_frame::misuse::Misuse;
+    /// use list_programs::misuse::Misuse;
     ///
     /// let fault: Fault = Fault::Words(CommandFault::of(Misuse::Missing("BASE")));
     /// let text = "missing BASE; paths --help lists the commands";
@@ -186,17 +186,10 @@ fn write_quoted<W: fmt::Write>(text: &str, f: &mut fmt::Formatter<W>) -> fmt::Re
 
 impl WordsRejection for CommandFault {
     ghost use Rattle.paths_commands.specs.Fault.{words_status, words_text};
-    ghost use Rattle.paths_commands.specs.declared.fault.CommandFault.{CommandFault};
-
-    ghost usage = { CommandFault.Unreadable };
 
     ghost text_of = { words_text };
 
     ghost status_of = { words_status };
-
-    fn usage() -> CommandFault {
-        CommandFault::Unreadable
-    }
 
     fn status(&self) -> u8 {
         match self {

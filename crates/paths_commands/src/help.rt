@@ -7,31 +7,36 @@ pub const VERSION: &str = "paths 0.3.0\n";
 pub const HELP: &str = "\
 paths: lists of paths, taken apart and built path by path
 
-  find . -print0 | paths parent unix | sort -zu            the folders, each once
-  find . -print0 | paths relative unix . --keep-going      how each is reached from here
-  paths join --checked unix /srv/a --keep-going <names     names from outside, below /srv/a
+  find . -print0 | paths parent | sort -zu                 the folders, each once
+  find . -print0 | paths relative . --keep-going           how each is reached from here
+  paths join --checked /srv/a --keep-going <names          names from outside, below /srv/a
+  paths parent --lines -- \"$p\"                            the folder of one path
 
-paths components PLATFORM          writes the escape of each component on a line, then an empty line
-paths parent     PLATFORM          writes the path without its last component
-paths name       PLATFORM          writes the last component, where that is a name
-paths stem       PLATFORM          writes that name without its extension
-paths extension  PLATFORM          writes the extension of that name
-paths normalize  PLATFORM          writes the path without . and ..; a .. takes the name before it away, and a
+paths components [PLATFORM]        writes the escape of each component on a line, then an empty line
+paths parent     [PLATFORM]        writes the path without its last component
+paths name       [PLATFORM]        writes the last component, where that is a name
+paths stem       [PLATFORM]        writes that name without its extension
+paths extension  [PLATFORM]        writes the extension of that name
+paths normalize  [PLATFORM]        writes the path without . and ..; a .. takes the name before it away, and a
                                    path with a .. that has none is rejected
-paths clean      PLATFORM          as normalize, but such a .. stays, or goes at a root
-paths join       PLATFORM BASE     writes the path after BASE; one with a root or a prefix replaces BASE, and ..
+paths clean      [PLATFORM]        as normalize, but such a .. stays, or goes at a root
+paths join       [PLATFORM] BASE   writes the path after BASE; one with a root or a prefix replaces BASE, and ..
                                    may leave it
-paths join --checked PLATFORM BASE writes the path below BASE, and rejects one that could leave it
-paths relative   PLATFORM BASE     writes the path as it is reached from BASE, which is . for BASE itself, and
+paths join --checked [PLATFORM] BASE
+                                   writes the path below BASE, and rejects one that could leave it
+paths relative   [PLATFORM] BASE   writes the path as it is reached from BASE, which is . for BASE itself, and
                                    rejects one that no path leads to
-paths absolute   PLATFORM DIR      writes the path as an absolute path, below DIR if it is relative, and rejects one
+paths absolute   [PLATFORM] DIR    writes the path as an absolute path, below DIR if it is relative, and rejects one
                                    that can't be made absolute
 paths convert    PLATFORM TO       writes the path of the platform TO with the same components, and rejects one
                                    with a component that TO can't have
 
 Each reads paths that are ended by NUL, the last one too. Each writes one result for a path, ended by NUL,
-which is empty where the path has no such part. PLATFORM and TO are unix, windows or wasm. Options may stand
-anywhere; -- ends them.
+which is empty where the path has no such part. PLATFORM and TO are unix, windows or wasm. If PLATFORM is left
+out it is unix, so a BASE of one of these names comes after PLATFORM.
+
+Options may stand anywhere; -- ends them. The operands that come after -- and aren't BASE, DIR or TO are the
+paths, and nothing is read. PLATFORM isn't among them if the command comes before --.
 
   --checked        join: for names from outside, as in an archive or a request
   --lines          a newline ends each path that is read and each result, and not NUL; a path with a NUL, or a

@@ -1,6 +1,6 @@
 //! What is written for one path.
 ghost use Rattle.std.specs.Prelude.{◌≡◌, ◌≢◌, ◌⊎◌, ◌∷◌, ◌++◌, ◌≤◌, [], ℕ, List, Some, None, OnOk, OnErr, IfOk, IfErr, drop, length, take};
-ghost use Rattle.program_frame.specs.declared.lists.fault.ItemFault.TheVariants.{Rejected, Memory};
+ghost use Rattle.list_programs.specs.declared.fault.ItemFault.TheVariants.{Rejected, Memory};
 ghost use Rattle.path_building.specs.Cleaned.{IsCleaned};
 ghost use Rattle.path_building.specs.FullPath.{IsFullPath, IsAbsoluteFault};
 ghost use Rattle.path_building.specs.Join.{IsJoin};
@@ -9,51 +9,48 @@ ghost use Rattle.path_building.specs.Relative.{IsRelativeFrom};
 ghost use Rattle.path_building.specs.Restyled.{IsRestyled};
 ghost use Rattle.path_building.specs.declared.full_paths.AbsoluteError.{AbsoluteError as DeclaredError};
 ghost use Rattle.path_building.specs.declared.full_paths.AbsoluteError.TheVariants as absolute_error;
-ghost use Rattle.path_building.specs.declared.walk.NameError.TheVariants as name_error;
-ghost use Rattle.path_building.specs.BaseViews.{base_path, base_style};
 ghost use Rattle.paths_commands.specs.declared.fault.Rejection as why;
 ghost use Rattle.paths_commands.specs.declared.fault.Rejection.TheVariants.{NoNormalForm, NoRelativePath, NoAbsolutePath, ResultHas};
-ghost use Rattle.program_frame.specs.Items.{Lacks};
-ghost use Rattle.program_frame.specs.ListOptions.{byte_of};
-ghost use Rattle.program_frame.specs.Rules.{IsItemFault};
+ghost use Rattle.list_programs.specs.Items.{Lacks};
+ghost use Rattle.list_programs.specs.ListOptions.{byte_of};
+ghost use Rattle.list_programs.specs.Rules.{IsItemFault};
 ghost use Rattle.program_frame.specs.Strings.{strings};
 ghost use Rattle.paths_commands.specs.Styles.{style_of};
-ghost use Rattle.paths_commands.specs.Task.{component_of, rules_of, IsText, IsPathText, IsComponentsText, IsJoinedBelow, IsMade, IsReasonOf, IsRejection, IsUnanswered, IsUnconverted, IsUnjoined, way_text};
+ghost use Rattle.paths_commands.specs.Task.{rules_of, IsText, IsPathText, IsComponentsText, IsMade, IsRejection, IsUnanswered, IsUnconverted, way_text};
 ghost use Rattle.platform_str.specs.Strings.{path_bytes};
 
 use crate::answers::{parent, part};
+use crate::checked::write_checked;
 use crate::components::{push_components, shown_component};
 use crate::fault::Rejection;
-use crate::task::Task;
-use os_path::{AbsoluteError, ConvertError, NameError, NormalizeError, PathExt, PathStyle};
+use crate::task::{OnPlatform, Task};
+use list_programs::fault::ItemFault;
+use list_programs::items::split_at_end;
+use list_programs::options::ItemEnd;
+use os_path::{AbsoluteError, ConvertError, NormalizeError, PathExt, PathStyle};
 use os_str_bytes::{OsStr, Path, Platform, Unix, Wasm, Windows};
-use path_building::Base;
-use program_frame::lists::fault::ItemFault;
-use program_frame::lists::items::split_at_end;
-use program_frame::lists::options::{ItemEnd, ListOptions};
 use program_frame::os::Os;
-use std::alloc::{AllocError, Allocator};
+use std::alloc::Allocator;
 
 /// Appends what is written for a path.
-#[tactic(auto, using(program_frame::proofs::lemmas::lists::Items::has_end))]
+#[tactic(auto, using(list_programs::proofs::lemmas::Items::has_end))]
 pub fn write_item<E: PathStyle, A: Allocator + Copy>(
     alloc: A,
-    task: Task<'_>,
-    list: ListOptions,
+    on: &OnPlatform<'_, E>,
     item: &[u8],
     output: &mut Vec<u8, A>,
 ) -> Result<(), ItemFault<Rejection>>
     ensures ok { OnOk result ((text : List ℕ)
-        × (IsText ⟦<E as Platform>⟧ E.follows list.end task.entry item.now text
+        × (IsText ⟦<E as Platform>⟧ E.follows on.now.end on.now.task item.now text
         × (output.new.items ≡ output.old.items ++ text))) }
     ensures fault { IfErr result (λ fault.
-        IsItemFault (rules_of ⟦<E as Platform>⟧ E.follows task.entry list) item.now fault) }
+        IsItemFault (rules_of ⟦<E as Platform>⟧ E.follows on.now.task on.now.list on.now.end) item.now fault) }
     ensures unchanged { OnErr result (output.new.items ≡ output.old.items) }
 {
     match OsStr::<E>::checked(item) {
         Ok(string) => match split_at_end(0, item) {
             Some(_) => Err(ItemFault::Rejected(Rejection::HasNul)),
-            None => write_path::<E, A>(alloc, task, list.end, Path::new(string), output),
+            None => write_path::<E, A>(alloc, on.task, on.end, Path::new(string), output),
         },
         Err(error) => Err(ItemFault::Rejected(Rejection::NoString(error))),
     }
@@ -88,7 +85,7 @@ fn write_path<E: PathStyle, A: Allocator + Copy>(
 
 /// Ends what is in the output from an index on, where that lacks the byte that ends it. Otherwise
 /// takes it away.
-#[tactic(auto, using(program_frame::proofs::lemmas::lists::Items::has_end))]
+#[tactic(auto, using(list_programs::proofs::lemmas::Items::has_end))]
 fn end_result<A: Allocator>(
     start: usize,
     end: ItemEnd,
@@ -221,76 +218,6 @@ fn write_joined<E: PathStyle, A: Allocator + Copy>(
     }
 }
 
-/// Appends a path below a base.
-fn write_checked<E: PathStyle, A: Allocator + Copy>(
-    alloc: A,
-    base: Base<'_>,
-    path: Path<'_, E>,
-    output: &mut Vec<u8, A>,
-) -> Result<(), ItemFault<Rejection>>
-    ensures ok { OnOk result ((joined : List ℕ)
-        × (IsJoinedBelow base.entry (path_bytes path.entry) joined
-        × (output.new.items ≡ output.old.items ++ joined))) }
-    ensures fault { IfErr result (λ fault. (fault ≡ Memory) ⊎ ((why : why.Rejection)
-        × ((fault ≡ Rejected why) × IsUnjoined ⟦<E as Platform>⟧ E.follows base.entry
-        (path_bytes path.entry) why))) }
-    ensures unchanged { OnErr result (output.new.items ≡ output.old.items) }
-{
-    match base.join(alloc, path.as_os_str().as_encoded_bytes()) {
-        Ok(joined) => write_answer(&joined, output),
-        Err(error) => Err(unjoined::<E, A>(alloc, path, error)),
-    }
-}
-
-/// The fault of a path that isn't joined to a base.
-fn unjoined<E: PathStyle, A: Allocator>(
-    alloc: A,
-    path: Path<'_, E>,
-    error: NameError,
-) -> ItemFault<Rejection>
-    ensures { (result ≡ Memory) ⊎ ((error ≢ name_error.Memory) × ((why : why.Rejection)
-        × ((result ≡ Rejected why)
-        × IsReasonOf ⟦<E as Platform>⟧ E.follows (path_bytes path.entry) error why))) }
-{
-    match error {
-        NameError::Memory => ItemFault::Memory,
-        reason => match reason_of::<E, A>(alloc, path, reason) {
-            Ok(why) => ItemFault::Rejected(why),
-            Err(_) => ItemFault::Memory,
-        },
-    }
-}
-
-/// The reason for an error, with the component at fault, if it is one.
-fn reason_of<E: PathStyle, A: Allocator>(
-    alloc: A,
-    path: Path<'_, E>,
-    error: NameError,
-) -> Result<Rejection, AllocError>
-    ensures { IfOk result (λ why.
-        IsReasonOf ⟦<E as Platform>⟧ E.follows (path_bytes path.entry) error why) }
-{
-    match component_of(error) {
-        Some(index) => Ok(Rejection::NoJoinAt(error, shown_component::<E, A>(alloc, path, index)?)),
-        None => Ok(Rejection::NoJoin(error)),
-    }
-}
-
-/// The index of the component that is at fault. A prefix or a root is the first.
-fn component_of(error: NameError) -> Option<usize>
-    ensures { result ≡ component_of error }
-{
-    match error {
-        NameError::Nul(_) => None,
-        NameError::Prefix => Some(0),
-        NameError::Root => Some(0),
-        NameError::Leaves(index) => Some(index),
-        NameError::Stream(index) => Some(index),
-        NameError::Reserved(index) => Some(index),
-        NameError::Memory => None,
-    }
-}
-
 /// Appends a path as it is reached from a base, and `.` for the base itself.
 fn write_relative<E: PathStyle, A: Allocator + Copy>(
     alloc: A,
@@ -404,7 +331,7 @@ fn write_converted<E: PathStyle, F: PathStyle, A: Allocator + Copy>(
 }
 
 /// Appends a result.
-fn write_answer<A: Allocator>(
+pub fn write_answer<A: Allocator>(
     answer: &[u8],
     output: &mut Vec<u8, A>,
 ) -> Result<(), ItemFault<Rejection>>

@@ -4,9 +4,9 @@ ghost use Rattle.os_args.specs.Word.{Long, Short};
 ghost use Rattle.paths_commands.specs.Options.{spelled};
 ghost use Rattle.paths_commands.specs.declared.option.PathsOption.{PathsOption};
 
+use list_programs::arguments::ProgramOption;
 use os_args::Word;
 use os_str_bytes::{OsStr, Wasm};
-use program_frame::arguments::ProgramOption;
 
 /// An option of the program.
 #[derive(Clone, Copy, PartialEq, Eq)]

@@ -1,33 +1,36 @@
 //! The whole program, over ends of any kind.
-ghost use Rattle.std.specs.Prelude.{◌≡◌, false, IfErr};
-ghost use Rattle.program_frame.specs.ListRun.{Runs};
+ghost use Rattle.std.specs.Prelude.{◌≡◌, map, string_bytes, false, IfErr};
+ghost use Rattle.list_programs.specs.Arguments.{operands_of};
+ghost use Rattle.list_programs.specs.ListRun.{Runs};
 ghost use Rattle.program_frame.specs.Marked.{marked_inner, has_failed};
-ghost use Rattle.program_frame.specs.ProgramFault.{BlamesEnds, EndsRunOf};
-ghost use Rattle.program_frame.specs.Rules.{passing};
-ghost use Rattle.program_frame.specs.declared.lists.program_fault.Fault.TheVariants.{List as OfList};
-ghost use Rattle.paths_commands.specs.Program.{Does, IsAfter, RunsLine, RunsPast, rules_on};
+ghost use Rattle.list_programs.specs.ProgramFault.{BlamesEnds, EndsRunOf};
+ghost use Rattle.list_programs.specs.Rules.{passing};
+ghost use Rattle.list_programs.specs.declared.program_fault.Fault.TheVariants.{List as OfList};
+ghost use Rattle.paths_commands.specs.Command.{AreAfterEnd};
+ghost use Rattle.paths_commands.specs.Program.{Does, IsAfter, RunsLine, RunsOver, RunsPast, RunsTask, rules_on};
 
-use crate::command::Command;
+use crate::command::{Command, Line};
 use crate::fault::{CommandFault, Fault, Rejection};
+use crate::given::run_given;
 use crate::help::{HELP, VERSION};
 use crate::option::PathsOption;
 use crate::task::{OnPlatform, Task};
+use list_programs::answers::{run_list_with, write_help};
+use list_programs::arguments::{Given, ReadFault, next_operand, read_arguments};
+use list_programs::fault::ListFault;
+use list_programs::misuse::Misuse;
+use list_programs::options::{ItemEnd, ListOptions};
+use list_programs::rejections::{KeepGoing, Rejections, Stop};
 use os_str_bytes::{Unix, Wasm, Windows};
-use program_frame::arguments::{Given, ReadFault, read_arguments};
 use program_frame::fault::Failure;
-use program_frame::lists::answers::{run_list_with, write_help};
-use program_frame::lists::fault::ListFault;
-use program_frame::lists::options::ListOptions;
-use program_frame::lists::program::ListProgram;
-use program_frame::lists::rejections::{KeepGoing, Rejections, Stop};
 use program_frame::marked::Marked;
-use program_frame::misuse::Misuse;
 use program_frame::os::Os;
+use program_frame::program::Program;
 use std::alloc::Allocator;
 use std::io::{Eprint, Read, Write};
 
 /// The program `paths`: its arguments are those of a command ([`Command::parse`]).
-/// [`program_frame::lists::program::execute`] runs it.
+/// [`program_frame::program::execute`] runs it.
 #[derive(Drop)]
 pub struct Paths<'a, P> {
     errors: &'a P,
@@ -39,7 +42,7 @@ impl<'a, P: Eprint> Paths<'a, P> {
     /// ```
     /// use paths_commands::fault::{CommandFault, Fault};
     /// use paths_commands::program::Paths;
-    /// use program_frame::lists::program::ListProgram;
+    /// use program_frame::program::Program;
     /// use program_frame::marked::Marked;
     ///
     /// let mut taken = Vec::new(alloc);
@@ -52,20 +55,36 @@ impl<'a, P: Eprint> Paths<'a, P> {
     }
 }
 
-impl<'a, P: Eprint> ListProgram for Paths<'a, P> {
-    type Rejection = Rejection;
-
-    type Words = CommandFault;
+impl<'a, P: Eprint> Program for Paths<'a, P> {
+    type Fault = Fault;
 
     ghost use Rattle.std.specs.Prelude.{codes};
+    ghost use Rattle.list_programs.specs.ProgramFault.{DoneBetween};
+    ghost use Rattle.list_programs.specs.declared.program_fault.Fault.TheVariants.{List as OfList, Words};
+    ghost use Rattle.list_programs.specs.declared.fault.ListFault.TheVariants.{Run};
+    ghost use Rattle.program_frame.specs.declared.fault.Failure.TheVariants.{Memory};
     ghost use Rattle.paths_commands.specs.Program.{RunsTo};
+    ghost use Rattle.paths_commands.specs.declared.fault.CommandFault.TheVariants.{Unreadable};
 
     ghost name = { codes "paths" };
 
-    ghost runs_to = { λ _ _. RunsTo };
+    ghost unreadable = { Words Unreadable };
+
+    ghost out_of_memory = { OfList (Run Memory) };
+
+    ghost runs_to = { λ _ _ words R W remaining contents.
+        DoneBetween remaining contents (RunsTo words) };
 
     fn name() -> &'static str {
         "paths"
+    }
+
+    fn unreadable() -> Fault {
+        Fault::Words(CommandFault::Unreadable)
+    }
+
+    fn out_of_memory() -> Fault {
+        Fault::List(ListFault::Run(Failure::Memory))
     }
 
     fn run_words<A: Allocator + Copy, R: Read, W: Write>(
@@ -76,7 +95,7 @@ impl<'a, P: Eprint> ListProgram for Paths<'a, P> {
         writer: &mut Marked<W>,
     ) -> Result<(), Fault> {
         match read_arguments::<PathsOption, A>(alloc, words) {
-            Ok(given) => run_line(alloc, self.errors, &given, reader, writer),
+            Ok(given) => run_line(alloc, self.errors, &given, after_end(words), reader, writer),
             Err(ReadFault::Misuse(error)) => {
                 Err(Fault::Words(CommandFault::of(Misuse::Argument(error))))
             }
@@ -85,32 +104,47 @@ impl<'a, P: Eprint> ListProgram for Paths<'a, P> {
     }
 }
 
-/// Returns the result for options and operands.
+/// How many arguments come after the first `--`.
+fn after_end(words: &[String]) -> usize
+    ensures { AreAfterEnd (map string_bytes words.entry.now) result }
+{
+    let mut left = words;
+    while let Some((word, rest)) = left.split_first() {
+        if word.as_str() == "--" {
+            return rest.len();
+        }
+        left = rest;
+    }
+    0
+}
+
+/// Returns the result for options and operands, of which the last come after `--`.
 fn run_line<P: Eprint, A: Allocator + Copy, R: Read, W: Write>(
     alloc: A,
     errors: &P,
-    given: &[Given<'_, PathsOption>],
+    given: Line<'_, '_>,
+    after_end: usize,
     reader: &mut Marked<R>,
     writer: &mut Marked<W>,
 ) -> Result<(), Fault>
     requires reader_unmarked { has_failed reader.old ≡ false }
     requires writer_unmarked { has_failed writer.old ≡ false }
-    ensures run { RunsLine given.now (R.remaining (marked_inner reader.old))
+    ensures run { RunsLine after_end given.now (R.remaining (marked_inner reader.old))
         (R.remaining (marked_inner reader.new)) (W.contents (marked_inner writer.old))
         (W.contents (marked_inner writer.new)) result }
     ensures ends { BlamesEnds result (has_failed reader.new) (has_failed writer.new) }
 {
-    match Command::parse(given) {
+    match Command::parse(given, after_end) {
         Ok(command) => run_command(alloc, errors, command, reader, writer),
         Err(misuse) => Err(Fault::Words(CommandFault::of(misuse))),
     }
 }
 
 /// Returns the result of the run of a command.
-fn run_command<P: Eprint, A: Allocator, R: Read, W: Write>(
+fn run_command<P: Eprint, A: Allocator + Copy, R: Read, W: Write>(
     alloc: A,
     errors: &P,
-    command: Command<'_>,
+    command: Command<'_, '_>,
     reader: &mut Marked<R>,
     writer: &mut Marked<W>,
 ) -> Result<(), Fault>
@@ -122,20 +156,28 @@ fn run_command<P: Eprint, A: Allocator, R: Read, W: Write>(
     ensures ends { BlamesEnds result (has_failed reader.new) (has_failed writer.new) }
 {
     match command {
-        Command::Ask(task, os, list, true) => run_past(
-            alloc, errors, os, task, list, reader, writer,
-        ),
-        Command::Ask(task, os, list, false) => run_to_rejection(
-            alloc, os, task, list, reader, writer,
+        Command::Ask(task, os, list, keeps_going, paths) => run_over(
+            alloc,
+            errors,
+            paths,
+            keeps_going,
+            os,
+            task,
+            list,
+            reader,
+            writer,
         ),
         Command::Help => write_help(HELP, writer),
         Command::Version => write_help(VERSION, writer),
     }
 }
 
-/// Returns the result of the run that ends at the first path that is rejected.
-fn run_to_rejection<A: Allocator, R: Read, W: Write>(
+/// Returns the result of the run over the paths that are given, or else over those that are read.
+fn run_over<P: Eprint, A: Allocator + Copy, R: Read, W: Write>(
     alloc: A,
+    errors: &P,
+    paths: Line<'_, '_>,
+    keeps_going: bool,
     os: Os,
     task: Task<'_>,
     list: ListOptions,
@@ -144,12 +186,79 @@ fn run_to_rejection<A: Allocator, R: Read, W: Write>(
 ) -> Result<(), Fault>
     requires reader_unmarked { has_failed reader.old ≡ false }
     requires writer_unmarked { has_failed writer.old ≡ false }
-    ensures run { Runs (rules_on os task.entry list) OfList
+    ensures run { RunsOver (operands_of paths.entry.now) keeps_going os task.entry list
         (R.remaining (marked_inner reader.old)) (R.remaining (marked_inner reader.new))
         (W.contents (marked_inner writer.old)) (W.contents (marked_inner writer.new)) result }
     ensures ends { BlamesEnds result (has_failed reader.new) (has_failed writer.new) }
 {
-    run_on(alloc, os, task, list, &mut Stop, reader, writer)
+    match next_operand(paths) {
+        None => run_task(
+            alloc,
+            errors,
+            keeps_going,
+            os,
+            task,
+            list,
+            list.end,
+            reader,
+            writer,
+        ),
+        Some(_) => run_given(
+            alloc,
+            errors,
+            paths,
+            keeps_going,
+            os,
+            task,
+            list.end,
+            writer,
+        ),
+    }
+}
+
+/// Returns the result of the run of a task, where rejected paths may be passed over.
+pub(crate) fn run_task<P: Eprint, A: Allocator, R: Read, W: Write>(
+    alloc: A,
+    errors: &P,
+    keeps_going: bool,
+    os: Os,
+    task: Task<'_>,
+    list: ListOptions,
+    end: ItemEnd,
+    reader: &mut Marked<R>,
+    writer: &mut Marked<W>,
+) -> Result<(), Fault>
+    requires reader_unmarked { has_failed reader.old ≡ false }
+    requires writer_unmarked { has_failed writer.old ≡ false }
+    ensures run { RunsTask keeps_going os task.entry list end
+        (R.remaining (marked_inner reader.old)) (R.remaining (marked_inner reader.new))
+        (W.contents (marked_inner writer.old)) (W.contents (marked_inner writer.new)) result }
+    ensures ends { BlamesEnds result (has_failed reader.new) (has_failed writer.new) }
+{
+    if keeps_going {
+        return run_past(alloc, errors, os, task, list, end, reader, writer);
+    }
+    run_to_rejection(alloc, os, task, list, end, reader, writer)
+}
+
+/// Returns the result of the run that ends at the first path that is rejected.
+fn run_to_rejection<A: Allocator, R: Read, W: Write>(
+    alloc: A,
+    os: Os,
+    task: Task<'_>,
+    list: ListOptions,
+    end: ItemEnd,
+    reader: &mut Marked<R>,
+    writer: &mut Marked<W>,
+) -> Result<(), Fault>
+    requires reader_unmarked { has_failed reader.old ≡ false }
+    requires writer_unmarked { has_failed writer.old ≡ false }
+    ensures run { Runs (rules_on os task.entry list end) OfList
+        (R.remaining (marked_inner reader.old)) (R.remaining (marked_inner reader.new))
+        (W.contents (marked_inner writer.old)) (W.contents (marked_inner writer.new)) result }
+    ensures ends { BlamesEnds result (has_failed reader.new) (has_failed writer.new) }
+{
+    run_on(alloc, os, task, list, end, &mut Stop, reader, writer)
 }
 
 /// Returns the result of the run that passes over the paths that are rejected.
@@ -159,18 +268,19 @@ fn run_past<P: Eprint, A: Allocator, R: Read, W: Write>(
     os: Os,
     task: Task<'_>,
     list: ListOptions,
+    end: ItemEnd,
     reader: &mut Marked<R>,
     writer: &mut Marked<W>,
 ) -> Result<(), Fault>
     requires reader_unmarked { has_failed reader.old ≡ false }
     requires writer_unmarked { has_failed writer.old ≡ false }
-    ensures run { RunsPast (rules_on os task.entry list)
+    ensures run { RunsPast (rules_on os task.entry list end)
         (R.remaining (marked_inner reader.old)) (R.remaining (marked_inner reader.new))
         (W.contents (marked_inner writer.old)) (W.contents (marked_inner writer.new)) result }
     ensures ends { BlamesEnds result (has_failed reader.new) (has_failed writer.new) }
 {
     let mut rejections = KeepGoing::new("paths", errors);
-    let ran = run_on(alloc, os, task, list, &mut rejections, reader, writer);
+    let ran = run_on(alloc, os, task, list, end, &mut rejections, reader, writer);
     after(rejections.count(), ran)
 }
 
@@ -195,13 +305,15 @@ fn run_on<N: Rejections<Rejection>, A: Allocator, R: Read, W: Write>(
     os: Os,
     task: Task<'_>,
     list: ListOptions,
+    end: ItemEnd,
     rejections: &mut N,
     reader: &mut Marked<R>,
     writer: &mut Marked<W>,
 ) -> Result<(), Fault>
     requires reader_unmarked { has_failed reader.old ≡ false }
     requires writer_unmarked { has_failed writer.old ≡ false }
-    ensures run { Runs (passing (N.passed rejections.new) (rules_on os task.entry list)) OfList
+    ensures run { Runs (passing (N.passed rejections.new) (rules_on os task.entry list end))
+        OfList
         (R.remaining (marked_inner reader.old)) (R.remaining (marked_inner reader.new))
         (W.contents (marked_inner writer.old)) (W.contents (marked_inner writer.new)) result }
     ensures stops { IfErr result (λ fault. EndsRunOf N.stops fault) }
@@ -210,21 +322,21 @@ fn run_on<N: Rejections<Rejection>, A: Allocator, R: Read, W: Write>(
     match os {
         Os::Unix => run_list_with(
             alloc,
-            &OnPlatform::<Unix>::new(task, list),
+            &OnPlatform::<Unix>::ended(task, list, end),
             rejections,
             reader,
             writer,
         ),
         Os::Windows => run_list_with(
             alloc,
-            &OnPlatform::<Windows>::new(task, list),
+            &OnPlatform::<Windows>::ended(task, list, end),
             rejections,
             reader,
             writer,
         ),
         Os::Wasm => run_list_with(
             alloc,
-            &OnPlatform::<Wasm>::new(task, list),
+            &OnPlatform::<Wasm>::ended(task, list, end),
             rejections,
             reader,
             writer,

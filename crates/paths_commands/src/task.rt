@@ -4,12 +4,12 @@ ghost use Rattle.paths_commands.specs.Task.{rules_of};
 
 use crate::fault::Rejection;
 use crate::item::write_item;
+use list_programs::fault::ItemFault;
+use list_programs::options::{ItemEnd, ListOptions};
+use list_programs::task::ListTask;
 use os_path::PathStyle;
 use os_str_bytes::Platform;
 use path_building::Base;
-use program_frame::lists::fault::ItemFault;
-use program_frame::lists::options::{ItemEnd, ListOptions};
-use program_frame::lists::task::ListTask;
 use program_frame::os::Os;
 use std::alloc::Allocator;
 use std::marker::PhantomData;
@@ -52,19 +52,21 @@ pub enum Task<'a> {
 pub struct OnPlatform<'a, E> {
     /// What the program writes for each path.
     pub task: Task<'a>,
-    /// The byte that ends each path and each result, whether the last path may lack it, and how many
-    /// bytes a path may have.
+    /// The byte that ends each path, whether the last path may lack it, and how many bytes a path may
+    /// have.
     pub list: ListOptions,
+    /// The byte that ends each result.
+    pub end: ItemEnd,
     platform: PhantomData<E>,
 }
 
 impl<'a, E> OnPlatform<'a, E> {
-    /// The task for paths of the platform, in a list that is written so.
+    /// The task for paths of the platform, in a list that is written so, as are the results.
     ///
     /// ```
     /// use os_str_bytes::Unix;
     /// use paths_commands::task::{OnPlatform, Task};
-    /// use program_frame::lists::options::ListOptions;
+    /// use list_programs::options::ListOptions;
     ///
     /// let list = ListOptions::new(255);
     /// assert_eq!(rt; OnPlatform::<Unix>::new(Task::Parent, list).list.max, 255);
@@ -72,10 +74,32 @@ impl<'a, E> OnPlatform<'a, E> {
     pub fn new(task: Task<'a>, list: ListOptions) -> OnPlatform<'a, E>
         ensures task { result.task ≡ task.entry }
         ensures list { result.list ≡ list }
+        ensures end { result.end ≡ list.end }
+    {
+        OnPlatform::ended(task, list, list.end)
+    }
+
+    /// The task for paths of the platform, in a list that is written so, where this byte ends each
+    /// result.
+    ///
+    /// ```
+    /// use os_str_bytes::Unix;
+    /// use paths_commands::task::{OnPlatform, Task};
+    /// use list_programs::options::{ItemEnd, ListOptions};
+    ///
+    /// let list = ListOptions::new(255);
+    /// let task = OnPlatform::<Unix>::ended(Task::Parent, list, ItemEnd::Newline);
+    /// assert!(rt; task.end == ItemEnd::Newline && task.list.end == ItemEnd::Nul);
+    /// ```
+    pub fn ended(task: Task<'a>, list: ListOptions, end: ItemEnd) -> OnPlatform<'a, E>
+        ensures task { result.task ≡ task.entry }
+        ensures list { result.list ≡ list }
+        ensures end { result.end ≡ end }
     {
         OnPlatform {
             task,
             list,
+            end,
             platform: PhantomData,
         }
     }
@@ -86,7 +110,7 @@ impl<'a, E: PathStyle> ListTask for OnPlatform<'a, E> {
 
     type Memory = ();
 
-    ghost rules = { λ on. rules_of ⟦<E as Platform>⟧ E.follows on.task on.list };
+    ghost rules = { λ on. rules_of ⟦<E as Platform>⟧ E.follows on.task on.list on.end };
 
     ghost remembers = { λ _ _. Unit {0} };
 
@@ -115,6 +139,6 @@ impl<'a, E: PathStyle> ListTask for OnPlatform<'a, E> {
         item: &[u8],
         output: &mut Vec<u8, A>,
     ) -> Result<(), ItemFault<Rejection>> {
-        write_item::<E, A>(alloc, self.task, self.list, item, output)
+        write_item::<E, A>(alloc, self, item, output)
     }
 }

@@ -1,5 +1,2 @@
-pub mod lists
-pub mod Arguments
 pub mod Pieces
 pub mod Results
-pub mod Values

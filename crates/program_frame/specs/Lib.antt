@@ -5,13 +5,4 @@ pub mod Written
 pub mod Os
 pub mod Strings
 pub mod Words
-pub mod Arguments
-pub mod Misuse
 pub mod Ended
-pub mod ListOptions
-pub mod Items
-pub mod Rules
-pub mod Reading
-pub mod ListRun
-pub mod ListFault
-pub mod ProgramFault

@@ -40,7 +40,8 @@ pub trait Files {
     /// ```
     fn read<A: Allocator>(&self, alloc: A, name: &str) -> Result<Vec<u8, A>, FileFault>
         ensures bytes { IfOk result (λ bytes. (known self.now).has name.now bytes.items) }
-        ensures no_file { result ≡ Err FileFault.NoFile → (known self.now).lacks name.now };
+        ensures no_file { result ≡ Err FileFault.NoFile → (known self.now).lacks name.now }
+        ensures failed { result ≡ Err FileFault.Read → (known self.now).fails name.now };
 }
 
 /// The files of the runtime. No proof knows anything about them: a name may have a file at one time

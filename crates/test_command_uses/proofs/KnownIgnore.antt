@@ -376,9 +376,9 @@ module _ (A : Type 0) (file bytes name : List ℕ) (plain : Lacks 0x3D file) (wh
   written answer (inr (inl unread)) = err_written answer _ unread.2.0
   written answer (inr (inr ran)) = subst Written (sym ran.2.1.1) (run_written ran.0 ran.1 ran.2.0 ran.2.1.0)
 
--- the file can't be read, or memory is refused, and nothing is read or written
+-- there is no such file, or memory is refused, and nothing is read or written
 pub record EndsUnread (input left old new : Option (List ℕ)) (answer : Result ⊤ Fault) : Type 0 where
-  pub fault : ((answer ≡ Err (Words (NoFile 1))) ⊎ (answer ≡ Err (Words (Unread 1)))) ⊎ (answer ≡ Err (OfList (Run Memory)))
+  pub fault : (answer ≡ Err (Words (NoFile 1))) ⊎ (answer ≡ Err (OfList (Run Memory)))
   pub kept : left ≡ input
   pub nothing : new ≡ old
 
@@ -391,8 +391,8 @@ module _ (A : Type 0) (file bytes other : List ℕ) (plain : Lacks 0x3D other) (
   by_fault Unreadable f ends = absurd f
   by_fault (Misuse text) f ends = absurd f
   by_fault (Pattern number fault lines) f ends = absurd f
-  by_fault (NoFile number) f ends = record { fault = inl (inl (ends.0 ∙ ap (λ n. Err (Words (NoFile n))) (number_one number f.0 f.1))); kept = ends.1.0; nothing = ends.1.1 }
-  by_fault (Unread number) f ends = record { fault = inl (inr (ends.0 ∙ ap (λ n. Err (Words (Unread n))) (number_one number f.0 f.1))); kept = ends.1.0; nothing = ends.1.1 }
+  by_fault (NoFile number) f ends = record { fault = inl (ends.0 ∙ ap (λ n. Err (Words (NoFile n))) (number_one number f.0 f.1)); kept = ends.1.0; nothing = ends.1.1 }
+  by_fault (Unread number) f ends = absurd f.2.2.1
 
   pub ends_unread : Filters (only file bytes) A other input left old new answer → EndsUnread input left old new answer
   ends_unread (inl memory) = record { fault = inr memory.0; kept = memory.1.0; nothing = memory.1.1 }
@@ -426,11 +426,10 @@ module _ (one_word : OneWord) (one_value : OneValue) (A : Type 0) (file bytes na
   program_unended outcome answer some e (inl memory) = not_err A file bytes name whole some left old new answer _ (e ∙ memory.0)
   program_unended outcome answer some e (inr runs) = λ ok. not_written A file bytes name whole some left old new outcome (filters one_word one_value (only file bytes) A file words (Some name) left old new outcome words_are runs) (subst IsOk e ok)
 
--- the status where the file can't be read
+-- the status where there is no such file
 pub status_unread : (outcome answer : Result ⊤ Fault) (status : ℕ) → answer ≡ outcome → status ≡ status_after (status_of words_status) outcome
-    → ((outcome ≡ Err (Words (NoFile 1))) ⊎ (outcome ≡ Err (Words (Unread 1)))) ⊎ (outcome ≡ Err (OfList (Run Memory))) → IsUnread answer status
-status_unread outcome answer status e s (inl (inl none)) = inl (inl (e ∙ none), s ∙ ap (status_after (status_of words_status)) none)
-status_unread outcome answer status e s (inl (inr failed)) = inl (inr (e ∙ failed), s ∙ ap (status_after (status_of words_status)) failed)
+    → (outcome ≡ Err (Words (NoFile 1))) ⊎ (outcome ≡ Err (OfList (Run Memory))) → IsUnread answer status
+status_unread outcome answer status e s (inl none) = inl (e ∙ none, s ∙ ap (status_after (status_of words_status)) none)
 status_unread outcome answer status e s (inr memory) = inr (e ∙ memory, s ∙ ap (status_after (status_of words_status)) memory)
 
 -- how the whole program ends then: memory may be refused before it runs

@@ -38,27 +38,27 @@ same_base e = cc
 
 module _ {E : Type 0} (p : Ghosts E) (style : Style) (task : Task) (end : ItemEnd) (max : ℕ) where
   -- what is written for one path
-  known_text : (path output : List ℕ) → Lacks (byte_of end) path → path ≢ [] → IsOutput (rules_of p style task (lacking end max)) path output → IsPathText p style end task path output
+  known_text : (path output : List ℕ) → Lacks (byte_of end) path → path ≢ [] → IsOutput (rules_of p style task (lacking end max) end) path output → IsPathText p style end task path output
   known_text path output l some o =
-      let one = one_item (rules_of p style task (lacking end max)) o.entries path l some o.items in
-      let entry = (subst (λ es. AllByRecursion (IsEntry (rules_of p style task (lacking end max))) es) one.1 o.are).0 in
+      let one = one_item (rules_of p style task (lacking end max) end) o.entries path l some o.items in
+      let entry = (subst (λ es. AllByRecursion (IsEntry (rules_of p style task (lacking end max) end)) es) one.1 o.are).0 in
       let is : output ≡ one.0 = o.written ∙ ap texts_of one.1 ∙ append-nil one.0 in
       subst (IsPathText p style end task path) (sym is) entry.text.1.1
 
   -- a path with a NUL isn't read
-  pub known_whole : (path output : List ℕ) → Lacks (byte_of end) path → path ≢ [] → IsOutput (rules_of p style task (lacking end max)) path output → Lacks 0 path
+  pub known_whole : (path output : List ℕ) → Lacks (byte_of end) path → path ≢ [] → IsOutput (rules_of p style task (lacking end max) end) path output → Lacks 0 path
   known_whole path output l some o =
-      let one = one_item (rules_of p style task (lacking end max)) o.entries path l some o.items in
-      (subst (λ es. AllByRecursion (IsEntry (rules_of p style task (lacking end max))) es) one.1 o.are).0.text.1.0
+      let one = one_item (rules_of p style task (lacking end max) end) o.entries path l some o.items in
+      (subst (λ es. AllByRecursion (IsEntry (rules_of p style task (lacking end max) end)) es) one.1 o.are).0.text.1.0
 
-  pub known_answer : (path output : List ℕ) → task ≢ Components → Lacks (byte_of end) path → path ≢ [] → IsOutput (rules_of p style task (lacking end max)) path output → (answer : List ℕ) × (IsAnswer style task path answer × (Lacks (byte_of end) answer × (output ≡ answer ++ byte_of end ∷ [])))
+  pub known_answer : (path output : List ℕ) → task ≢ Components → Lacks (byte_of end) path → path ≢ [] → IsOutput (rules_of p style task (lacking end max) end) path output → (answer : List ℕ) × (IsAnswer style task path answer × (Lacks (byte_of end) answer × (output ≡ answer ++ byte_of end ∷ [])))
   known_answer path output other l some o =
       ⊎_elim
       (λ components. absurd (other components.0))
       (λ answer. answer)
       (known_text path output l some o)
 
-  pub known_rejection : (path output : List ℕ) (number : ℕ) (why : Rejection) → Lacks (byte_of end) path → Stops (rules_of p style task (lacking end max)) start path output (Rejected number why) → (number ≡ 1) × IsRejection p style end task path why
+  pub known_rejection : (path output : List ℕ) (number : ℕ) (why : Rejection) → Lacks (byte_of end) path → Stops (rules_of p style task (lacking end max) end) start path output (Rejected number why) → (number ≡ 1) × IsRejection p style end task path why
   known_rejection path output number why l s = by s.entries s.item s.rest s.joined s.ended s.because
     where
       by : (es : List Entry) (item rest : List ℕ) → path ≡ items_of (byte_of end) es ++ (item ++ rest) → ((rest ≡ []) × Unit {0}) ⊎ ((more : List ℕ) × (rest ≡ byte_of end ∷ more)) → (number ≡ 0 + length es + 1) × ((length item ≤ max) × IsRejection p style end task item why)
@@ -68,7 +68,7 @@ module _ {E : Type 0} (p : Ghosts E) (style : Style) (task : Task) (end : ItemEn
       by (e ∷ es) item rest j ended f = absurd (has_end (byte_of end) e.0 (items_of (byte_of end) es ++ (item ++ rest)) (subst (Lacks (byte_of end)) (j ∙ in_prefix (byte_of end) e.0 (items_of (byte_of end) es) (item ++ rest)) l))
 
   -- a path that isn't joined to the base
-  pub known_unjoined : (base : Base) (path output : List ℕ) (number : ℕ) (why : Rejection) → task ≡ JoinChecked base → IsOfJoin why → Lacks (byte_of end) path → Stops (rules_of p style task (lacking end max)) start path output (Rejected number why)
+  pub known_unjoined : (base : Base) (path output : List ℕ) (number : ℕ) (why : Rejection) → task ≡ JoinChecked base → IsOfJoin why → Lacks (byte_of end) path → Stops (rules_of p style task (lacking end max) end) start path output (Rejected number why)
       → (number ≡ 1) × IsUnjoined p style base path why
   known_unjoined base path output number why is of_join l s = let r = known_rejection path output number why l s in (r.0, by why of_join r.1)
     where
@@ -85,7 +85,7 @@ module _ {E : Type 0} (p : Ghosts E) (style : Style) (task : Task) (end : ItemEn
       by (ResultHas byte) of r = absurd of
 
 module _ {E : Type 0} (p : Ghosts E) (style : Style) (end : ItemEnd) (max : ℕ) where
-  pub known_components : (path output : List ℕ) → Lacks (byte_of end) path → path ≢ [] → IsOutput (rules_of p style Components (lacking end max)) path output → IsComponentsText p style path output
+  pub known_components : (path output : List ℕ) → Lacks (byte_of end) path → path ≢ [] → IsOutput (rules_of p style Components (lacking end max) end) path output → IsComponentsText p style path output
   known_components path output l some o =
       ⊎_elim
       (λ components. components.1)

@@ -1,3 +1,4 @@
+pub mod GivenPaths
 pub mod GivenWords
 pub mod KnownIgnore
 pub mod KnownLists

@@ -16,8 +16,13 @@ use Rattle.test_command_uses.specs.Requests.{RequestsSome, RunsSome}
 -- they aren't rejected
 pub requested : (words : List (List ℕ)) (input left old new : Option (List ℕ)) (answer : Result ⊤ Fault) → RequestsSome words → RunsTo words input left old new answer → RunsSome words input left old new answer
 requested words input left old new answer some (inl memory) = inl memory.0
-requested words input left old new answer some (inr (inl rejects)) = absurd (rejects.0 some.0 some.1.0 some.1.1.0 some.1.1.1)
+requested words input left old new answer some (inr (inl rejects)) = absurd (rejects.0 some.0 some.1.0 some.1.1.0 some.1.1.1.0 some.1.1.1.1)
 requested words input left old new answer some (inr (inr runs)) = inr runs
+
+-- a run, whichever end is to blame
+pub of_run : {X Y Z : Type 0} → X ⊎ (Y × Z) → X ⊎ Y
+of_run (inl x) = inl x
+of_run (inr runs) = inr runs.0
 
 -- the result of the program with such arguments
 pub requested_end : (X : Type 0) (words : List (List ℕ)) (input left old new : Option (List ℕ)) (outcome answer : Result ⊤ Fault) → answer ≡ outcome → RequestsSome words → ((outcome ≡ Err (OfList (Run Memory))) × X) ⊎ RunsTo words input left old new outcome → RunsSome words input left old new answer

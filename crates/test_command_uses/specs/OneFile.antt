@@ -18,7 +18,7 @@ use Rattle.names_commands.specs.Program.{Fault}
 use Rattle.names_commands.specs.Why.{IsDecided, place_text}
 use Rattle.names_commands.specs.declared.command.Name.{Name}
 use Rattle.names_commands.specs.declared.command.Name.TheVariants.{Filter, Why}
-use Rattle.names_commands.specs.declared.fault.CommandFault.TheVariants.{NoFile, Unread}
+use Rattle.names_commands.specs.declared.fault.CommandFault.TheVariants.{NoFile}
 
 -- names ended by NUL, the last too, of at most 1,048,576 bytes: a list where no option states how it is written
 abbrev pub usual : ListOptions
@@ -37,6 +37,7 @@ abbrev pub only : List ℕ → List ℕ → KnownFiles
 only name bytes = record {
   has = λ other content. (other ≡ name) × (content ≡ bytes);
   lacks = λ other. other ≢ name;
+  fails = λ other. ⊥;
 }
 
 -- the words of this command for names of Unix, with the ignore file of this name
@@ -71,8 +72,8 @@ pub record IsExplainedBy (A : Type 0) (file content name text : List ℕ) : Type
   pub decided : IsDecided files name numbers
   pub reason : IsReasonOf file files name text numbers
 
--- the program ends with this result and this status: the first ignore file can't be read, or memory is refused
+-- the program ends with this result and this status: no file has the name of the first ignore file, or memory is refused
 abbrev pub IsUnread : Result ⊤ Fault → ℕ → Type 0
 IsUnread answer status =
-    (((answer ≡ Err (Words (NoFile 1))) ⊎ (answer ≡ Err (Words (Unread 1)))) × (status ≡ 4))
+    ((answer ≡ Err (Words (NoFile 1))) × (status ≡ 4))
     ⊎ ((answer ≡ Err (OfList (Run Memory))) × (status ≡ 3))

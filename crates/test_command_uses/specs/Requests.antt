@@ -8,13 +8,24 @@ use Rattle.paths_commands.specs.Command.{IsRequestFor, Line}
 use Rattle.paths_commands.specs.Options.{has_value, spelled}
 use Rattle.paths_commands.specs.Program.{Doing, RunsCommand}
 use Rattle.paths_commands.specs.declared.command.Command.{Command}
+use Rattle.paths_commands.specs.declared.command.Command.TheVariants.{Ask, Help, Version}
 
 -- the arguments are options and operands that request a command
 abbrev pub RequestsSome : List (List ℕ) → Type 0
-RequestsSome words = (given : Line) × (AreGiven spelled has_value words given × ((command : Command) × IsRequestFor given command))
+RequestsSome words = (after_end : ℕ) × ((given : Line) × (AreRead words after_end given × ((command : Command) × IsRequestFor after_end given command)))
 
 -- such a command has this result, or memory is refused
 abbrev pub RunsSome : List (List ℕ) → Doing
 RunsSome words input left old new answer =
     (answer ≡ Err (OfList (Run Memory)))
-    ⊎ ((given : Line) × (AreGiven spelled has_value words given × RunsCommand given input left old new answer))
+    ⊎ ((after_end : ℕ) × ((given : Line) × (AreRead words after_end given × RunsCommand after_end given input left old new answer)))
+
+-- a command that is requested runs over paths that are given
+abbrev pub HasPaths : Command → Type 0
+HasPaths (Ask task os list keeps_going paths) = operands_of paths.now ≢ []
+HasPaths Help = Unit {0}
+HasPaths Version = Unit {0}
+
+-- each command that the arguments request does
+abbrev pub GivesPaths : List (List ℕ) → Type 0
+GivesPaths words = (after_end : ℕ) (given : Line) (command : Command) → AreRead words after_end given → IsRequestFor after_end given command → HasPaths command

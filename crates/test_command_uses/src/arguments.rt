@@ -9,6 +9,7 @@ use names_commands::option::NamesOption;
 use list_programs::arguments::{
     Given, ReadFault, has, last_value, next_operand, read_arguments, values,
 };
+use names_commands::option::NamesOption;
 use std::alloc::{AllocError, Allocator};
 
 /// The options and operands of the program for names.

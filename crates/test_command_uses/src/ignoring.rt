@@ -14,6 +14,7 @@ use program_frame::ends::{Messages, Output};
 use program_frame::files::{FileFault, Files};
 use list_programs::program::execute;
 use program_frame::marked::Marked;
+use program_frame::program::execute;
 use std::alloc::Allocator;
 use std::env::Args;
 use std::io::{Eprint, Read};

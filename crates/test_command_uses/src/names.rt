@@ -25,6 +25,11 @@ ghost use Rattle.names_commands.specs.declared.fault.Rejection.{Rejection};
 ghost use Rattle.names_commands.specs.declared.fault.Rejection.TheVariants.{NoString};
 ghost use Rattle.names_commands.specs.declared.option.NamesOption.TheVariants.{Help, IgnoreCase, Version};
 
+use list_programs::arguments::Given;
+use list_programs::fault::ListFault;
+use list_programs::lines::push_escape;
+use list_programs::options::{ItemEnd, LastItem, ListOptions};
+use list_programs::run::run;
 use names_commands::command::{Line, Request, RequestError};
 use names_commands::fault::Rejection;
 use names_commands::laws::{names_come_back, names_come_back_from_words};

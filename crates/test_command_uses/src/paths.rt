@@ -30,6 +30,10 @@ ghost use Rattle.paths_commands.specs.declared.option.PathsOption.TheVariants.{L
 ghost use Rattle.paths_commands.specs.declared.task.Task.TheVariants.{Components};
 ghost use Rattle.test_command_uses.specs.OneFile.{lacking};
 
+use list_programs::fault::ListFault;
+use list_programs::options::{ItemEnd, LastItem, ListOptions};
+use list_programs::rejections::KeepGoing;
+use list_programs::run::{run, run_with};
 use os_path::PathStyle;
 use os_str_bytes::Platform;
 use path_building::Base;
@@ -47,12 +51,13 @@ use std::io::{Eprint, Write};
 
 /// Whether options and operands request a command; otherwise they request none, and something is
 /// wrong with them.
-pub fn requests_a_command(given: Line<'_, '_>) -> bool
-    ensures some { result ≡ true → (command : DeclaredCommand) × IsRequestFor given.entry.now command }
-    ensures none { result ≡ false → RequestsNothing given.entry.now
-        × ((misuse : DeclaredMisuse) × IsMisuse given.entry.now misuse) }
+pub fn requests_a_command(given: Line<'_, '_>, after_end: usize) -> bool
+    ensures some { result ≡ true
+        → (command : DeclaredCommand) × IsRequestFor after_end given.entry.now command }
+    ensures none { result ≡ false → RequestsNothing after_end given.entry.now
+        × ((misuse : DeclaredMisuse) × IsMisuse after_end given.entry.now misuse) }
 {
-    Command::parse(given).is_ok()
+    Command::parse(given, after_end).is_ok()
 }
 
 /// How a list of options and operands is written that request a run over one.
@@ -60,9 +65,9 @@ pub fn stated_list(given: Line<'_, '_>) -> Option<ListOptions>
     ensures { IfSome result (λ list.
         AreStated Lines Unterminated longest_path given.entry.now list) }
 {
-    match Command::parse(given) {
+    match Command::parse(given, 0) {
         Ok(command) => match command {
-            Command::Ask(_, _, list, _) => Some(list),
+            Command::Ask(_, _, list, _, _) => Some(list),
             Command::Help | Command::Version => None,
         },
         Err(_) => None,
@@ -90,11 +95,12 @@ fn ask<E: PathStyle, A: Allocator, W: Write>(
 ) -> Result<(), ListFault<Rejection>>
     requires { has_failed writer.old ≡ false }
     ensures written { OnOk result ((output : List ℕ)
-        × (IsOutput (rules_of ⟦<E as Platform>⟧ E.follows task.entry list) input.now output
+        × (IsOutput (rules_of ⟦<E as Platform>⟧ E.follows task.entry list list.end) input.now output
         × Appends (W.contents (marked_inner writer.old)) (W.contents (marked_inner writer.new))
         output)) }
     ensures stopped { IfErr result (λ fault. fault ≢ Run WriteFailure → (output : List ℕ)
-        × (StopsOn (rules_of ⟦<E as Platform>⟧ E.follows task.entry list) input.now output fault
+        × (StopsOn (rules_of ⟦<E as Platform>⟧ E.follows task.entry list list.end) input.now output
+        fault
         × Appends (W.contents (marked_inner writer.old)) (W.contents (marked_inner writer.new))
         output)) }
 {
@@ -119,7 +125,8 @@ pub fn requested_on<E: PathStyle, P: Eprint, A: Allocator, W: Write>(
 ) -> (u64, Result<(), ListFault<Rejection>>)
     requires { has_failed writer.old ≡ false }
     ensures written { OnOk result.1 ((output : List ℕ) × (IsOutput
-        (passing result.0 (rules_of ⟦<E as Platform>⟧ E.follows task.entry list)) input.now output
+        (passing result.0 (rules_of ⟦<E as Platform>⟧ E.follows task.entry list list.end))
+        input.now output
         × Appends (W.contents (marked_inner writer.old)) (W.contents (marked_inner writer.new))
         output)) }
     ensures ends { IfErr result.1 (λ fault. EndsRun ⊥ fault) }

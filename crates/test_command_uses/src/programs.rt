@@ -10,12 +10,14 @@ ghost use Rattle.program_frame.specs.declared.fault.Failure.{Failure};
 ghost use Rattle.list_programs.specs.declared.program_fault.Fault.TheVariants.{List as OfList, Words};
 ghost use Rattle.paths_commands.specs.Command.{RequestNothing};
 ghost use Rattle.paths_commands.specs.declared.fault.CommandFault.{CommandFault};
-ghost use Rattle.test_command_uses.specs.Requests.{RequestsSome, RunsSome};
+ghost use Rattle.test_command_uses.specs.Requests.{GivesPaths, RequestsSome, RunsSome};
 
+use list_programs::fault::ListFault;
+use list_programs::options::ItemEnd;
 use names_commands::fault::Fault as NamesFault;
 use names_commands::program::Names;
 use osbytes_commands::fault::Fault;
-use osbytes_commands::program::execute;
+use osbytes_commands::program::OsBytes;
 use paths_commands::fault::Fault as PathsFault;
 use paths_commands::program::Paths;
 use program_frame::ended::{Ended, ProgramFault};
@@ -25,6 +27,7 @@ use list_programs::fault::ListFault;
 use list_programs::options::ItemEnd;
 use list_programs::program::execute as execute_list;
 use program_frame::marked::Marked;
+use program_frame::program::execute;
 use std::alloc::{Allocator, Global};
 use std::env::Args;
 use std::io;
@@ -32,7 +35,7 @@ use std::io::{Eprint, ErrorKind, Read, Write};
 use std::process::{ExitCode, Termination};
 
 /// The program where its arguments aren't available: whether it printed why, and its status.
-pub fn without_arguments<P: Eprint, A: Allocator, R: Read, W: Output, E: Messages>(
+pub fn without_arguments<P: Eprint, A: Allocator + Copy, R: Read, W: Output, E: Messages>(
     rt: &P,
     alloc: A,
     reader: &mut Marked<R>,
@@ -47,7 +50,7 @@ pub fn without_arguments<P: Eprint, A: Allocator, R: Read, W: Output, E: Message
     ensures kept { writer.new ≡ writer.old }
 {
     let arguments = Err(io::Error::from(ErrorKind::InvalidInput));
-    let ended = execute(alloc, arguments, reader, writer, errors);
+    let ended = execute(&OsBytes, alloc, arguments, reader, writer, errors);
     let reported = ended.reported();
     (reported, ended.report(rt))
 }
@@ -65,11 +68,19 @@ pub fn with_words<R: Read, W: Output, E: Messages>(
     ensures quiet { OnOk result (errors.new ≡ errors.old) }
     ensures too_many { 4 < length words.items → ¬ (IsOk result) }
 {
-    execute(alloc, Ok(words.into_iter()), reader, writer, errors).outcome()
+    execute(
+        &OsBytes,
+        alloc,
+        Ok(words.into_iter()),
+        reader,
+        writer,
+        errors,
+    )
+    .outcome()
 }
 
 /// The program with arguments, which are no command's where that is given.
-pub fn with_arguments<A: Allocator, R: Read, W: Output, E: Messages>(
+pub fn with_arguments<A: Allocator + Copy, R: Read, W: Output, E: Messages>(
     alloc: A,
     arguments: Args,
     reader: &mut Marked<R>,
@@ -80,11 +91,11 @@ pub fn with_arguments<A: Allocator, R: Read, W: Output, E: Messages>(
     requires writer_unmarked { has_failed writer.old ≡ false }
     ensures { result ≡ Err Fault.Usage → AreNoCommand (words_after_name arguments) }
 {
-    execute(alloc, Ok(arguments), reader, writer, errors).outcome()
+    execute(&OsBytes, alloc, Ok(arguments), reader, writer, errors).outcome()
 }
 
 /// Whether nobody reads the program's output any more; it then has printed no error.
-pub fn silent_where_closed<A: Allocator, R: Read, W: Output, E: Messages>(
+pub fn silent_where_closed<A: Allocator + Copy, R: Read, W: Output, E: Messages>(
     alloc: A,
     arguments: Args,
     reader: &mut Marked<R>,
@@ -95,7 +106,7 @@ pub fn silent_where_closed<A: Allocator, R: Read, W: Output, E: Messages>(
     requires writer_unmarked { has_failed writer.old ≡ false }
     ensures { result ≡ true → errors.new ≡ errors.old }
 {
-    let _ = execute(alloc, Ok(arguments), reader, writer, errors);
+    let _ = execute(&OsBytes, alloc, Ok(arguments), reader, writer, errors);
     writer.closed()
 }
 
@@ -112,7 +123,7 @@ pub fn names_silent_where_closed<F: Files, A: Allocator + Copy, R: Read, W: Outp
     requires writer_unmarked { has_failed writer.old ≡ false }
     ensures { result ≡ true → errors.new ≡ errors.old }
 {
-    let _ = execute_list(program, alloc, Ok(arguments), reader, writer, errors);
+    let _ = execute(program, alloc, Ok(arguments), reader, writer, errors);
     writer.closed()
 }
 
@@ -153,7 +164,7 @@ pub fn names_without_arguments<
     ensures kept { writer.new ≡ writer.old }
 {
     let arguments = Err(io::Error::from(ErrorKind::InvalidInput));
-    let ended = execute_list(program, alloc, arguments, reader, writer, errors);
+    let ended = execute(program, alloc, arguments, reader, writer, errors);
     let reported = ended.reported();
     (reported, ended.report(rt))
 }
@@ -176,7 +187,7 @@ pub fn paths_without_arguments<P: Eprint, A: Allocator + Copy, R: Read, W: Outpu
     ensures kept { writer.new ≡ writer.old }
 {
     let arguments = Err(io::Error::from(ErrorKind::InvalidInput));
-    let ended = execute_list(&Paths::new(rt), alloc, arguments, reader, writer, errors);
+    let ended = execute(&Paths::new(rt), alloc, arguments, reader, writer, errors);
     let reported = ended.reported();
     (reported, ended.report(rt))
 }
@@ -198,7 +209,7 @@ pub fn paths_rejected<P: Eprint, A: Allocator + Copy, R: Read, W: Output, E: Mes
     ensures unread { R.remaining (marked_inner reader.new) ≡ R.remaining (marked_inner reader.old) }
     ensures kept { W.contents (marked_inner writer.new) ≡ W.contents (marked_inner writer.old) }
 {
-    execute_list(
+    execute(
         &Paths::new(rt),
         alloc,
         Ok(arguments),
@@ -226,7 +237,32 @@ pub fn paths_requested<P: Eprint, A: Allocator + Copy, R: Read, W: Output, E: Me
         (R.remaining (marked_inner reader.new)) (W.contents (marked_inner writer.old))
         (W.contents (marked_inner writer.new)) result }
 {
-    execute_list(
+    execute(
+        &Paths::new(rt),
+        alloc,
+        Ok(arguments),
+        reader,
+        writer,
+        errors,
+    )
+    .outcome()
+}
+
+/// The program for paths with arguments that give paths: it reads nothing.
+pub fn paths_given<P: Eprint, A: Allocator + Copy, R: Read, W: Output, E: Messages>(
+    rt: &P,
+    alloc: A,
+    arguments: Args,
+    reader: &mut Marked<R>,
+    writer: &mut Marked<W>,
+    errors: &mut E,
+) -> Result<(), PathsFault>
+    requires words { GivesPaths (words_after_name arguments) }
+    requires reader_unmarked { has_failed reader.old ≡ false }
+    requires writer_unmarked { has_failed writer.old ≡ false }
+    ensures { R.remaining (marked_inner reader.new) ≡ R.remaining (marked_inner reader.old) }
+{
+    execute(
         &Paths::new(rt),
         alloc,
         Ok(arguments),

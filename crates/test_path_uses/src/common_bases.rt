@@ -1,12 +1,12 @@
 //! The common base of paths.
-ghost use Rattle.std.specs.Prelude.{◌≡◌, ◌⊎◌, ℕ, List, IfOk, IfErr};
+ghost use Rattle.std.specs.Prelude.{◌≡◌, ◌⊎◌, ℕ, List, IfOk, IfErr, IfSome};
 ghost use Rattle.platform_str.specs.Strings.{path_bytes};
 ghost use Rattle.path_rules.specs.Compare.{StartsWith};
 ghost use Rattle.path_building.specs.CommonBase.{HaveOnePrefix, HaveOneRoot, IsFront};
 ghost use Rattle.path_building.specs.declared.common_bases.CommonBaseError.TheVariants as error;
 
 use os_path::PathStyle;
-use path_building::{CommonBaseError, common_base};
+use path_building::{CommonBaseError, common_base, laws};
 use path_rules::Style;
 use platform_str::Path;
 
@@ -55,4 +55,36 @@ pub fn base_of_three<'a, E: PathStyle + 'a>(
         × ¬ (HaveOnePrefix E.follows (path_bytes path.entry) (path_bytes third.entry))) }
 {
     os_path::common_base(&[path, second, third])
+}
+
+/// The base of two paths, found twice: it is one.
+pub fn base_found_twice<'a>(
+    style: Style,
+    path: &'a [u8],
+    other: &'a [u8],
+) -> Result<(&'a [u8], &'a [u8]), CommonBaseError>
+    ensures { IfOk result (λ both. both.0.now ≡ both.1.now) }
+{
+    laws::one_result();
+    let once = common_base(style, &[path, other])?;
+    let twice = common_base(style, &[path, other])?;
+    Ok((once, twice))
+}
+
+/// Why two paths have no base, found twice: it is one error.
+pub fn error_found_twice(
+    style: Style,
+    path: &[u8],
+    other: &[u8],
+) -> Option<(CommonBaseError, CommonBaseError)>
+    ensures { IfSome result (λ both. both.0 ≡ both.1) }
+{
+    laws::one_fault();
+    let Err(once) = common_base(style, &[path, other]) else {
+        return None;
+    };
+    let Err(twice) = common_base(style, &[path, other]) else {
+        return None;
+    };
+    Some((once, twice))
 }

@@ -6,10 +6,11 @@ ghost use Rattle.path_building.specs.FullPath.{IsDevicePath, IsFullPath, IsAbsol
 ghost use Rattle.path_building.specs.declared.full_paths.AbsoluteError.TheVariants as error;
 
 use os_path::{AbsoluteError, PathExt, PathStyle};
+use path_building::laws;
 use platform_str::{Path, PathBuf};
 use std::alloc::Allocator;
 
-/// An absolute path. One that begins with `\\?\` or `\\.\` stays as it is, and a path is rejected
+/// A path that is absolute. One that begins with `\\?\` or `\\.\` stays as it is, and a path is rejected
 /// for its directory only if it isn't absolute.
 pub fn full_path<'a, E: PathStyle + 'a, A: Allocator + Copy>(
     alloc: A,
@@ -18,6 +19,8 @@ pub fn full_path<'a, E: PathStyle + 'a, A: Allocator + Copy>(
 ) -> Result<PathBuf<E, A>, AbsoluteError>
     ensures full { IfOk result (λ full. IsFullPath E.follows (path_bytes path.entry)
         (path_bytes directory.entry) (path_vec_of full).items) }
+    ensures absolute { IfOk result
+        (λ full. IsAbsolute E.follows (path_vec_of full).items) }
     ensures kept { IfOk result (λ full. IsDevicePath E.follows (path_bytes path.entry)
         → (path_vec_of full).items ≡ path_bytes path.entry) }
     ensures rejected { IfErr result (λ e. IsAbsoluteFault E.follows (path_bytes path.entry)
@@ -25,5 +28,6 @@ pub fn full_path<'a, E: PathStyle + 'a, A: Allocator + Copy>(
     ensures relative { IfErr result (λ e. e ≡ error.Directory
         → ¬ (IsAbsolute E.follows (path_bytes path.entry))) }
 {
+    laws::full_paths();
     path.absolute(alloc, directory)
 }

@@ -70,6 +70,18 @@ pub fn prefix_of_bytes<'a, E: PathStyle + 'a>(path: Path<'a, E>) -> Option<Path<
     path.parent()
 }
 
+/// The parent, found twice: it is one.
+pub fn parent_found_twice<'a, E: PathStyle + 'a>(
+    path: Path<'a, E>,
+) -> Option<(Path<'a, E>, Path<'a, E>)>
+    ensures { IfSome result (λ both. path_bytes both.0 ≡ path_bytes both.1) }
+{
+    laws::one_parent();
+    let once = path.parent()?;
+    let twice = path.parent()?;
+    Some((once, twice))
+}
+
 /// The last name of a path that is known to end in a name.
 pub fn last_name<'a, E: PathStyle + 'a>(path: Path<'a, E>) -> Option<OsStr<'a, E>>
     ensures { (items : List Item) → (name : List ℕ)

@@ -81,3 +81,17 @@ pub fn with_stem<'a, E: PathStyle + 'a, A: Allocator + Copy>(
 {
     path.with_file_stem(alloc, stem)
 }
+
+/// A path with another stem of its last name, made twice: the same bytes.
+pub fn with_stem_twice<'a, E: PathStyle + 'a, A: Allocator + Copy>(
+    alloc: A,
+    path: Path<'a, E>,
+    stem: OsStr<'a, E>,
+) -> Result<(PathBuf<E, A>, PathBuf<E, A>), AllocError>
+    ensures { IfOk result (λ both. (path_vec_of both.0).items ≡ (path_vec_of both.1).items) }
+{
+    building::one_result();
+    let one = path.with_file_stem(alloc, stem)?;
+    let other = path.with_file_stem(alloc, stem)?;
+    Ok((one, other))
+}

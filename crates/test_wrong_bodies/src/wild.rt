@@ -1,7 +1,8 @@
 //! Compiled patterns, and the texts that they are compiled from.
-ghost use Rattle.std.specs.Prelude.{◌↔◌, ℕ, IfOk, IsTrue, MatchResult, OnOk};
+ghost use Rattle.std.specs.Prelude.{◌≡◌, ◌↔◌, ◌++◌, ℕ, IfOk, IsTrue, MatchResult, OnOk, OnErr};
 ghost use Rattle.glob_text.specs.Texts.{IsFault, IsMeaning};
 ghost use Rattle.wildcards.specs.ByteLetters.{AnyBytes, itself};
+ghost use Rattle.wildcards.specs.Groups.{group};
 ghost use Rattle.wildcards.specs.Match.{Matches};
 ghost use Rattle.wildcards.specs.Sets.{AreHits, IsHit, MatchesChoice};
 
@@ -20,6 +21,19 @@ pub fn compile<A: Allocator + Copy>(
         (λ fault. IsFault AnyBytes itself syntax text.now fault)) }
 {
     glob_text::compile::<Bytes, A>(alloc, syntax, text)
+}
+
+/// Appends a part to a pattern, which is unchanged if memory is short.
+pub fn push_group<A: Allocator>(
+    pattern: &mut Vec<Piece<Part<A>>, A>,
+    part: Part<A>,
+    deep: bool,
+    joined: bool,
+) -> Result<(), AllocError>
+    ensures appended { OnOk result (pattern.new.items ≡ pattern.old.items ++ group deep joined part) }
+    ensures unchanged { OnErr result (pattern.new.items ≡ pattern.old.items) }
+{
+    wildcards::push_group(pattern, part, deep, joined)
 }
 
 /// Whether a pattern matches a path.

@@ -10,6 +10,7 @@ pub mod Hits
 pub mod Keys
 pub mod Found
 pub mod Covers
+pub mod Small
 pub mod Extensions
 pub mod Queries
 pub mod AnyWith

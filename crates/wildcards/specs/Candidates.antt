@@ -72,7 +72,7 @@ module _ {A : Type 0} where
 
     -- the index of a key's bucket
     abbrev pub slot_in : List ℕ → ℕ
-    slot_in key = slot_of (length q.filter.now.buckets.items) key
+    slot_in key = slot_of q.filter.now.folds (length q.filter.now.buckets.items) key
 
     -- one of the keys has the bucket of this index
     abbrev pub comes_again : ℕ → List (List ℕ) → Bool
@@ -81,7 +81,7 @@ module _ {A : Type 0} where
 
     -- what the key's bucket has, unless a later key has the same
     abbrev pub asked : List ℕ → List (List ℕ) → List Place
-    asked key later = if comes_again (slot_in key) later then [] else bucket q.filter.now.buckets.items key
+    asked key later = if comes_again (slot_in key) later then [] else bucket q.filter.now.folds q.filter.now.buckets.items key
 
     -- the list of each key
     abbrev pub key_lists : List (List ℕ) → List (List Place)

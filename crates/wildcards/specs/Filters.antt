@@ -10,9 +10,9 @@ use Rattle.wildcards.specs.declared.part.Part.{Part}
 use Rattle.wildcards.specs.declared.pattern.Choice.{Choice}
 use Rattle.wildcards.specs.declared.piece.Piece.{Piece}
 use Rattle.wildcards.specs.declared.set.Pattern.{Pattern}
-use Rattle.wildcards.specs.Keys.{IsNeeded}
 use Rattle.wildcards.specs.Match.{Matches}
 use Rattle.wildcards.specs.Sets.{Has, IsHit}
+use Rattle.wildcards.specs.Small.{IsNeededBy}
 use Rattle.wildcards.specs.Tables.{bucket}
 
 module _ {A : Type 0} where
@@ -32,9 +32,9 @@ module _ {A : Type 0} where
   pub record IsListed (o : Options) (f : Filter A) (i : Place) (pieces : List (Piece (Part A))) : Type 0 where
     pub kind : Kind
     pub key : List ℕ
-    pub needed : IsNeeded o pieces kind key
+    pub needed : IsNeededBy f.folds o pieces kind key
     pub asked : Asks f kind (length key)
-    pub listed : Has (bucket f.buckets.items key) i
+    pub listed : Has (bucket f.folds f.buckets.items key) i
 
   -- the place is found wherever the pieces match
   abbrev pub IsCovered : Options → Filter A → Place → List (Piece (Part A)) → Type 0
@@ -43,7 +43,8 @@ module _ {A : Type 0} where
   -- what is found is found later
   pub record Grows (f g : Filter A) : Type 0 where
     pub others : (i : Place) → Has f.others.items i → Has g.others.items i
-    pub listed : (key : List ℕ) (i : Place) → Has (bucket f.buckets.items key) i → Has (bucket g.buckets.items key) i
+    pub same : f.folds ≡ g.folds
+    pub listed : (key : List ℕ) (i : Place) → Has (bucket f.folds f.buckets.items key) i → Has (bucket g.folds g.buckets.items key) i
     pub asked : (k : Kind) (n : ℕ) → Asks f k n → Asks g k n
 
   -- so for each choice of a pattern, from one of this index on

@@ -17,6 +17,7 @@ pub mod Sets
 pub mod Tables
 pub mod Extensions
 pub mod Keys
+pub mod Small
 pub mod Enough
 pub mod Filters
 pub mod Candidates

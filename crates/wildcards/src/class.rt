@@ -2,7 +2,7 @@
 ghost use Rattle.std.specs.Prelude.{◌≡◌, ℕ};
 ghost use Rattle.wildcards.specs.Ranges.{AreOrdered, IsTable};
 
-use crate::range::{Range, in_order, is_in};
+use crate::range::{Range, in_order, is_in, one_small};
 use std::alloc::{AllocError, Allocator, Global};
 use std::sync::Arc;
 
@@ -28,7 +28,8 @@ pub struct Class<A: Allocator = Global> {
 }
 
 impl<A: Allocator> Class<A> {
-    ghost use Rattle.std.specs.Prelude.{IfOk};
+    ghost use Rattle.std.specs.Char.{to_ascii_lowercase};
+    ghost use Rattle.std.specs.Prelude.{◌<◌, IfOk, IfSome, IsTrue};
     ghost use Rattle.wildcards.specs.Ranges.{permits};
     ghost use Rattle.wildcards.specs.Classes.{permitted};
 
@@ -86,6 +87,17 @@ impl<A: Allocator> Class<A> {
             return self.table.ascii[letter as usize];
         }
         is_in(&self.table.ranges, letter) != self.table.negated
+    }
+
+    /// The small letter of all letters of ASCII that it permits, if they have one.
+    pub(crate) fn only_small(&self) -> Option<u32>
+        ensures { IfSome result (λ small. (letter : ℕ) → letter < 0x80
+            → IsTrue (permitted self.now letter) → to_ascii_lowercase letter ≡ small) }
+    {
+        if self.table.negated {
+            return None;
+        }
+        one_small(&self.table.ranges)
     }
 }
 

@@ -1,8 +1,9 @@
 //! Which choices of a set a path may match, by the keys that they need.
-ghost use Rattle.std.specs.Prelude.{◌≡◌, ◌⊎◌, true, length, OnOk, IfOk};
+ghost use Rattle.std.specs.Prelude.{◌≡◌, ◌⊎◌, true, length, OnOk, IfOk, IfSome};
 ghost use Rattle.wildcards.specs.Tables.{slot_of, places_at, bucket};
 ghost use Rattle.wildcards.specs.Sets.{Has};
 ghost use Rattle.wildcards.specs.Filters.{Asks, AsksName, Grows, IsCovered};
+ghost use Rattle.wildcards.specs.Small.{IsNeededBy};
 
 use crate::digest::digest;
 use crate::indices::has;
@@ -10,6 +11,7 @@ use crate::key::{Key, Kind, key_of};
 use crate::options::Options;
 use crate::part::Part;
 use crate::piece::Piece;
+use crate::small::small_parts;
 use std::alloc::{AllocError, Allocator};
 
 /// Where a choice is: the index of its pattern, and its own in that.
@@ -22,6 +24,8 @@ pub(crate) struct Place {
 /// The places of choices in buckets, by their keys. Places of different keys may be in one.
 #[derive(Drop)]
 pub(crate) struct Filter<A: Allocator> {
+    /// Whether keys are small letters. Then only paths of ASCII are looked up, by theirs.
+    pub folds: bool,
     pub buckets: Vec<Vec<Place, A>, A>,
     /// Those of choices that need no key.
     pub others: Vec<Place, A>,
@@ -42,9 +46,26 @@ fn if_extension<A: Allocator>(key: Key<A>) -> Option<Vec<u8, A>> {
     }
 }
 
+/// The key of a pattern, if it has one: of small letters, if it folds.
+fn key_by<A: Allocator + Copy>(
+    alloc: A,
+    folds: bool,
+    options: Options,
+    pieces: &[Piece<Part<A>>],
+) -> Result<Option<Key<A>>, AllocError>
+    ensures { IfOk result (λ key. IfSome key (λ key. IsNeededBy folds options pieces.entry.now
+        key.kind key.text.items)) }
+{
+    if folds {
+        let small = small_parts(alloc, pieces)?;
+        return key_of(alloc, options, &small);
+    }
+    key_of(alloc, options, pieces)
+}
+
 impl<A: Allocator> Filter<A> {
     /// Makes a filter with `count` buckets.
-    pub fn new(alloc: A, count: usize) -> Result<Self, AllocError>
+    pub fn new(alloc: A, folds: bool, count: usize) -> Result<Self, AllocError>
     where
         A: Copy,
     {
@@ -55,6 +76,7 @@ impl<A: Allocator> Filter<A> {
             left -= 1;
         }
         Ok(Filter {
+            folds,
             buckets,
             others: Vec::new(alloc),
             paths: false,
@@ -68,13 +90,13 @@ impl<A: Allocator> Filter<A> {
     /// The index of a key's bucket. There are as many as a power of two, or none.
     #[inline(always)]
     pub fn slot(&self, key: &[u8]) -> usize
-        ensures { result ≡ slot_of (length self.now.buckets.items) key.now }
+        ensures { result ≡ slot_of self.now.folds (length self.now.buckets.items) key.now }
     {
         let count = self.buckets.len();
         if count == 0 {
             return 0;
         }
-        digest(key) as usize & (count - 1)
+        digest(self.folds, key) as usize & (count - 1)
     }
 
     /// The places in the bucket of an index.
@@ -122,7 +144,7 @@ impl<A: Allocator> Filter<A> {
     /// Puts a place into a key's bucket.
     fn list(&mut self, key: &[u8], place: Place) -> Result<(), AllocError>
         ensures listed { OnOk result (Has self.new.others.items place
-            ⊎ Has (bucket self.new.buckets.items key.now) place) }
+            ⊎ Has (bucket self.new.folds self.new.buckets.items key.now) place) }
         ensures grows { OnOk result (Grows self.old self.new) }
     {
         let slot = self.slot(key);
@@ -148,7 +170,7 @@ impl<A: Allocator> Filter<A> {
         ensures covered { OnOk result (IsCovered options self.new place pieces.now) }
         ensures grows { OnOk result (Grows self.old self.new) }
     {
-        let Some(key) = key_of(alloc, options, pieces)? else {
+        let Some(key) = key_by(alloc, self.folds, options, pieces)? else {
             self.others.push(place)?;
             return Ok(None);
         };

@@ -1,5 +1,5 @@
 //! Parts of a pattern, one after the other.
-ghost use Rattle.std.specs.Prelude.{◌≡◌, ◌++◌, OnOk};
+ghost use Rattle.std.specs.Prelude.{◌≡◌, ◌++◌, OnOk, OnErr};
 ghost use Rattle.wildcards.specs.Groups.{group};
 
 use crate::part::Part;
@@ -11,7 +11,7 @@ use std::alloc::{AllocError, Allocator};
 ///
 /// # Errors
 ///
-/// `AllocError` if an allocation fails: the pattern isn't complete then.
+/// `AllocError` if an allocation fails. The pattern is unchanged then.
 ///
 /// ```
 /// use wildcards::{Bytes, Options, Part, Piece, Separators, matches, push_group};
@@ -34,13 +34,20 @@ pub fn push_group<A: Allocator>(
     deep: bool,
     joined: bool,
 ) -> Result<(), AllocError>
-    ensures { OnOk result (pattern.new.items ≡ pattern.old.items ++ group deep joined part) }
+    ensures appended { OnOk result (pattern.new.items ≡ pattern.old.items ++ group deep joined part) }
+    ensures unchanged { OnErr result (pattern.new.items ≡ pattern.old.items) }
 {
     if deep {
         pattern.push(Piece::Many)?;
     }
-    if !deep || !joined {
-        pattern.push(Piece::One(part))?;
+    if deep && joined {
+        return Ok(());
+    }
+    if pattern.push(Piece::One(part)).is_err() {
+        if deep {
+            pattern.pop();
+        }
+        return Err(AllocError);
     }
     Ok(())
 }

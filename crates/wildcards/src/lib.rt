@@ -31,6 +31,7 @@ mod range;
 mod run;
 mod separators;
 mod set;
+mod small;
 
 pub use class::Class;
 pub use class_name::ClassName;

@@ -1,10 +1,11 @@
 //! Sets of patterns that a path is matched with at once.
-ghost use Rattle.std.specs.Prelude.{◌≡◌, ◌↔◌, ℕ, [], IsTrue, IfOk, IfSome, OnOk, OnErr};
+ghost use Rattle.std.specs.Prelude.{◌≡◌, ◌↔◌, ℕ, [], false, IsTrue, IfOk, IfSome, OnOk, OnErr};
 ghost use Rattle.wildcards.specs.Components.{components};
 ghost use Rattle.wildcards.specs.Enough.{AreEnough, IsEnough};
 ghost use Rattle.wildcards.specs.Extensions.{IsExtension};
 ghost use Rattle.wildcards.specs.Filters.{AddsHits, AreCovered, CoversAll, Grows, IsHitAt};
 ghost use Rattle.wildcards.specs.Sets.{Has, IsHit, AreFound, AreHits};
+ghost use Rattle.wildcards.specs.Small.{IsLookedUp};
 
 use crate::candidates::{Query, Stage};
 use crate::enough::{if_enough, is_text};
@@ -13,8 +14,9 @@ use crate::indices::make_ascending;
 use crate::letters::Letters;
 use crate::options::Options;
 use crate::path::matches;
-use crate::pattern::Choice;
+use crate::pattern::{Choice, matches_choice};
 use crate::set::Pattern;
+use crate::small::folds;
 use std::alloc::{AllocError, Allocator, Global};
 
 /// A set of patterns. A path is matched only with the choices whose literal parts it has. Each
@@ -155,6 +157,64 @@ impl<A: Allocator> PatternSet<A> {
         Ok(())
     }
 
+    /// Whether a path isn't looked up, since the set folds and letters beyond ASCII may be those of keys.
+    #[inline(always)]
+    fn tries_all(&self, path: &[u8]) -> bool
+        ensures { result ≡ false → IsLookedUp self.now.filter.folds path.now }
+    {
+        self.filter.folds && !path.is_ascii()
+    }
+
+    /// Whether the pattern of an index matches a path.
+    fn is_hit_of<L: Letters>(&self, path: &[u8], index: usize) -> bool
+        requires { L.formed path.now }
+        ensures { IsTrue result ↔ IsHit self.now.options self.now.patterns.items
+            (L.letters path.now) index }
+    {
+        if index < self.patterns.len() {
+            return matches_choice::<L, A>(self.options, &self.patterns[index].choices, path);
+        }
+        false
+    }
+
+    /// Whether a pattern matches a whole path: each is tried.
+    fn any_of_all<L: Letters>(&self, path: &[u8]) -> bool
+        requires { L.formed path.now }
+        ensures { IsTrue result ↔ ((i : ℕ) × IsHit self.now.options self.now.patterns.items
+            (L.letters path.now) i) }
+    {
+        let mut at = 0;
+        while at < self.patterns.len() {
+            if self.is_hit_of::<L>(path, at) {
+                return true;
+            }
+            at += 1;
+        }
+        false
+    }
+
+    /// Puts the indices of the patterns that match a whole path into an empty vector: each is tried.
+    fn add_of_all<L: Letters, B: Allocator>(
+        &self,
+        path: &[u8],
+        found: &mut Vec<usize, B>,
+    ) -> Result<(), AllocError>
+        requires formed { L.formed path.now }
+        requires empty { found.old.items ≡ [] }
+        ensures { OnOk result (AreFound self.now.options self.now.patterns.items
+            (L.letters path.now) found.new.items) }
+    {
+        let mut at = 0;
+        while at < self.patterns.len() {
+            let index = at;
+            at += 1;
+            if self.is_hit_of::<L>(path, index) {
+                found.push(index)?;
+            }
+        }
+        Ok(())
+    }
+
     /// Puts the indices of the patterns that match a whole path into an empty vector, in any order.
     #[inline(always)]
     fn add_matches<L: Letters, B: Allocator>(
@@ -167,6 +227,9 @@ impl<A: Allocator> PatternSet<A> {
         ensures { OnOk result (AreFound self.now.options self.now.patterns.items
             (L.letters path.now) found.new.items) }
     {
+        if self.tries_all(path) {
+            return self.add_of_all::<L, B>(path, found);
+        }
         let query = Query::new(&self.filter, self.options.separators, path);
         self.add_hits::<L, B>(path, query.extension, &self.filter.others, found)?;
         let mut stage = Stage::Path;
@@ -197,7 +260,11 @@ impl<A: Allocator> PatternSet<A> {
         A: Copy,
         ensures { IfOk result (λ set. (set.options ≡ options) × (set.patterns ≡ patterns)) }
     {
-        let mut filter = Filter::new(alloc, bucket_count(choice_count(&patterns)))?;
+        let mut filter = Filter::new(
+            alloc,
+            folds(&patterns),
+            bucket_count(choice_count(&patterns)),
+        )?;
         let mut enough = Vec::new(alloc);
         enough.reserve_exact(patterns.len())?;
         let mut at = 0;
@@ -251,6 +318,9 @@ impl<A: Allocator> PatternSet<A> {
         ensures { IsTrue result ↔ ((i : ℕ) × IsHit self.now.options self.now.patterns.items
             (L.letters path.now) i) }
     {
+        if self.tries_all(path) {
+            return self.any_of_all::<L>(path);
+        }
         let query = Query::new(&self.filter, self.options.separators, path);
         if self.any_hit::<L>(path, query.extension, &self.filter.others) {
             return true;

@@ -1,9 +1,9 @@
 //! What a pattern is made of.
 ghost use Rattle.std.specs.Prelude.{◌≡◌, ◌↔◌, IsTrue};
-ghost use Rattle.std.specs.Char.{to_ascii_lowercase};
 ghost use Rattle.wildcards.specs.Match.{Fits};
 
 use crate::class::Class;
+use crate::range::small_letter;
 use std::alloc::{AllocError, Allocator, Global};
 
 /// A wildcard, or what matches one letter or one component.
@@ -27,20 +27,6 @@ pub enum Item<A: Allocator = Global> {
     EitherCase(u32),
     /// A class, as `[a-z]`.
     OneOf(Class<A>),
-}
-
-/// The small letter of a capital of ASCII, and any other letter itself.
-#[inline(always)]
-fn small_letter(letter: u32) -> u32
-    ensures { result ≡ to_ascii_lowercase letter }
-{
-    if letter < 0x41 {
-        letter
-    } else if letter < 0x5B {
-        letter + 0x20
-    } else {
-        letter
-    }
 }
 
 impl<A: Allocator> Item<A> {

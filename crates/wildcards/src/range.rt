@@ -1,6 +1,8 @@
 //! Ranges of letters.
-ghost use Rattle.std.specs.Prelude.{◌≡◌, ℕ};
+ghost use Rattle.std.specs.Char.{to_ascii_lowercase};
+ghost use Rattle.std.specs.Prelude.{◌≡◌, ℕ, IfSome};
 ghost use Rattle.wildcards.specs.Ranges.{is_in, lies_in, further, reaches, AreOrdered};
+ghost use Rattle.wildcards.specs.Small.{HasOneSmall};
 
 use std::alloc::Allocator;
 
@@ -58,4 +60,36 @@ pub(crate) fn is_in(ranges: &[Range], letter: u32) -> bool
         return ranges[at].first <= letter;
     }
     false
+}
+
+/// The small letter of a capital of ASCII, and any other letter itself.
+#[inline(always)]
+pub(crate) fn small_letter(letter: u32) -> u32
+    ensures { result ≡ to_ascii_lowercase letter }
+{
+    if letter < 0x41 {
+        letter
+    } else if letter < 0x5B {
+        letter + 0x20
+    } else {
+        letter
+    }
+}
+
+/// The small letter of all letters of ASCII in the ranges, if they have one.
+pub(crate) fn one_small(ranges: &[Range]) -> Option<u32>
+    ensures { IfSome result (λ small. HasOneSmall ranges.entry.now small) }
+{
+    let (first, _) = ranges.split_first()?;
+    let small = small_letter(first.first);
+    let mut left = ranges;
+    while let Some((range, rest)) = left.split_first() {
+        if range.first < 0x80 {
+            if range.first != range.last || small_letter(range.first) != small {
+                return None;
+            }
+        }
+        left = rest;
+    }
+    Some(small)
 }

@@ -1,16 +1,18 @@
 -- The one path that a name is, and ignore files that are read one after the other.
-use Rattle.std.proofs.Common.{◌≡◌, ◌↔◌, ◌+◌, inl, inr, ℕ, Bool, true, false, not, List, [], ◌∷◌, ◌++◌, length, refl, sym, ap, ◌∙◌, subst, append_assoc, append-nil}
+use Rattle.std.proofs.Common.{◌≡◌, ◌↔◌, ◌+◌, inl, inr, ℕ, Bool, true, false, not, List, [], ◌∷◌, ◌++◌, length, refl, sym, ap, ◌∙◌, subst, append_assoc, append-nil, arith}
 use Rattle.std.proofs.Math.Logic.{∥∥₁_elim}
 use Rattle.std.proofs.Props.{props}
 use Rattle.std.proofs.lemmas.List.{append_cancel_right, length-append}
 use Rattle.std.specs.List.{AllByRecursion}
+use Rattle.std.specs.Str.{IsUtf8}
 use Rattle.os_ignore.specs.Ignores.{IsAddedTo}
 use Rattle.os_ignore.specs.Verdicts.{IsVerdict, is_ignored}
 use Rattle.os_ignore.specs.declared.file.File.{File}
 use Rattle.os_ignore.specs.declared.verdict.Verdict.{Verdict}
 use Rattle.os_ignore.proofs.lemmas.OneVerdict.{one_verdict}
+use Rattle.platform_str.specs.FormatterSink.{text_after}
 use Rattle.program_frame.specs.Files.{KnownFiles}
-use Rattle.names_commands.specs.Ignoring.{AreAdded, AreRead, FileRead, IsFirstUnread, IsIgnored, IsPath, WasRead, value_of, without_dot}
+use Rattle.names_commands.specs.Ignoring.{AreAdded, AreRead, FileRead, IsFileIn, IsFirstUnread, IsIgnored, IsPath, WasRead, value_of, without_dot}
 use Rattle.names_commands.specs.Program.{Fault, IsFaultOf, IsFaultOfOne}
 use Rattle.names_commands.specs.declared.fault.CommandFault.TheVariants.{NoFile, Unread}
 use Rattle.names_commands.proofs.lemmas.Picks.{pushed}
@@ -21,6 +23,11 @@ one_path name p q true true a b = (append_cancel_right p q (0x2F ∷ []) (sym a 
 one_path name p q true false a b = absurd (b.1 p a)
 one_path name p q false true a b = absurd (a.1 q b)
 one_path name p q false false a b = (a.0 ∙ sym b.0, refl)
+
+-- the name in a value that is UTF-8 is UTF-8
+pub name_text : (value directory name : List ℕ) → IsFileIn value directory name → IsUtf8 value → IsUtf8 name
+name_text value directory name (inl whole) u = subst IsUtf8 (sym whole.1.1) u
+name_text value directory name (inr cut) u = text_after cut.0 name 0x3D (omega arith) (subst IsUtf8 cut.1.0.joined u)
 
 one_has : (known : KnownFiles) (reads : List FileRead) (read : FileRead) → AllByRecursion (WasRead known) reads → WasRead known read → AllByRecursion (WasRead known) (reads ++ read ∷ [])
 one_has known [] read a h = (h, tt)
@@ -83,4 +90,4 @@ module _ {A : Type 0} where
     pub unread : (known : KnownFiles) (names left : List (List ℕ)) (number : ℕ) (name : List ℕ) (files : List (File A)) (fault : Fault) → AreReadSoFar known names (name ∷ left) number files → IsFaultOfOne known (number + 1) name fault → IsFaultOf known A folds names fault
     unread known names left number name files fault s (inl memory) = inl memory
     unread known names left number name files fault s (inr (inl none)) = inr (NoFile (number + 1), (name, first_unread known names left number name files s, none.1), none.0)
-    unread known names left number name files fault s (inr (inr failed)) = inr (Unread (number + 1), (name, first_unread known names left number name files s), failed)
+    unread known names left number name files fault s (inr (inr failed)) = inr (Unread (number + 1), (name, first_unread known names left number name files s, failed.1), failed.0)

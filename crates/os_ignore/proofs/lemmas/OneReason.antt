@@ -5,7 +5,6 @@ use Rattle.os_ignore.specs.declared.pattern.After.{After}
 use Rattle.os_ignore.specs.declared.pattern.After.TheVariants as after
 use Rattle.os_ignore.specs.declared.reason.NoPattern.{NoPattern}
 use Rattle.os_ignore.specs.Files.{HasReason}
-use Rattle.os_ignore.specs.Letters.{AreLetters}
 use Rattle.os_ignore.specs.Lines as lines
 use Rattle.os_ignore.specs.Lines.{strip_first, after_literal, EndsQuoted, LettersSayNothing, SaysNothing}
 use Rattle.os_ignore.specs.PatternText.{EndsPart, IsPiece, IsGroup, NextGroup, IsBrokenHere, IsBrokenPart, IsBrokenPattern, left_after, text_of}

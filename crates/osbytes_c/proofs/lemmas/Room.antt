@@ -52,7 +52,7 @@ items_fit bytes items (Faulty {rest = rest} {later = later} r l) =
     let before = ap length r.first.encoded.joined in
     let parts = ap length r.first.joined ∙ length-append r.first.before r.first.from in
     let last = ap length r.first.begins.is ∙ length-append r.first.begins.refused r.first.begins.rest in
-    let some = refused_some _ _ _ _ r.first.begins.rejection in
+    let some = refused_some _ _ _ _ r.first.begins.refusal in
     let fit = units_fit r.code_points in
     omega arith
 

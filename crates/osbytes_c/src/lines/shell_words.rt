@@ -42,7 +42,8 @@ pub extern "C" fn osb_core_shell_words(
         out.new count.new }
     ensures fault { result ≡ bad_line → IsFaultOf (language_of options) line.now fault.new }
     ensures nul { result ≡ has_nul → IsFirstNul line.now fault.new.index }
-    ensures line { (result ≡ done) ⊎ ((result ≡ no_room) ⊎ (result ≡ bad_line)) → HasNoNul line.now }
+    ensures line { (result ≡ done) ⊎ ((result ≡ no_room) ⊎ (result ≡ bad_line)) →
+        HasNoNul line.now }
     ensures long { (result ≡ too_long) ↔ ((options ≤ 3) × (usize.MAX < 2 * length line.now + 1)) }
     ensures option { (result ≡ no_option) ↔ (3 < options) }
     ensures answers { IsOneOf (done ∷ no_room ∷ has_nul ∷ bad_line ∷ too_long ∷ no_option ∷ [])

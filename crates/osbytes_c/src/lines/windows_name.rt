@@ -41,7 +41,8 @@ pub extern "C" fn osb_core_windows_quote_name(
     ensures quote { result ≡ has_quote → IsWtf8 name.now × (HasNoNul name.now
         × IsFirstAt quote name.now index.new) }
     ensures long { (result ≡ too_long) ↔ (usize.MAX < 2 * length name.now + 2) }
-    ensures answers { IsOneOf (done ∷ faulty ∷ no_room ∷ has_nul ∷ has_quote ∷ too_long ∷ []) result }
+    ensures answers { IsOneOf
+        (done ∷ faulty ∷ no_room ∷ has_nul ∷ has_quote ∷ too_long ∷ []) result }
 {
     let string = match windows_word(name, usize::MAX / 2 - 1, index, fault) {
         Ok(string) => string,

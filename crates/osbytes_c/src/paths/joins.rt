@@ -64,7 +64,8 @@ pub extern "C" fn osb_core_path_join_checked(
 ) -> u32
     ensures written { IsWritten result (IsCheckedJoin (style_on platform) base.now path.now)
         out.old out.new count.new }
-    ensures fault { result ≡ bad_path → IsJoinReport (style_on platform) base.now path.now fault.new }
+    ensures fault { result ≡ bad_path →
+        IsJoinReport (style_on platform) base.now path.now fault.new }
     ensures platform { (result ≡ no_platform) ↔ (2 < platform) }
     ensures answers { IsOneOf (done ∷ no_room ∷ no_memory ∷ bad_path ∷ no_platform ∷ []) result }
 {

@@ -53,7 +53,8 @@ pub extern "C" fn osb_core_path_with_extension(
     ensures extension { (result ≡ no_extension) ↔ ((platform ≤ 2)
         × (¬ (IsExtensionText (style_on platform) extension.now))) }
     ensures platform { (result ≡ no_platform) ↔ (2 < platform) }
-    ensures answers { IsOneOf (done ∷ no_room ∷ no_memory ∷ no_platform ∷ no_extension ∷ []) result }
+    ensures answers { IsOneOf
+        (done ∷ no_room ∷ no_memory ∷ no_platform ∷ no_extension ∷ []) result }
 {
     let Some(style) = style_of(platform) else {
         return NO_PLATFORM;
@@ -83,7 +84,8 @@ pub extern "C" fn osb_core_path_with_added_extension(
     ensures extension { (result ≡ no_extension) ↔ ((platform ≤ 2)
         × (¬ (IsExtensionText (style_on platform) extension.now))) }
     ensures platform { (result ≡ no_platform) ↔ (2 < platform) }
-    ensures answers { IsOneOf (done ∷ no_room ∷ no_memory ∷ no_platform ∷ no_extension ∷ []) result }
+    ensures answers { IsOneOf
+        (done ∷ no_room ∷ no_memory ∷ no_platform ∷ no_extension ∷ []) result }
 {
     let Some(style) = style_of(platform) else {
         return NO_PLATFORM;

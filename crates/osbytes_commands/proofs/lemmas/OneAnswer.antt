@@ -187,8 +187,3 @@ pub not_rejected : {T : Type 0} (command : Command) (input left : Option (List �
     → Consumes input left bytes → IsAtEnd left → IsOutput command bytes output → AnswersRejection command input answer
 not_rejected command input left bytes output answer read end given =
     Consumes-whole input left bytes _ read end (λ fault rejection. absurd (output_or_rejection command bytes output fault given rejection))
-
--- what holds of any bytes holds of those that are known
-pub of_known : (input : Option (List ℕ)) (P : List ℕ → Type 0) → ((bytes : List ℕ) → P bytes) → IfSome input P
-of_known None P h = tt
-of_known (Some bytes) P h = h bytes

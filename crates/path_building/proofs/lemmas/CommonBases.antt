@@ -1,6 +1,6 @@
 -- What is known of the common base of paths.
 use Rattle.std.proofs.Common.{◌≡◌, ◌⊎◌, ◌↔◌, inl, inr, ◌+◌, ◌-◌, ◌≤◌, ℕ, List, [], ◌∷◌, ◌++◌, get_or, take, drop, length, map, refl, sym, ap, ◌∙◌, subst, append_assoc, append-nil, length-append, arith}
-use Rattle.std.proofs.lemmas.List.{take_rest}
+use Rattle.std.proofs.lemmas.List.{take_rest, same_from_push}
 use Rattle.std.specs.List.{AllByRecursion}
 use Rattle.path_rules.specs.declared.rules.Rules.{Rules}
 use Rattle.path_rules.specs.declared.rules.Rules.TheVariants as rules
@@ -18,6 +18,7 @@ use Rattle.path_rules.specs.Heads.{prefix_items, start_items, items_of}
 use Rattle.path_rules.specs.Body.{IsEndTrimmed}
 use Rattle.path_rules.specs.Parent.{IsTop, IsBelow, IsParent, HasNoParent}
 use Rattle.path_rules.proofs.lemmas.OneList.{one_prefix, one_components}
+use Rattle.path_rules.proofs.lemmas.OneParent.{last_of}
 use Rattle.path_rules.proofs.lemmas.Alike.{starts_from, alike_same, alike_itself}
 use Rattle.path_building.specs.Spelled.{IsSpelled, AreSpelled, cleaned_start}
 use Rattle.path_building.specs.CommonBase as base
@@ -25,15 +26,6 @@ use Rattle.path_building.specs.CommonBase.{prefix_of, after_prefix, HaveOnePrefi
 use Rattle.path_building.specs.declared.common_bases.CommonBaseError.{CommonBaseError}
 use Rattle.path_building.proofs.lemmas.Resolving.{no_prefix, no_root}
 use Rattle.path_building.proofs.lemmas.Spelling.{body_spelled}
-
--- a list is empty or has a last item
-last_of : (xs : List Item) → (xs ≡ []) ⊎ ((ys : List Item) × ((x : Item) × (xs ≡ ys ++ x ∷ [])))
-last_of [] = inl refl
-last_of (x ∷ xs) = cases (last_of xs)
-  where
-    cases : (xs ≡ []) ⊎ ((ys : List Item) × ((y : Item) × (xs ≡ ys ++ y ∷ []))) → (x ∷ xs ≡ []) ⊎ ((ys : List Item) × ((y : Item) × (x ∷ xs ≡ ys ++ y ∷ [])))
-    cases (inl e) = inr ([], (x, ap (λ z. x ∷ z) e))
-    cases (inr l) = inr (x ∷ l.0, (l.1.0, ap (λ z. x ∷ z) l.1.1))
 
 -- what a part names is neither a prefix nor a root
 below : (r : Rules) (x : Item) → IsSpelled r x → IsBelow x
@@ -177,7 +169,7 @@ starts_top w path other xs more ys h are t other_are =
     subst (λ z. StartsAlike z xs) (by_parts ys) (parts_start (prefix_of ys) (prefix_of items) (after_prefix ys) xs front.0 alike (ap (λ z. prefix_of items ++ z) same ∙ front.1))
 
 -- the components of a front are the first of the path's
-front_items : (w : Style) (path front : List ℕ) → IsFront w path front → (items : List Item) × ((more : List Item) × (AreComponents w front items × AreComponents w path (items ++ more)))
+pub front_items : (w : Style) (path front : List ℕ) → IsFront w path front → (items : List Item) × ((more : List Item) × (AreComponents w front items × AreComponents w path (items ++ more)))
 front_items w path _ (whole front t) = (t.items, ([], (t.are, subst (AreComponents w path) (sym (append-nil t.items)) t.whole)))
 front_items w path _ (above front lower f p) =
     let h = front_items w path lower f in
@@ -230,7 +222,7 @@ alike_both x y ParentDir a b = same_both x y ParentDir tt a b
 alike_both x y (Normal u) a b = same_both x y (Normal u) tt a b
 
 -- a list that starts with another starts with each front of it
-starts_less : (zs xs ys : List Item) → StartsAlike zs (xs ++ ys) → StartsAlike zs xs
+pub starts_less : (zs xs ys : List Item) → StartsAlike zs (xs ++ ys) → StartsAlike zs xs
 starts_less zs [] ys h = tt
 starts_less [] (x ∷ xs) ys h = absurd h
 starts_less (z ∷ zs) (x ∷ xs) ys h = (h.0, starts_less zs xs ys h.1)
@@ -272,15 +264,6 @@ is_shared w base other shared s c = record { front = s.front; common = c; keeps 
 pub top_shared : (w : Style) (base other shared : List ℕ) → Sharing w base other shared → IsFrontBeside w base other → HasNoParent w shared → StartsWith w other shared
 top_shared w base other shared s b none = b.1.1 shared (s.front b.0 b.1.0) none
 
--- lists with one item more each are the same only if the lists are
-but_last : (xs ys : List Item) (x y : Item) → xs ++ x ∷ [] ≡ ys ++ y ∷ [] → xs ≡ ys
-but_last [] [] x y e = refl
-but_last [] (b ∷ []) x y e = cc
-but_last [] (b ∷ c ∷ ys) x y e = cc
-but_last (a ∷ []) [] x y e = cc
-but_last (a ∷ c ∷ xs) [] x y e = cc
-but_last (a ∷ xs) (b ∷ ys) x y e = let first : a ≡ b = cc in ap (λ z. z ∷ xs) first ∙ ap (λ z. b ∷ z) (but_last xs ys x y cc)
-
 -- what of the front of a base is known while components behind the shared ones are taken away
 pub record Parting (w : Style) (base other front : List ℕ) (count : ℕ) : Type 0 where
   pub sharing : Sharing w base other front
@@ -300,7 +283,7 @@ last_above w base other front above_it left none k p =
     let q = k.parts in
     let empty : q.back ≡ [] = no_items q.back (q.many ∙ ap length none) in
     let same : q.front ++ q.item ∷ [] ≡ p.items ++ p.last ∷ [] = one_components w front (q.front ++ q.item ∷ []) (p.items ++ p.last ∷ []) (subst (λ z. AreComponents w front (q.front ++ q.item ∷ z)) empty q.are) p.whole in
-    let items = but_last q.front p.items q.item p.last same in
+    let items = (same_from_push q.front p.items q.item p.last same).0 in
     is_shared w base other above_it (one_above w base other front above_it (length left) k p) ((starts_from w other above_it q.other_items p.items q.other_are p.are).1 (subst (StartsAlike q.other_items) items q.alike))
   where
     no_items : (xs : List Item) → length xs ≡ 0 → xs ≡ []
@@ -323,7 +306,7 @@ next_above w base other front above_it left rest x more k p = record { sharing =
         let ys = l.0 in
         let y = l.1.0 in
         let are : AreComponents w front ((q.front ++ q.item ∷ ys) ++ y ∷ []) = subst (AreComponents w front) (ap (λ z. q.front ++ q.item ∷ z) l.1.1 ∙ sym (append_assoc q.front (q.item ∷ ys) (y ∷ []))) q.are in
-        let items = but_last (q.front ++ q.item ∷ ys) p.items y p.last (one_components w front ((q.front ++ q.item ∷ ys) ++ y ∷ []) (p.items ++ p.last ∷ []) are p.whole) in
+        let items = (same_from_push (q.front ++ q.item ∷ ys) p.items y p.last (one_components w front ((q.front ++ q.item ∷ ys) ++ y ∷ []) (p.items ++ p.last ∷ []) are p.whole)).0 in
         let long : length q.back ≡ length ys + 1 = ap length l.1.1 ∙ length-append ys (y ∷ []) in
         record {
           front = q.front;
@@ -430,9 +413,6 @@ pub not_walked : (w : Style) (first : List ℕ) (others : List (List ℕ)) (base
 not_walked w first others base t = record { done = []; are = refl; count = refl; based = one_base w first base t }
 
 module _ {X : Type 0} (w : Style) (f : X → List ℕ) (first : List ℕ) (others : List (List ℕ)) (d : X) (index : ℕ) (base : List ℕ) where
-  pub beside : (path : List ℕ) (left : List (List ℕ)) → Walked w first others left index base → BeginAlike w first path → IsFrontBeside w base path
-  beside path left k h = (first, (k.based.front, has_its_top w first path h))
-
   pub step : (left : List X) → 1 ≤ length left → Walked w first others (map f left) index base → BeginAlike w first (f (get_or left 0 d)) → (shared : List ℕ) → IsShared w base (f (get_or left 0 d)) shared → Walked w first others (map f (take (length left - 1) (drop 1 left))) (index + 1) shared
   step [] l k h shared s = absurd (omega arith)
   step (x ∷ left) l k h shared s = subst (λ z. Walked w first others (map f z) (index + 1) shared) (sym (take_rest (x ∷ left) 1)) (record {

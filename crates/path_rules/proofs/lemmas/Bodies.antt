@@ -10,14 +10,14 @@ use Rattle.path_rules.specs.Component.{Item, named, components_in, EndsNamed}
 use Rattle.path_rules.specs.HeadParts.{IsLastPart}
 
 -- a list of parts isn't empty
-data IsSome {X : Type 0} : List X → Type 0 where
+pub data IsSome {X : Type 0} : List X → Type 0 where
   some : {x : X} {xs : List X} → IsSome (x ∷ xs)
 
 onto_some : {X : Type 0} (x : X) (ps : List (List X)) → IsSome (onto_first x ps)
 onto_some x [] = some
 onto_some x (p ∷ ps) = some
 
-split_some : {X : Type 0} (p : X → Bool) (xs : List X) → IsSome (slice_split p xs)
+pub split_some : {X : Type 0} (p : X → Bool) (xs : List X) → IsSome (slice_split p xs)
 split_some p [] = some
 split_some p (x ∷ xs) = cases (p x) refl
   where

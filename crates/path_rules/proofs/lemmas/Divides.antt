@@ -45,7 +45,7 @@ two_part a b x true e f =
     let s : ParentDir ≡ x = cc in ap part_of (sym s) ∙ ap (λ z. z ∷ 0x2E ∷ []) (sym first) ∙ ap (λ z. a ∷ z ∷ []) (sym second)
 two_part a b x false e f = let s : Normal (a ∷ b ∷ []) ≡ x = cc in ap part_of (sym s)
 
-named_part : (r : Rules) (p : List ℕ) (x : Item) → named r p ≡ Some x → part_of x ≡ p
+pub named_part : (r : Rules) (p : List ℕ) (x : Item) → named r p ≡ Some x → part_of x ≡ p
 named_part r [] x e = cc
 named_part r (a ∷ []) x e = one_part r a x (nat_eq a 0x2E) refl e
 named_part r (a ∷ b ∷ []) x e = two_part a b x (nat_eq a 0x2E && nat_eq b 0x2E) refl e
@@ -64,7 +64,7 @@ below_choice : (v : Bool) (o : Option Item) (y x : Item) → (o ≡ Some x → I
 below_choice true o y x h b e = h e
 below_choice false o y x h b e = below_some y x b e
 
-named_below : (r : Rules) (p : List ℕ) (x : Item) → named r p ≡ Some x → IsBelow x
+pub named_below : (r : Rules) (p : List ℕ) (x : Item) → named r p ≡ Some x → IsBelow x
 named_below r [] x e = cc
 named_below r (a ∷ []) x e = below_choice (nat_eq a 0x2E) (dot r) (Normal (a ∷ [])) x (below_dot r x) tt e
 named_below r (a ∷ b ∷ []) x e = below_choice (nat_eq a 0x2E && nat_eq b 0x2E) (Some ParentDir) (Normal (a ∷ b ∷ [])) x (below_some ParentDir x tt) tt e

@@ -7,7 +7,7 @@ use Rattle.path_rules.specs.Components.{AreComponents}
 use Rattle.path_rules.specs.Parent.{IsParent, HasFileName, HasNoFileName}
 use Rattle.path_rules.proofs.lemmas.OneList.{one_components}
 
-push_some : {X : Type 0} (xs : List X) (x : X) → xs ++ x ∷ [] ≡ [] → ⊥
+pub push_some : {X : Type 0} (xs : List X) (x : X) → xs ++ x ∷ [] ≡ [] → ⊥
 push_some [] x e = cc
 push_some (y ∷ xs) x e = cc
 

@@ -1,10 +1,10 @@
 -- Which end is to blame after a run that passed over paths.
 use Rattle.std.proofs.Common.{◌≡◌, inl, inr, ℕ, Result, Ok, Err, sym, subst}
 use Rattle.std.specs.Prelude.{Bool, true, false, ⊤}
-use Rattle.program_frame.specs.ProgramFault.{BlamesEnds}
-use Rattle.program_frame.specs.declared.lists.fault.ListFault.{ListFault}
-use Rattle.program_frame.specs.declared.lists.program_fault.Fault.TheVariants.{List as OfList, Words}
-use Rattle.program_frame.proofs.lemmas.lists.Runs.{no_err}
+use Rattle.list_programs.specs.ProgramFault.{BlamesEnds}
+use Rattle.list_programs.specs.declared.fault.ListFault.{ListFault}
+use Rattle.list_programs.specs.declared.program_fault.Fault.TheVariants.{List as OfList, Words}
+use Rattle.list_programs.proofs.lemmas.Runs.{no_err}
 use Rattle.paths_commands.specs.Program.{Fault, IsAfter}
 use Rattle.paths_commands.specs.declared.fault.CommandFault.{CommandFault}
 use Rattle.paths_commands.specs.declared.fault.Rejection.{Rejection}

@@ -4,11 +4,11 @@ use Rattle.std.specs.Prelude.{IfErr, OnErr}
 use Rattle.std.proofs.Math.Seq.{drop-append_seam, take-append_seam}
 use Rattle.os_str_bytes.specs.Platform.{Ghosts}
 use Rattle.path_rules.specs.declared.rules.Style.{Style}
-use Rattle.program_frame.specs.Items.{Lacks}
-use Rattle.program_frame.specs.ListOptions.{byte_of}
-use Rattle.program_frame.specs.declared.lists.fault.ItemFault.{ItemFault}
-use Rattle.program_frame.specs.declared.lists.fault.ItemFault.TheVariants.{Rejected, Memory}
-use Rattle.program_frame.specs.declared.lists.options.ItemEnd.{ItemEnd}
+use Rattle.list_programs.specs.Items.{Lacks}
+use Rattle.list_programs.specs.ListOptions.{byte_of}
+use Rattle.list_programs.specs.declared.fault.ItemFault.{ItemFault}
+use Rattle.list_programs.specs.declared.fault.ItemFault.TheVariants.{Rejected, Memory}
+use Rattle.list_programs.specs.declared.options.ItemEnd.{ItemEnd}
 use Rattle.paths_commands.specs.Task.{IsAnswer, IsCutShort, IsMade, IsPathText, IsRejection, IsUnanswered}
 use Rattle.paths_commands.specs.declared.fault.Rejection.{Rejection}
 use Rattle.paths_commands.specs.declared.fault.Rejection.TheVariants.{ResultHas}

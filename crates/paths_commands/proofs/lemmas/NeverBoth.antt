@@ -1,9 +1,10 @@
 -- Options and operands that request a command aren't rejected.
-use Rattle.std.proofs.Common.{◌≡◌, ⊎_elim, inl, inr, ◌∙◌, ℕ, List, [], ◌∷◌, ◌++◌, codes, refl, sym, subst}
-use Rattle.program_frame.specs.Arguments.{HasOption}
+use Rattle.std.proofs.Common.{◌≡◌, ◌≢◌, inl, inr, ◌∙◌, ℕ, ◌+◌, ◌≤◌, List, [], ◌∷◌, ◌++◌, length, refl, sym, ap, subst, arith}
+use Rattle.list_programs.specs.Arguments.{HasOption, operands_of}
+use Rattle.std.proofs.lemmas.List.{length-append}
 use Rattle.program_frame.specs.Os.{os_word}
-use Rattle.program_frame.specs.declared.misuse.Misuse.{Misuse}
-use Rattle.program_frame.specs.declared.misuse.Misuse.TheVariants.{Argument, Missing, Invalid, Misplaced}
+use Rattle.list_programs.specs.declared.misuse.Misuse.{Misuse}
+use Rattle.list_programs.specs.declared.misuse.Misuse.TheVariants.{Argument, Missing, Invalid, Misplaced}
 use Rattle.program_frame.specs.declared.os.Os.{Os}
 use Rattle.path_building.specs.Base.{HasNoNul, IsBase}
 use Rattle.path_building.specs.BaseViews.{base_path, base_style}
@@ -14,8 +15,8 @@ use Rattle.path_building.proofs.lemmas.Bases.{is_base}
 use Rattle.path_rules.specs.Root.{IsAbsolute}
 use Rattle.path_rules.specs.declared.rules.Style.{Style}
 use Rattle.paths_commands.specs.Styles.{style_of}
-use Rattle.paths_commands.specs.Command.{HasOperands, HasStyle, IsInvalid, IsMisplaced, IsMissing, IsMisuse, IsNoBase, IsNoDirectory, IsOfPaths, IsTooMany, Line, Needs, RequestsNothing}
-use Rattle.paths_commands.specs.Task.{IsChecked, name_of, operands_of_task}
+use Rattle.paths_commands.specs.Command.{HasNoPlatform, HasOneOperand, HasOperands, HasStyle, IsInvalid, IsMisplaced, IsMissing, IsMisuse, IsNoBase, IsNoDirectory, IsNoTarget, IsOfPaths, IsTooMany, Line, Needs, RequestsNothing, needed_count}
+use Rattle.paths_commands.specs.Task.{IsChecked, name_of, name_word, operands_of_task}
 use Rattle.paths_commands.specs.declared.command.Command.TheVariants.{Ask, Help, Version}
 use Rattle.paths_commands.specs.declared.command.Name.{Name as DeclaredName}
 use Rattle.paths_commands.specs.declared.command.Name.TheVariants as name
@@ -34,50 +35,34 @@ first e = cc
 rest : {X : Type 0} {x y : X} {xs ys : List X} → x ∷ xs ≡ y ∷ ys → xs ≡ ys
 rest e = cc
 
--- a task that has no operand needs none
-needs_none : (task : Task) (what : List ℕ) → operands_of_task task ≡ [] → Needs (name_of task) what → ⊥
-needs_none Components what none needs = needs
-needs_none Parent what none needs = needs
-needs_none Name what none needs = needs
-needs_none Stem what none needs = needs
-needs_none Extension what none needs = needs
-needs_none Normalize what none needs = needs
-needs_none Clean what none needs = needs
-needs_none (Join base) what none needs = none_some (sym none)
-needs_none (JoinChecked base) what none needs = none_some (sym none)
-needs_none (Relative base) what none needs = none_some (sym none)
-needs_none (Absolute directory) what none needs = none_some (sym none)
-needs_none (Convert to) what none needs = none_some (sym none)
+-- a task has as many operands as it needs
+count_is : (task : Task) → length (operands_of_task task) ≡ needed_count (name_of task)
+count_is Components = refl
+count_is Parent = refl
+count_is Name = refl
+count_is Stem = refl
+count_is Extension = refl
+count_is Normalize = refl
+count_is Clean = refl
+count_is (Join base) = refl
+count_is (JoinChecked base) = refl
+count_is (Relative base) = refl
+count_is (Absolute directory) = refl
+count_is (Convert to) = refl
 
--- a task that has an operand needs one
-needs_one : (task : Task) (word : List ℕ) (more : List (List ℕ)) → operands_of_task task ≡ word ∷ more → ((what : List ℕ) → ¬ (Needs (name_of task) what)) → ⊥
-needs_one Components word more some none = none_some some
-needs_one Parent word more some none = none_some some
-needs_one Name word more some none = none_some some
-needs_one Stem word more some none = none_some some
-needs_one Extension word more some none = none_some some
-needs_one Normalize word more some none = none_some some
-needs_one Clean word more some none = none_some some
-needs_one (Join base) word more some none = none (codes "BASE") refl
-needs_one (JoinChecked base) word more some none = none (codes "BASE") refl
-needs_one (Relative base) word more some none = none (codes "BASE") refl
-needs_one (Absolute directory) word more some none = none (codes "DIR") refl
-needs_one (Convert to) word more some none = none (codes "platform to convert to") refl
-
--- no task has two operands
-never_two : (task : Task) (operand word : List ℕ) (more : List (List ℕ)) → operands_of_task task ≡ operand ∷ word ∷ more → ⊥
-never_two Components operand word more two = none_some two
-never_two Parent operand word more two = none_some two
-never_two Name operand word more two = none_some two
-never_two Stem operand word more two = none_some two
-never_two Extension operand word more two = none_some two
-never_two Normalize operand word more two = none_some two
-never_two Clean operand word more two = none_some two
-never_two (Join base) operand word more two = none_some (rest two)
-never_two (JoinChecked base) operand word more two = none_some (rest two)
-never_two (Relative base) operand word more two = none_some (rest two)
-never_two (Absolute directory) operand word more two = none_some (rest two)
-never_two (Convert to) operand word more two = none_some (rest two)
+-- a task that needs an operand needs one
+needs_one : (it : DeclaredName) (what : List ℕ) → Needs it what → needed_count it ≡ 1
+needs_one name.Components what needs = absurd needs
+needs_one name.Parent what needs = absurd needs
+needs_one name.Name what needs = absurd needs
+needs_one name.Stem what needs = absurd needs
+needs_one name.Extension what needs = absurd needs
+needs_one name.Normalize what needs = absurd needs
+needs_one name.Clean what needs = absurd needs
+needs_one name.Join what needs = refl
+needs_one name.Relative what needs = refl
+needs_one name.Absolute what needs = refl
+needs_one name.Convert what needs = refl
 
 no_join : name.Convert ≡ name.Join → ⊥
 no_join e = cc
@@ -164,64 +149,98 @@ no_fault w path (base_error.Nul index) is fault = no_nul_after fault.before faul
 no_fault w path base_error.Incomplete is fault = is.1.0 fault.1
 no_fault w path base_error.Reserved is fault = is.1.1 fault.1.1
 
-module _ (given : Line) (task : Task) (os : Os) (requests : HasOperands given (name_of task) os (operands_of_task task)) where
-  -- operands are of one task, and the rest are its own
-  one_name : (it : DeclaredName) (other : Os) (more : List (List ℕ)) → HasOperands given it other more → it ≡ name_of task
-  one_name it other more has = same_name it (name_of task) (first (sym has ∙ requests))
+-- a word that is read as a platform isn't left out as one
+not_both : (after_end : ℕ) (os : Os) (more : List (List ℕ)) → length (os_word os ∷ more) ≢ after_end → HasNoPlatform after_end (os_word os ∷ more) → ⊥
+not_both after_end os more other (inl none) = none os refl
+not_both after_end os more other (inr all) = other all
 
-  one_rest : (it : DeclaredName) (other : Os) (more : List (List ℕ)) → HasOperands given it other more → operands_of_task task ≡ more
-  one_rest it other more has = rest (rest (sym requests ∙ has))
+-- operands are of one task, one platform and the same further operands
+one_reading : (after_end : ℕ) (given : Line) (it also : DeclaredName) (os other : Os) (more rest_of : List (List ℕ)) → HasOperands after_end given it os more → HasOperands after_end given also other rest_of
+    → (it ≡ also) × ((os ≡ other) × (more ≡ rest_of))
+one_reading after_end given it also os other more others (inl has) (inl has_too) =
+    let same = sym has.0 ∙ has_too.0 in (same_name it also (first same), (same_os os other (first (rest same)), rest (rest same)))
+one_reading after_end given it also os other more others (inl has) (inr has_too) =
+    let same = sym has.0 ∙ has_too.0 in absurd (not_both after_end os more has.1 (subst (HasNoPlatform after_end) (sym (rest same)) has_too.1.1))
+one_reading after_end given it also os other more others (inr has) (inl has_too) =
+    let same = sym has_too.0 ∙ has.0 in absurd (not_both after_end other others has_too.1 (subst (HasNoPlatform after_end) (sym (rest same)) has.1.1))
+one_reading after_end given it also os other more others (inr has) (inr has_too) =
+    let same = sym has.0 ∙ has_too.0 in (same_name it also (first same), (has.1.0 ∙ sym has_too.1.0, rest same))
 
-  nothing_missing : (what : List ℕ) → IsMissing given what → ⊥
-  nothing_missing what (inl no_command) = none_some (sym no_command.1 ∙ requests)
-  nothing_missing what (inr (inl no_platform)) = none_some (rest (sym no_platform.1.1 ∙ requests))
-  nothing_missing what (inr (inr no_operand)) =
-      let has = no_operand.1.1.0 in
-      needs_none task what (one_rest no_operand.0 no_operand.1.0 [] has) (subst (λ it. Needs it what) (one_name no_operand.0 no_operand.1.0 [] has) no_operand.1.1.1)
+-- operands are none only where no task is named
+some_operand : (after_end : ℕ) (given : Line) (it : DeclaredName) (os : Os) (more : List (List ℕ)) → HasOperands after_end given it os more → (rest_of : List (List ℕ)) × (operands_of given ≡ name_word it ∷ rest_of)
+some_operand after_end given it os more (inl has) = (os_word os ∷ more, has.0)
+some_operand after_end given it os more (inr has) = (more, has.0)
 
-  no_bad_base : (what word : List ℕ) → (HasOption option.Checked given → IsChecked task) → HasStyle (style_of os) task → IsNoBase given what word → ⊥
+-- a list of one word is that word
+only : (own : List (List ℕ)) (word : List ℕ) (paths others : List (List ℕ)) → length own ≡ 1 → own ++ paths ≡ word ∷ others → own ≡ word ∷ []
+only [] word paths others one e = absurd (omega (arith, one))
+only (it ∷ []) word paths others one e = ap (λ w. w ∷ []) (first e)
+only (it ∷ other ∷ own) word paths others one e = absurd (omega (arith, one))
+
+none_left : (own paths : List (List ℕ)) → [] ≡ own ++ paths → length own ≡ 0
+none_left [] paths e = refl
+none_left (word ∷ own) paths e = absurd (none_some e)
+
+-- the lengths of both sides
+same_length : (own paths before more : List (List ℕ)) (word : List ℕ) → own ++ paths ≡ before ++ word ∷ more → length own + length paths ≡ length before + length (word ∷ more)
+same_length own paths before more word e = sym (length-append own paths) ∙ ap length e ∙ length-append before (word ∷ more)
+
+module _ (after_end : ℕ) (given : Line) (task : Task) (os : Os) (paths : List (List ℕ)) (requests : HasOperands after_end given (name_of task) os (operands_of_task task ++ paths)) (late : length paths ≤ after_end) where
+  -- the task needs one operand, which is its own
+  own_word : (it : DeclaredName) (other : Os) (word : List ℕ) → needed_count it ≡ 1 → HasOneOperand after_end given it other word → (name_of task ≡ it) × ((os ≡ other) × (operands_of_task task ≡ word ∷ []))
+  own_word it other word one has =
+      let same = one_reading after_end given (name_of task) it os other (operands_of_task task ++ paths) (word ∷ has.0) requests has.1.0 in
+      (same.0, (same.1.0, only (operands_of_task task) word paths has.0 (count_is task ∙ ap needed_count same.0 ∙ one) same.1.1))
+
+  nothing_missing : (what : List ℕ) → IsMissing after_end given what → ⊥
+  nothing_missing what (inl no_command) = let some = some_operand after_end given (name_of task) os (operands_of_task task ++ paths) requests in none_some (sym no_command.1 ∙ some.1)
+  nothing_missing what (inr no_operand) =
+      let same = one_reading after_end given no_operand.0 (name_of task) no_operand.1.0 os [] (operands_of_task task ++ paths) no_operand.1.1.0 requests in
+      let count = sym (needs_one no_operand.0 what no_operand.1.1.1) ∙ ap needed_count same.0 ∙ sym (count_is task) ∙ none_left (operands_of_task task) paths same.1.1 in
+      absurd (omega (arith, count))
+
+  no_bad_base : (what word : List ℕ) → (HasOption option.Checked given → IsChecked task) → HasStyle (style_of os) task → IsNoBase after_end given what word → ⊥
   no_bad_base what word checked of none =
-      let other = none.1.1.1.0 in
-      let has = none.1.1.1.1.0 in
-      let same = same_os other os (first (rest (sym has ∙ requests))) in
-      let is = checked_base (style_of os) task word (checked none.1.1.0) of (one_rest name.Join other (word ∷ []) has) in
-      no_fault (style_of os) word none.0 is (subst (λ o. IsBaseFault (style_of o) word none.0) same none.1.1.1.1.1)
+      let own = own_word name.Join none.1.1.1.0 word refl none.1.1.1.1.0 in
+      let is = checked_base (style_of os) task word (checked none.1.1.0) of own.1.1 in
+      no_fault (style_of os) word none.0 is (subst (λ o. IsBaseFault (style_of o) word none.0) (sym own.1.0) none.1.1.1.1.1)
 
-  no_bad_directory : (what word : List ℕ) → HasStyle (style_of os) task → IsNoDirectory given what word → ⊥
+  no_bad_directory : (what word : List ℕ) → HasStyle (style_of os) task → IsNoDirectory after_end given what word → ⊥
   no_bad_directory what word of none =
-      let other = none.1.0 in
-      let has = none.1.1.0 in
-      let same = same_os other os (first (rest (sym has ∙ requests))) in
-      let is = absolute_directory (style_of os) task word (one_name name.Absolute other (word ∷ []) has) of (one_rest name.Absolute other (word ∷ []) has) in
-      none.1.1.1 (subst (λ o. IsAbsolute (style_of o) word) (sym same) is)
+      let own = own_word name.Absolute none.1.0 word refl none.1.1.0 in
+      none.1.1.1 (subst (λ o. IsAbsolute (style_of o) word) own.1.0 (absolute_directory (style_of os) task word (sym own.0) of own.1.1))
 
-  nothing_invalid : (what word : List ℕ) → (HasOption option.Checked given → IsChecked task) → HasStyle (style_of os) task → IsInvalid given what word → ⊥
+  no_bad_target : (what word : List ℕ) → IsNoTarget after_end given what word → ⊥
+  no_bad_target what word none =
+      let own = own_word name.Convert none.1.0 word refl none.1.1.0 in
+      let to = converts task word [] (sym own.0) own.1.1 in
+      none.1.1.1 to.0 to.1
+
+  nothing_invalid : (what word : List ℕ) → (HasOption option.Checked given → IsChecked task) → HasStyle (style_of os) task → IsInvalid after_end given what word → ⊥
+  nothing_invalid what word checked of (inl no_command) =
+      let some = some_operand after_end given (name_of task) os (operands_of_task task ++ paths) requests in no_command.1.0 (name_of task) (first (sym no_command.1.1.1 ∙ some.1))
+  nothing_invalid what word checked of (inr (inl no_target)) = no_bad_target what word no_target
   nothing_invalid what word checked of (inr (inr (inl no_base))) = no_bad_base what word checked of no_base
   nothing_invalid what word checked of (inr (inr (inr no_directory))) = no_bad_directory what word of no_directory
-  nothing_invalid what word checked of (inl no_command) = no_command.1.0 (name_of task) (first (sym no_command.1.1.1 ∙ requests))
-  nothing_invalid what word checked of (inr (inl no_platform)) = ⊎_elim
-      (λ second. no_platform.1.0 os (first (rest (sym second.1.1 ∙ requests))))
-      (λ converted.
-      let to = converts task word [] (one_name name.Convert converted.0 (word ∷ []) converted.1) (one_rest name.Convert converted.0 (word ∷ []) converted.1) in
-      no_platform.1.0 to.0 to.1)
-      no_platform.1.1
 
-  nothing_surplus : (word : List ℕ) → IsTooMany given word → ⊥
-  nothing_surplus word many = ⊎_elim
-      (λ two. never_two task two.0 word many.1.1.0 (one_rest many.0 many.1.0 (two.0 ∷ word ∷ many.1.1.0) two.1))
-      (λ none. needs_one task word many.1.1.0 (one_rest many.0 many.1.0 (word ∷ many.1.1.0) none.1) (subst (λ it. (what : List ℕ) → ¬ (Needs it what)) (one_name many.0 many.1.0 (word ∷ many.1.1.0) none.1) none.0))
-      many.1.1.1
+  nothing_surplus : (word : List ℕ) → IsTooMany after_end given word → ⊥
+  nothing_surplus word many =
+      let same = one_reading after_end given (name_of task) many.name os many.os (operands_of_task task ++ paths) (many.before ++ word ∷ many.more) requests many.has in
+      let lengths = same_length (operands_of_task task) paths many.before many.more word same.1.1 in
+      let count = count_is task ∙ ap needed_count same.0 ∙ sym many.needed in
+      absurd (omega (arith, lengths, count, late, many.early))
 
-  nothing_misplaced : (word where_to : List ℕ) → (HasOption option.Checked given → IsChecked task) → IsMisplaced given word where_to → ⊥
+  nothing_misplaced : (word where_to : List ℕ) → (HasOption option.Checked given → IsChecked task) → IsMisplaced after_end given word where_to → ⊥
   nothing_misplaced word where_to checked misplaced =
       let named = misplaced.1.1 in
-      named.1.1.1.1.1 (one_name named.0 named.1.0 named.1.1.0 named.1.1.1.0 ∙ checked_joins task (checked misplaced.1.0))
+      let same = one_reading after_end given named.0 (name_of task) named.1.0 os named.1.1.0 (operands_of_task task ++ paths) named.1.1.1.0 requests in
+      named.1.1.1.1.1 (same.0 ∙ checked_joins task (checked misplaced.1.0))
 
 -- what is wrong with options and operands isn't wrong with those that request a command
-pub never_both : (given : Line) (misuse : Misuse) → IsOfPaths given → IsMisuse given misuse → RequestsNothing given
-never_both given misuse of_paths wrong Help requests = of_paths.0 requests
-never_both given misuse of_paths wrong Version requests = of_paths.1 requests.1
-never_both given (Argument error) of_paths wrong (Ask task os list keeps_going) requests = nothing_surplus given task os requests.1.0 wrong.0 wrong.1.0
-never_both given (Missing what) of_paths wrong (Ask task os list keeps_going) requests = nothing_missing given task os requests.1.0 what.now wrong
-never_both given (Invalid what word) of_paths wrong (Ask task os list keeps_going) requests = nothing_invalid given task os requests.1.0 what.now word.now requests.1.1.0.1 requests.1.1.1.0 wrong
-never_both given (Misplaced word where_to) of_paths wrong (Ask task os list keeps_going) requests = nothing_misplaced given task os requests.1.0 word.now where_to.now requests.1.1.0.1 wrong
+pub never_both : (after_end : ℕ) (given : Line) (misuse : Misuse) → IsOfPaths given → IsMisuse after_end given misuse → RequestsNothing after_end given
+never_both after_end given misuse of_paths wrong Help requests = of_paths.0 requests
+never_both after_end given misuse of_paths wrong Version requests = of_paths.1 requests.1
+never_both after_end given (Argument error) of_paths wrong (Ask task os list keeps_going paths) requests = nothing_surplus after_end given task os (operands_of paths.now) requests.1.0.0 requests.1.0.1 wrong.0 wrong.1.0
+never_both after_end given (Missing what) of_paths wrong (Ask task os list keeps_going paths) requests = nothing_missing after_end given task os (operands_of paths.now) requests.1.0.0 requests.1.0.1 what.now wrong
+never_both after_end given (Invalid what word) of_paths wrong (Ask task os list keeps_going paths) requests = nothing_invalid after_end given task os (operands_of paths.now) requests.1.0.0 requests.1.0.1 what.now word.now requests.1.1.0.1 requests.1.1.1.0 wrong
+never_both after_end given (Misplaced word where_to) of_paths wrong (Ask task os list keeps_going paths) requests = nothing_misplaced after_end given task os (operands_of paths.now) requests.1.0.0 requests.1.0.1 word.now where_to.now requests.1.1.0.1 wrong

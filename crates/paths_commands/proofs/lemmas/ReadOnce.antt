@@ -1,19 +1,22 @@
 -- Arguments are read in one way: as one list of options and operands, or with a fault.
-use Rattle.std.proofs.Common.{◌≡◌, inl, inr, ◌∙◌, ℕ, List, [], ◌∷◌, Option, Some, None, Result, Ok, Err, get_or, refl, sym, ap, subst, arith}
+use Rattle.std.proofs.Common.{◌≡◌, inl, inr, ◌∙◌, ℕ, List, [], ◌∷◌, ◌++◌, Option, Some, None, Result, Ok, Err, get_or, refl, sym, ap, subst, arith}
 use Rattle.std.specs.Prelude.{Bool, true, false}
 use Rattle.os_args.specs.Word.{Kind, Long, LongBytes, Short, ShortBytes, Value}
 use Rattle.os_args.specs.Reading.{Fault, Reading, TakesWord}
 use Rattle.os_args.proofs.lemmas.OneOutcome.{one_word}
-use Rattle.program_frame.specs.Arguments.{AreGiven, FailsAt, HasFault, HasOption, IsOption, Takes, TakesAll, operands_of, unread}
-use Rattle.program_frame.specs.ListOptions.{AreStated, IsEnd, IsLast}
-use Rattle.program_frame.specs.declared.arguments.Given.{Given}
-use Rattle.program_frame.specs.declared.arguments.Given.TheVariants.{Operand, Flag, Valued}
-use Rattle.program_frame.specs.declared.lists.options.ItemEnd.{ItemEnd}
-use Rattle.program_frame.specs.declared.lists.options.ItemEnd.TheVariants.{Nul, Newline}
-use Rattle.program_frame.specs.declared.lists.options.LastItem.{LastItem}
-use Rattle.program_frame.specs.declared.lists.options.LastItem.TheVariants.{MustEnd, MayLackEnd}
-use Rattle.program_frame.specs.declared.lists.options.ListOptions.{ListOptions}
-use Rattle.paths_commands.specs.Command.{IsRequestFor, Line, RequestsNothing, longest_path}
+use Rattle.list_programs.specs.Arguments.{AreGiven, FailsAt, HasFault, HasOption, IsOption, Takes, TakesAll, operands_of, unread}
+use Rattle.list_programs.specs.ListOptions.{AreStated, IsEnd, IsLast}
+use Rattle.list_programs.specs.declared.arguments.Given.{Given}
+use Rattle.list_programs.specs.declared.arguments.Given.TheVariants.{Operand, Flag, Valued}
+use Rattle.list_programs.specs.declared.options.ItemEnd.{ItemEnd}
+use Rattle.list_programs.specs.declared.options.ItemEnd.TheVariants.{Nul, Newline}
+use Rattle.list_programs.specs.declared.options.LastItem.{LastItem}
+use Rattle.list_programs.specs.declared.options.LastItem.TheVariants.{MustEnd, MayLackEnd}
+use Rattle.list_programs.specs.declared.options.ListOptions.{ListOptions}
+use Rattle.paths_commands.specs.Command.{AreAfterEnd, AreRead, IsRequestFor, HasOperands, Line, RequestNothing, RequestsNothing, longest_path}
+use Rattle.paths_commands.specs.Task.{name_of as name_of_task, operands_of_task}
+use Rattle.paths_commands.specs.declared.command.Name.{Name as DeclaredName}
+use Rattle.program_frame.specs.declared.os.Os.{Os}
 use Rattle.paths_commands.specs.Options.{IsFlagOf, has_value, name_of, spelled}
 use Rattle.paths_commands.specs.declared.command.Command.{Command}
 use Rattle.paths_commands.specs.declared.command.Command.TheVariants.{Ask, Help as HelpCommand, Version as VersionCommand}
@@ -226,13 +229,17 @@ module _ (given other : Line) (alike : AreAlike given other) where
   alike_list : (list : ListOptions) → AreStated Lines Unterminated longest_path given list → AreStated Lines Unterminated longest_path other list
   alike_list list are = record { end = alike_end list.end are.end; last = alike_last list.last are.last; limit = are.limit }
 
-  alike_request : (command : Command) → IsRequestFor given command → IsRequestFor other command
-  alike_request HelpCommand requests = has Help requests
-  alike_request VersionCommand requests = ((λ help. requests.0 (had Help help)), has Version requests.1)
-  alike_request (Ask task os list keeps_going) requests = (
+  alike_has : (after_end : ℕ) (it : DeclaredName) (os : Os) (more : List (List ℕ)) → HasOperands after_end given it os more → HasOperands after_end other it os more
+  alike_has after_end it os more (inl has) = inl (sym (alike_operands given other alike) ∙ has.0, has.1)
+  alike_has after_end it os more (inr has) = inr (sym (alike_operands given other alike) ∙ has.0, has.1)
+
+  alike_request : (after_end : ℕ) (command : Command) → IsRequestFor after_end given command → IsRequestFor after_end other command
+  alike_request after_end HelpCommand requests = has Help requests
+  alike_request after_end VersionCommand requests = ((λ help. requests.0 (had Help help)), has Version requests.1)
+  alike_request after_end (Ask task os list keeps_going paths) requests = (
     ((λ help. requests.0.0 (had Help help)), (λ version. requests.0.1 (had Version version))),
     (
-      sym (alike_operands given other alike) ∙ requests.1.0,
+      (alike_has after_end (name_of_task task) os (operands_of_task task ++ operands_of paths.now) requests.1.0.0, requests.1.0.1),
       (
         ((λ is. has Checked (requests.1.1.0.0 is)), (λ checked. requests.1.1.0.1 (had Checked checked))),
         (
@@ -246,10 +253,19 @@ module _ (given other : Line) (alike : AreAlike given other) where
     ),
   )
 
+-- one number of arguments comes after the first `--`
+one_after_end : (words : List (List ℕ)) (count other : ℕ) → AreAfterEnd words count → AreAfterEnd words other → count ≡ other
+one_after_end [] count other is also = is ∙ sym also
+one_after_end (word ∷ words) count other (inl is) (inl also) = is.1 ∙ sym also.1
+one_after_end (word ∷ words) count other (inl is) (inr also) = absurd (also.0 is.0)
+one_after_end (word ∷ words) count other (inr is) (inl also) = absurd (is.0 also.0)
+one_after_end (word ∷ words) count other (inr is) (inr also) = one_after_end words count other is.1 also.1
+
 -- if the options and operands request nothing, then the arguments do
-pub none_requested : (words : List (List ℕ)) (given other : Line) → AreGiven spelled has_value words given → RequestsNothing given → AreGiven spelled has_value words other → RequestsNothing other
-none_requested words given other are nothing also command requests =
-    nothing command (alike_request other given (all_once other given (unread words) _ _ _ _ also.are also.end are.are are.end) command requests)
+pub none_requested : (words : List (List ℕ)) (after_end : ℕ) (given : Line) → AreRead words after_end given → RequestsNothing after_end given → RequestNothing words
+none_requested words after_end given are nothing count other also command requests =
+    let alike = all_once other given (unread words) _ _ _ _ also.0.are also.0.end are.0.are are.0.end in
+    nothing command (alike_request other given alike after_end command (subst (λ n. IsRequestFor n other command) (one_after_end words count after_end also.1 are.1) requests))
 
 -- arguments with a fault aren't options and operands
 pub none_given : (words : List (List ℕ)) (fault : Fault) (given : Line) → HasFault spelled has_value words fault → AreGiven spelled has_value words given → ⊥

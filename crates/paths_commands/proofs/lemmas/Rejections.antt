@@ -4,7 +4,7 @@ use Rattle.path_building.specs.declared.base.Base.{Base}
 use Rattle.os_str_bytes.specs.Platform.{Ghosts}
 use Rattle.path_rules.specs.declared.rules.Style.{Style}
 use Rattle.program_frame.specs.Strings.{strings}
-use Rattle.program_frame.specs.declared.lists.options.ItemEnd.{ItemEnd}
+use Rattle.list_programs.specs.declared.options.ItemEnd.{ItemEnd}
 use Rattle.program_frame.specs.declared.os.Os.{Os}
 use Rattle.paths_commands.specs.Styles.{style_of}
 use Rattle.paths_commands.specs.Task.{IsRejection, IsUnanswered, IsUnconverted, IsUnjoined}

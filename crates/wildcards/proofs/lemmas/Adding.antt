@@ -1,5 +1,6 @@
 -- The indices of patterns that match are added to a list.
-use Rattle.std.proofs.Common.{◌≡◌, ◌⊎◌, inl, inr, ℕ, List, [], ◌∷◌, ◌++◌, sym, subst}
+use Rattle.std.proofs.Common.{◌≡◌, ◌⊎◌, inl, inr, ◌<◌, ◌≤◌, ◌+◌, ℕ, List, [], ◌∷◌, ◌++◌, sym, subst, arith}
+use Rattle.std.proofs.lemmas.Bool.{cases_lt}
 use Rattle.wildcards.specs.declared.filter.Place.{Place}
 use Rattle.wildcards.specs.declared.options.Options.{Options}
 use Rattle.wildcards.specs.declared.set.Pattern.{Pattern}
@@ -114,3 +115,35 @@ module _ {A : Type 0} (o : Options) (patterns : List (Pattern A)) (path : List �
         decided : (i : ℕ) → IsHit o patterns path i → Has found i ⊎ (Has found i → ⊥) → Has found i
         decided i hit (inl h) = h
         decided i hit (inr n) = absurd (placed i hit (λ place k at has. n (subst (Has found) k (no_more place (f.complete place has at)))))
+
+  -- each pattern is tried, by its index
+  abbrev pub NoneBelow : ℕ → Type 0
+  NoneBelow n = (i : ℕ) → i < n → IsHit o patterns path i → ⊥
+
+  pub none_more : (n : ℕ) → NoneBelow n → (IsHit o patterns path n → ⊥) → NoneBelow (n + 1)
+  none_more n none never i l hit = by_size (cases_lt i n)
+    where
+      by_size : (i < n) ⊎ (n ≤ i) → ⊥
+      by_size (inl m) = none i m hit
+      by_size (inr m) = let e : i ≡ n = omega (arith, l, m) in never (subst (IsHit o patterns path) e hit)
+
+  abbrev pub FoundBelow : ℕ → List ℕ → Type 0
+  FoundBelow n found = ((i : ℕ) → Has found i → IsHit o patterns path i) × ((i : ℕ) → i < n → IsHit o patterns path i → Has found i)
+
+  pub below_missed : (n : ℕ) (found : List ℕ) → (IsHit o patterns path n → ⊥) → FoundBelow n found → FoundBelow (n + 1) found
+  below_missed n found never h = (h.0, λ i l hit. by_size i l hit (cases_lt i n))
+    where
+      by_size : (i : ℕ) → i < n + 1 → IsHit o patterns path i → (i < n) ⊎ (n ≤ i) → Has found i
+      by_size i l hit (inl m) = h.1 i m hit
+      by_size i l hit (inr m) = let e : i ≡ n = omega (arith, l, m) in absurd (never (subst (IsHit o patterns path) e hit))
+
+  pub below_pushed : (n : ℕ) (found more : List ℕ) → more ≡ found ++ n ∷ [] → IsHit o patterns path n → FoundBelow n found → FoundBelow (n + 1) more
+  below_pushed n found more e hit h = (λ i has. sound i (has_either found n i (subst (λ z. Has z i) e has)), λ i l own. subst (λ z. Has z i) (sym e) (by_size i l own (cases_lt i n)))
+    where
+      sound : (i : ℕ) → Has found i ⊎ (i ≡ n) → IsHit o patterns path i
+      sound i (inl has) = h.0 i has
+      sound i (inr same) = subst (IsHit o patterns path) (sym same) hit
+
+      by_size : (i : ℕ) → i < n + 1 → IsHit o patterns path i → (i < n) ⊎ (n ≤ i) → Has (found ++ n ∷ []) i
+      by_size i l own (inl m) = has_more found n i (h.1 i m own)
+      by_size i l own (inr m) = let same : n ≡ i = omega (arith, l, m) in subst (Has (found ++ n ∷ [])) same (has_pushed found n)

@@ -1,5 +1,5 @@
 -- Places in the buckets of a filter stay where they are.
-use Rattle.std.proofs.Common.{◌≡◌, ◌⊎◌, inl, inr, ◌<◌, ◌≤◌, ◌+◌, ◌-◌, ℕ, zero, suc, List, [], ◌∷◌, ◌++◌, length, get_or, set, refl, sym, ap, ◌∙◌, subst, arith}
+use Rattle.std.proofs.Common.{Bool, ◌≡◌, ◌⊎◌, inl, inr, ◌<◌, ◌≤◌, ◌+◌, ◌-◌, ℕ, zero, suc, List, [], ◌∷◌, ◌++◌, length, get_or, set, refl, sym, ap, ◌∙◌, subst, arith}
 use Rattle.std.specs.declared.vec.Vec.{Vec}
 use Rattle.std.specs.Prelude.{slice_index_or}
 use Rattle.std.proofs.lemmas.Bool.{cases_lt}
@@ -14,7 +14,7 @@ use Rattle.wildcards.specs.declared.pattern.Choice.{Choice}
 use Rattle.wildcards.specs.declared.piece.Piece.{Piece}
 use Rattle.wildcards.specs.declared.set.Pattern.{Pattern}
 use Rattle.wildcards.specs.Filters.{Asks, IsCovered, Grows, AreCovered, CoversBelow, CoversAll}
-use Rattle.wildcards.specs.Keys.{IsNeeded}
+use Rattle.wildcards.specs.Small.{IsNeededBy}
 use Rattle.wildcards.specs.Sets.{Has}
 use Rattle.wildcards.specs.Tables.{slot_of, places_at, bucket}
 use Rattle.wildcards.proofs.lemmas.Found.{has_more, has_pushed}
@@ -49,29 +49,30 @@ module _ {A : Type 0} where
   set_length (b ∷ bs) (suc slot) v = ap suc (set_length bs slot v)
 
   -- an index is pushed onto a bucket
-  module _ (bs new : List (Vec Place A)) (slot : ℕ) (index : Place) (v d : Vec Place A) (l : slot < length bs) (e : new ≡ set bs slot v) (p : v.items ≡ (get_or bs slot d).items ++ index ∷ []) where
+  module _ (folds : Bool) (bs new : List (Vec Place A)) (slot : ℕ) (index : Place) (v d : Vec Place A) (l : slot < length bs) (e : new ≡ set bs slot v) (p : v.items ≡ (get_or bs slot d).items ++ index ∷ []) where
     same_count : length new ≡ length bs
     same_count = ap length e ∙ set_length bs slot v
 
-    pub pushed_all : (key : List ℕ) (i : Place) → Has (bucket bs key) i → Has (bucket new key) i
+    pub pushed_all : (key : List ℕ) (i : Place) → Has (bucket folds bs key) i → Has (bucket folds new key) i
     pushed_all key i h =
-        subst (λ n. Has (places_at new (slot_of n key)) i) (sym same_count)
-        (subst (λ z. Has (places_at z (slot_of (length bs) key)) i) (sym e)
-        (set_slot bs slot (slot_of (length bs) key) v i (λ k has. subst (λ z. Has z k) (sym p) (has_more (get_or bs slot d).items index k (subst (λ z. Has z k) (at_slot bs slot d l) has))) h))
+        subst (λ n. Has (places_at new (slot_of folds n key)) i) (sym same_count)
+        (subst (λ z. Has (places_at z (slot_of folds (length bs) key)) i) (sym e)
+        (set_slot bs slot (slot_of folds (length bs) key) v i (λ k has. subst (λ z. Has z k) (sym p) (has_more (get_or bs slot d).items index k (subst (λ z. Has z k) (at_slot bs slot d l) has))) h))
 
-    pub pushed_one : (key : List ℕ) → slot ≡ slot_of (length bs) key → Has (bucket new key) index
+    pub pushed_one : (key : List ℕ) → slot ≡ slot_of folds (length bs) key → Has (bucket folds new key) index
     pushed_one key f =
-        subst (λ n. Has (places_at new (slot_of n key)) index) (sym same_count)
-        (subst (λ z. Has (places_at z (slot_of (length bs) key)) index) (sym e)
+        subst (λ n. Has (places_at new (slot_of folds n key)) index) (sym same_count)
+        (subst (λ z. Has (places_at z (slot_of folds (length bs) key)) index) (sym e)
         (subst (λ n. Has (places_at (set bs slot v) n) index) f
         (this_slot bs slot v index l (subst (λ z. Has z index) (sym p) (has_pushed (get_or bs slot d).items index)))))
 
   pub grows_not : (f : Filter A) → Grows f f
-  grows_not f = record { others = λ i h. h; listed = λ key i h. h; asked = λ k n h. h }
+  grows_not f = record { others = λ i h. h; same = refl; listed = λ key i h. h; asked = λ k n h. h }
 
   pub grows_on : (f g h : Filter A) → Grows f g → Grows g h → Grows f h
   grows_on f g h a b = record {
     others = λ i k. b.others i (a.others i k);
+    same = a.same ∙ b.same;
     listed = λ key i k. b.listed key i (a.listed key i k);
     asked = λ kind n k. b.asked kind n (a.asked kind n k);
   }
@@ -79,30 +80,30 @@ module _ {A : Type 0} where
   pub asks_suffix : (f : Filter A) (k : Kind) (n : ℕ) → k ≡ kind.Suffix → Has f.lengths.items n → Asks f k n
   asks_suffix f k n e h = subst (λ z. Asks f z n) (sym e) h
 
-  pub more_lengths : (f : Filter A) (v : Vec ℕ A) (n : ℕ) → v.items ≡ f.lengths.items ++ n ∷ [] → Grows f (record { buckets = f.buckets; others = f.others; paths = f.paths; names = f.names; components = f.components; extensions = f.extensions; lengths = v })
-  more_lengths f v n e = record { others = λ i h. h; listed = λ key i h. h; asked = asked }
+  pub more_lengths : (f : Filter A) (v : Vec ℕ A) (n : ℕ) → v.items ≡ f.lengths.items ++ n ∷ [] → Grows f (record { folds = f.folds; buckets = f.buckets; others = f.others; paths = f.paths; names = f.names; components = f.components; extensions = f.extensions; lengths = v })
+  more_lengths f v n e = record { others = λ i h. h; same = refl; listed = λ key i h. h; asked = asked }
     where
-      asked : (k : Kind) (m : ℕ) → Asks f k m → Asks (record { buckets = f.buckets; others = f.others; paths = f.paths; names = f.names; components = f.components; extensions = f.extensions; lengths = v }) k m
+      asked : (k : Kind) (m : ℕ) → Asks f k m → Asks (record { folds = f.folds; buckets = f.buckets; others = f.others; paths = f.paths; names = f.names; components = f.components; extensions = f.extensions; lengths = v }) k m
       asked kind.Path m h = h
       asked kind.Name m h = h
       asked kind.Component m h = h
       asked kind.Extension m h = h
       asked kind.Suffix m h = subst (λ z. Has z m) (sym e) (has_more f.lengths.items n m h)
 
-  pub more_others : (f : Filter A) (v : Vec Place A) (n : Place) → v.items ≡ f.others.items ++ n ∷ [] → Grows f (record { buckets = f.buckets; others = v; paths = f.paths; names = f.names; components = f.components; extensions = f.extensions; lengths = f.lengths })
-  more_others f v n e = record { others = λ i h. subst (λ z. Has z i) (sym e) (has_more f.others.items n i h); listed = λ key i h. h; asked = asked }
+  pub more_others : (f : Filter A) (v : Vec Place A) (n : Place) → v.items ≡ f.others.items ++ n ∷ [] → Grows f (record { folds = f.folds; buckets = f.buckets; others = v; paths = f.paths; names = f.names; components = f.components; extensions = f.extensions; lengths = f.lengths })
+  more_others f v n e = record { others = λ i h. subst (λ z. Has z i) (sym e) (has_more f.others.items n i h); same = refl; listed = λ key i h. h; asked = asked }
     where
-      asked : (k : Kind) (m : ℕ) → Asks f k m → Asks (record { buckets = f.buckets; others = v; paths = f.paths; names = f.names; components = f.components; extensions = f.extensions; lengths = f.lengths }) k m
+      asked : (k : Kind) (m : ℕ) → Asks f k m → Asks (record { folds = f.folds; buckets = f.buckets; others = v; paths = f.paths; names = f.names; components = f.components; extensions = f.extensions; lengths = f.lengths }) k m
       asked kind.Path m h = h
       asked kind.Name m h = h
       asked kind.Component m h = h
       asked kind.Extension m h = h
       asked kind.Suffix m h = h
 
-  pub more_listed : (f : Filter A) (v : Vec (Vec Place A) A) → ((key : List ℕ) (i : Place) → Has (bucket f.buckets.items key) i → Has (bucket v.items key) i) → Grows f (record { buckets = v; others = f.others; paths = f.paths; names = f.names; components = f.components; extensions = f.extensions; lengths = f.lengths })
-  more_listed f v more = record { others = λ i h. h; listed = more; asked = asked }
+  pub more_listed : (f : Filter A) (v : Vec (Vec Place A) A) → ((key : List ℕ) (i : Place) → Has (bucket f.folds f.buckets.items key) i → Has (bucket f.folds v.items key) i) → Grows f (record { folds = f.folds; buckets = v; others = f.others; paths = f.paths; names = f.names; components = f.components; extensions = f.extensions; lengths = f.lengths })
+  more_listed f v more = record { others = λ i h. h; same = refl; listed = more; asked = asked }
     where
-      asked : (k : Kind) (m : ℕ) → Asks f k m → Asks (record { buckets = v; others = f.others; paths = f.paths; names = f.names; components = f.components; extensions = f.extensions; lengths = f.lengths }) k m
+      asked : (k : Kind) (m : ℕ) → Asks f k m → Asks (record { folds = f.folds; buckets = v; others = f.others; paths = f.paths; names = f.names; components = f.components; extensions = f.extensions; lengths = f.lengths }) k m
       asked kind.Path m h = h
       asked kind.Name m h = h
       asked kind.Component m h = h
@@ -110,14 +111,14 @@ module _ {A : Type 0} where
       asked kind.Suffix m h = h
 
   -- a key is noted, and then its index listed
-  pub listed_covered : (o : Options) (f g : Filter A) (i : Place) (pieces : List (Piece (Part A))) (k : Kind) (key : List ℕ) → IsNeeded o pieces k key → Asks f k (length key) → Grows f g → Has g.others.items i ⊎ Has (bucket g.buckets.items key) i → IsCovered o g i pieces
+  pub listed_covered : (o : Options) (f g : Filter A) (i : Place) (pieces : List (Piece (Part A))) (k : Kind) (key : List ℕ) → IsNeededBy f.folds o pieces k key → Asks f k (length key) → Grows f g → Has g.others.items i ⊎ Has (bucket g.folds g.buckets.items key) i → IsCovered o g i pieces
   listed_covered o f g i pieces k key needed asked grows (inl h) = inl h
-  listed_covered o f g i pieces k key needed asked grows (inr h) = inr (record { kind = k; key = key; needed = needed; asked = grows.asked k (length key) asked; listed = h })
+  listed_covered o f g i pieces k key needed asked grows (inr h) = inr (record { kind = k; key = key; needed = subst (λ z. IsNeededBy z o pieces k key) grows.same needed; asked = grows.asked k (length key) asked; listed = h })
 
   module _ (o : Options) (f g : Filter A) (grows : Grows f g) where
     covered_on : (i : Place) (pieces : List (Piece (Part A))) → IsCovered o f i pieces → IsCovered o g i pieces
     covered_on i pieces (inl h) = inl (grows.others i h)
-    covered_on i pieces (inr h) = inr (record { kind = h.kind; key = h.key; needed = h.needed; asked = grows.asked h.kind (length h.key) h.asked; listed = grows.listed h.key i h.listed })
+    covered_on i pieces (inr h) = inr (record { kind = h.kind; key = h.key; needed = subst (λ z. IsNeededBy z o pieces h.kind h.key) grows.same h.needed; asked = grows.asked h.kind (length h.key) h.asked; listed = grows.listed h.key i h.listed })
 
     pub are_covered_on : (i j : ℕ) (cs : List (Choice A)) → AreCovered o f i j cs → AreCovered o g i j cs
     are_covered_on i j [] h = tt

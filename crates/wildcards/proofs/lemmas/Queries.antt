@@ -1,10 +1,12 @@
 -- A path is matched with each choice whose key it has.
-use Rattle.std.proofs.Common.{◌≡◌, ◌⊎◌, inl, inr, ◌<◌, ◌+◌, ◌-◌, ℕ, zero, suc, nat_eq, true, false, Bool, ◌||◌, List, [], ◌∷◌, ◌++◌, map, length, drop, refl, sym, ap, ◌∙◌, subst, arith, length-append, append-nil}
+use Rattle.std.proofs.Common.{bit_and, ◌≡◌, ◌⊎◌, inl, inr, ◌<◌, ◌+◌, ◌-◌, ℕ, zero, suc, nat_eq, true, false, Bool, ◌||◌, List, [], ◌∷◌, ◌++◌, map, length, drop, refl, sym, ap, ◌∙◌, subst, arith, length-append, append-nil}
 use Rattle.std.specs.List.{AllByRecursion, HoldsAt}
 use Rattle.std.specs.Prelude.{slice_index_or, if◌then◌else◌, Option, None, Some, MatchOption}
 use denote.Ref.{Bor}
 use Rattle.std.proofs.lemmas.Bool.{eqb-true}
-use Rattle.std.proofs.lemmas.List.{same_from_push, drop_at}
+use Rattle.std.proofs.lemmas.List.{same_from_push, drop_at, map-append, length-map}
+use Rattle.std.proofs.lemmas.Str.Ascii.{lowercase-lowercase}
+use Rattle.std.specs.Char.{to_ascii_lowercase}
 use Rattle.std.proofs.lemmas.List.Elements.{All-from_recursion, at_read}
 use Rattle.wildcards.specs.declared.candidates.Query.{Query}
 use Rattle.wildcards.specs.declared.filter.Filter.{Filter}
@@ -26,10 +28,12 @@ use Rattle.wildcards.specs.Keys.{HasPart, HasKey, key_separators}
 use Rattle.wildcards.specs.Match.{Matches}
 use Rattle.wildcards.specs.Reading.{LetterLaws}
 use Rattle.wildcards.specs.Sets.{Has, MatchesChoice, IsHit}
-use Rattle.wildcards.specs.Tables.{places_at, bucket}
+use Rattle.wildcards.specs.Small.{AreAscii, IsLookedUp, folded}
+use Rattle.wildcards.specs.Tables.{digest_after, digest_of, places_at, bucket}
 use Rattle.wildcards.proofs.lemmas.Extensions.{has_dot, one_extension}
 use Rattle.wildcards.proofs.lemmas.Parts.{one_component, first_component}
 use Rattle.wildcards.proofs.lemmas.Readings.{whole, first_of, cut_letters}
+use Rattle.wildcards.proofs.lemmas.Small.{dot_only, small_components}
 
 -- a list is cut at its first separator, or has none
 pub record FirstCut (o : Separators) (s : List ℕ) : Type 0 where
@@ -133,19 +137,19 @@ module _ {A : Type 0} (q : Query A) where
       onto again (inr f) = let h = again f in (h.0, (inr h.1.0, h.1.1))
 
   -- the list of a key has what is in its bucket, or that of a later key
-  key_listed : (place : Place) (keys : List (List ℕ)) (key : List ℕ) → Has keys key → Has (bucket q.filter.now.buckets.items key) place → OneHas (key_lists q keys) place
+  key_listed : (place : Place) (keys : List (List ℕ)) (key : List ℕ) → Has keys key → Has (bucket q.filter.now.folds q.filter.now.buckets.items key) place → OneHas (key_lists q keys) place
   key_listed place [] key h l = absurd h
   key_listed place (k ∷ keys) key (inr h) l = inr (key_listed place keys key h l)
   key_listed place (k ∷ keys) key (inl e) l = by_again (comes_again q (slot_in q k) keys) refl (key_listed place keys)
     where
-      here : Has (bucket q.filter.now.buckets.items k) place
-      here = subst (λ z. Has (bucket q.filter.now.buckets.items z) place) e l
+      here : Has (bucket q.filter.now.folds q.filter.now.buckets.items k) place
+      here = subst (λ z. Has (bucket q.filter.now.folds q.filter.now.buckets.items z) place) e l
 
-      by_again : (v : Bool) → comes_again q (slot_in q k) keys ≡ v → ((key : List ℕ) → Has keys key → Has (bucket q.filter.now.buckets.items key) place → OneHas (key_lists q keys) place) → OneHas (key_lists q (k ∷ keys)) place
+      by_again : (v : Bool) → comes_again q (slot_in q k) keys ≡ v → ((key : List ℕ) → Has keys key → Has (bucket q.filter.now.folds q.filter.now.buckets.items key) place → OneHas (key_lists q keys) place) → OneHas (key_lists q (k ∷ keys)) place
       by_again true f again =
           let later = later_key (slot_in q k) keys f in
           inr (again later.0 later.1.0 (subst (λ z. Has (places_at q.filter.now.buckets.items z) place) (sym later.1.1) here))
-      by_again false f again = inl (subst (λ z. Has (if z then [] else bucket q.filter.now.buckets.items k) place) (sym f) here)
+      by_again false f again = inl (subst (λ z. Has (if z then [] else bucket q.filter.now.folds q.filter.now.buckets.items k) place) (sym f) here)
 
   of_suffix : (lengths : List ℕ) (n : ℕ) (before key : List ℕ) → q.name.now ≡ before ++ key → n ≡ length key → Has lengths n → Has (suffix_keys q lengths) key
   of_suffix [] n before key e size has = absurd has
@@ -189,6 +193,64 @@ after_parts false key parts ends h = h
 pub none_asked : (again : Bool) (places : List Place) → places ≡ [] → [] ≡ (if again then [] else places)
 none_asked true places e = refl
 none_asked false places e = sym e
+
+-- a part whose small letters are the key
+record MappedPart (parts : List (List ℕ)) (key : List ℕ) : Type 0 where
+  before : List (List ℕ)
+  part : List ℕ
+  after : List (List ℕ)
+  joined : parts ≡ before ++ part ∷ after
+  small : map to_ascii_lowercase part ≡ key
+
+mapped_part : (parts before after : List (List ℕ)) (key : List ℕ) → map (map to_ascii_lowercase) parts ≡ before ++ key ∷ after → MappedPart parts key
+mapped_part [] [] after key e = let never : [] ≡ key ∷ after = e in absurd cc
+mapped_part [] (b ∷ before) after key e = let never : [] ≡ b ∷ (before ++ key ∷ after) = e in absurd cc
+mapped_part (p ∷ parts) [] after key e = let first : map to_ascii_lowercase p ≡ key = cc in record { before = []; part = p; after = parts; joined = refl; small = first }
+mapped_part (p ∷ parts) (b ∷ before) after key e =
+    let rest : map (map to_ascii_lowercase) parts ≡ before ++ key ∷ after = cc in
+    let h = mapped_part parts before after key rest in
+    record { before = p ∷ h.before; part = h.part; after = h.after; joined = ap (λ z. p ∷ z) h.joined; small = h.small }
+
+-- an end whose small letters are the key
+record MappedEnd (name key : List ℕ) : Type 0 where
+  start : List ℕ
+  end : List ℕ
+  joined : name ≡ start ++ end
+  small : map to_ascii_lowercase end ≡ key
+
+mapped_end : (name start key : List ℕ) → map to_ascii_lowercase name ≡ start ++ key → MappedEnd name key
+mapped_end name [] key e = record { start = []; end = name; joined = refl; small = e }
+mapped_end [] (s ∷ start) key e = let never : [] ≡ s ∷ (start ++ key) = e in absurd cc
+mapped_end (b ∷ name) (s ∷ start) key e =
+    let rest : map to_ascii_lowercase name ≡ start ++ key = cc in
+    let h = mapped_end name start key rest in
+    record { start = b ∷ h.start; end = h.end; joined = ap (λ z. b ∷ z) h.joined; small = h.small }
+
+-- the last component by small letters
+small_last : (s : Separators) (path : List ℕ) (front : List (List ℕ)) (name : List ℕ) (before : List (List ℕ)) (last : List ℕ) → components s path ≡ front ++ name ∷ [] → components s (map to_ascii_lowercase path) ≡ before ++ last ∷ [] → map to_ascii_lowercase name ≡ last
+small_last s path front name before last e f =
+    (same_from_push (map (map to_ascii_lowercase) front) before (map to_ascii_lowercase name) last
+    (sym (map-append (map to_ascii_lowercase) front (name ∷ [])) ∙ ap (map (map to_ascii_lowercase)) (sym e) ∙ sym (small_components s path) ∙ f)).1
+
+lacks_small : (text : List ℕ) → LacksDot text → LacksDot (map to_ascii_lowercase text)
+lacks_small [] h = tt
+lacks_small (b ∷ text) h = ((λ e. h.0 (dot_only b e)), lacks_small text h.1)
+
+small_extension : {F : Type 0} (s : Separators) (path start key : List ℕ) (before : List (List ℕ)) → components s (map to_ascii_lowercase path) ≡ before ++ (start ++ 0x2E ∷ key) ∷ [] → LacksDot key → F → (extension : Option (Bor (List ℕ))) → MatchOption extension (F → LacksExtension (components s path)) (λ text. IsExtension (components s path) text.now) → (raw : List ℕ) × (MatchOption extension ⊥ (λ text. raw ≡ text.now) × (map to_ascii_lowercase raw ≡ key))
+small_extension s path start key before e lacks a None m =
+    let none = m a in
+    absurd (has_dot start key (subst LacksDot (small_last s path none.before none.name before (start ++ 0x2E ∷ key) none.joined e) (lacks_small none.name none.lacks)))
+small_extension s path start key before e lacks a (Some text) m =
+    let ends = small_last s path m.before (m.start ++ 0x2E ∷ text.now) before (start ++ 0x2E ∷ key) m.joined e in
+    (text.now, (refl, one_extension (map to_ascii_lowercase m.start) start (map to_ascii_lowercase text.now) key (sym (map-append to_ascii_lowercase m.start (0x2E ∷ text.now)) ∙ ends) (lacks_small text.now m.lacks) lacks))
+
+small_again : (text : List ℕ) → map to_ascii_lowercase (map to_ascii_lowercase text) ≡ map to_ascii_lowercase text
+small_again [] = refl
+small_again (b ∷ bs) = ap (λ z. z ∷ map to_ascii_lowercase (map to_ascii_lowercase bs)) (lowercase-lowercase b) ∙ ap (λ z. to_ascii_lowercase b ∷ z) (small_again bs)
+
+-- a text and its small letters have one number
+same_digest : (raw key : List ℕ) → map to_ascii_lowercase raw ≡ key → digest_of true raw ≡ digest_of true key
+same_digest raw key e = ap (digest_after 0) (sym (small_again raw) ∙ ap (map to_ascii_lowercase) e)
 
 module _ {A : Type 0} (formed : List ℕ → Type 0) (letters : List ℕ → List ℕ) (laws : LetterLaws formed letters) (o : Options) (q : Query A) (filter : Filter A) (path : List ℕ) (is : IsQuery q filter o.separators path) (f : formed path) where
   reading : AreRead formed letters laws o.separators path
@@ -246,36 +308,72 @@ module _ {A : Type 0} (formed : List ℕ → Type 0) (letters : List ℕ → Lis
       let ends = suffix last.0 q.name.now last.1 e.0 key ascii e.1.0 e.1.1 in
       of_names key (after_parts q.filter.now.components key parts (end_keys q) (after_extension q key q.extension (suffix_keys q q.filter.now.lengths.items) (of_suffix q q.filter.now.lengths.items (length key) ends.0 key ends.1 refl a)))
 
-  of_choice : (place : Place) (pieces : List (Piece (Part A))) → IsCovered o filter place pieces → Matches o pieces (letters path) → OneHas (all_lists q) place
-  of_choice place pieces (inl h) m = inl (subst (λ z. Has z.others.items place) (sym is.filter_is) h)
-  of_choice place pieces (inr h) m =
-      inr (key_listed q place (path_keys q) h.key
-      (of_key h.kind h.key h.needed.ascii h.asked (subst (λ z. Asks z h.kind (length h.key)) (sym is.filter_is) h.asked) (h.needed.needed (letters path) m))
-      (subst (λ z. Has (bucket z.buckets.items h.key) place) (sym is.filter_is) h.listed))
+  -- a key of the path, or one that differs from it in case alone if the set folds: it has the same bucket
+  abbrev Found : List ℕ → Type 0
+  Found key = (raw : List ℕ) × (Has (path_keys q) raw × (digest_of filter.folds raw ≡ digest_of filter.folds key))
 
-  -- a choice that matches is in one of the lists
-  of_choices : (i j : ℕ) (cs : List (Choice A)) → AreCovered o filter i j cs → MatchesChoice o cs (letters path) → (k : ℕ) × ((k < length cs) × (HoldsAt (λ c. Matches o c.pieces.items (letters path)) cs k × OneHas (all_lists q) (record { pattern = i; choice = j + k })))
-  of_choices i j [] h m = absurd m
-  of_choices i j (c ∷ cs) h (inl m) =
-      let at : j ≡ j + 0 = omega arith in
-      (0, (omega arith, ((λ d. m), subst (λ z. OneHas (all_lists q) (record { pattern = i; choice = z })) at (of_choice (record { pattern = i; choice = j }) c.pieces.items h.0 m))))
-  of_choices i j (c ∷ cs) h (inr m) =
-      let found = of_choices i (j + 1) cs h.1 m in
-      let l = found.1.0 in
-      let at : (j + 1) + found.0 ≡ j + suc found.0 = omega arith in
-      (suc found.0, (omega (arith, l), (found.1.1.0, subst (λ z. OneHas (all_lists q) (record { pattern = i; choice = z })) at found.1.1.1)))
+  -- the key of small letters is that of a key of the path, which is ASCII
+  small_key : AreAscii path → (k : Kind) (key : List ℕ) → Asks filter k (length key) → Asks q.filter.now k (length key) → HasKey o k (map to_ascii_lowercase path) key → (raw : List ℕ) × (Has (path_keys q) raw × (map to_ascii_lowercase raw ≡ key))
+  small_key ascii kind.Path key asks a e = (q.path.now, (key_asked q.filter.now.paths q.path.now (name_keys q) a, ap (map to_ascii_lowercase) is.path_is ∙ e))
+  small_key ascii kind.Name key asks a e =
+      let last = is.name_is (inl asks) in
+      (q.name.now, (after_key q.filter.now.paths q.path.now q.name.now (name_keys q) (key_asked q.filter.now.names q.name.now (if q.filter.now.components then parts ++ end_keys q else end_keys q) a), small_last o.separators path last.0 q.name.now e.0 key last.1 e.1))
+  small_key ascii kind.Component key asks a e =
+      let s = key_separators o.separators in
+      let h = mapped_part (components s path) e.0 e.1.0 key (sym (small_components s path) ∙ e.1.1) in
+      let here : parts ≡ h.before ++ h.part ∷ h.after = ap (λ z. components z q.path.now) is.separators_are ∙ ap (components s) is.path_is ∙ h.joined in
+      (h.part, (of_names h.part (parts_asked q.filter.now.components h.part (parts ++ end_keys q) (end_keys q) a (of_part q parts h.before h.after (end_keys q) h.part here)), h.small))
+  small_key ascii kind.Extension key asks a e =
+      let h = small_extension o.separators path e.1.0 key e.1.1.0 e.1.1.1 e.0 asks q.extension is.extension_is in
+      (h.0, (of_names h.0 (after_parts q.filter.now.components h.0 parts (end_keys q) (of_extension q h.0 q.extension (suffix_keys q q.filter.now.lengths.items) h.1.0)), h.1.1))
+  small_key ascii kind.Suffix key asks a e =
+      let last = is.name_is (inr (length key, asks)) in
+      let ends = mapped_end q.name.now e.0 key (small_last o.separators path last.0 q.name.now e.1.0 (e.0 ++ key) last.1 e.1.1) in
+      let size : length key ≡ length ends.end = ap length (sym ends.small) ∙ length-map ends.end to_ascii_lowercase in
+      (ends.end, (of_names ends.end (after_parts q.filter.now.components ends.end parts (end_keys q) (after_extension q ends.end q.extension (suffix_keys q q.filter.now.lengths.items) (of_suffix q q.filter.now.lengths.items (length key) ends.start ends.end ends.joined size a))), ends.small))
 
-  -- each pattern that matches has a place in the lists, whose choice does
-  pub of_hit : (patterns : List (Pattern A)) → CoversAll o filter patterns → (i : ℕ) → IsHit o patterns (letters path) i → ((place : Place) → place.pattern ≡ i → IsHitAt o patterns (letters path) place → OneHas (all_lists q) place → ⊥) → ⊥
-  of_hit [] covers i hit none = let l = hit.0 in omega (arith, l)
-  of_hit (p ∷ ps) covers i hit none = covers i hit.0 p (λ covered. there (of_choices i 0 own.choices.items covered (hit.1 p)))
-    where
-      own : Pattern A
-      own = slice_index_or (p ∷ ps) i p
+  found_key : (v : Bool) → filter.folds ≡ v → IsLookedUp v path → (k : Kind) (key : List ℕ) → AreAscii key → Asks filter k (length key) → Asks q.filter.now k (length key) → HasKey o k (folded v (letters path)) key → Found key
+  found_key false v looked k key ascii asks a e = (key, (of_key k key ascii asks a e, refl))
+  found_key true v looked k key ascii asks a e =
+      let h = small_key looked k key asks a (subst (λ z. HasKey o k (map to_ascii_lowercase z) key) (laws.ascii path looked).1 e) in
+      (h.0, (h.1.0, ap (λ z. digest_of z h.0) v ∙ same_digest h.0 key h.1.1 ∙ ap (λ z. digest_of z key) (sym v)))
 
-      there : (k : ℕ) × ((k < length own.choices.items) × (HoldsAt (λ c. Matches o c.pieces.items (letters path)) own.choices.items k × OneHas (all_lists q) (record { pattern = i; choice = 0 + k }))) → ⊥
-      there found =
-          let at : 0 + found.0 ≡ found.0 = omega arith in
-          none (record { pattern = i; choice = found.0 }) refl
-          (hit.0, at_read (p ∷ ps) (λ q. (found.0 < length q.choices.items) × HoldsAt (λ c. Matches o c.pieces.items (letters path)) q.choices.items found.0) i own hit.0 (same_read (p ∷ ps) i p own hit.0) (found.1.0, found.1.1.0))
-          (subst (λ z. OneHas (all_lists q) (record { pattern = i; choice = z })) at found.1.1.1)
+  module _ (looked : IsLookedUp filter.folds path) where
+    looked_letters : (v : Bool) → IsLookedUp v path → IsLookedUp v (letters path)
+    looked_letters false h = tt
+    looked_letters true h = subst AreAscii (sym (laws.ascii path h).1) h
+
+    of_choice : (place : Place) (pieces : List (Piece (Part A))) → IsCovered o filter place pieces → Matches o pieces (letters path) → OneHas (all_lists q) place
+    of_choice place pieces (inl h) m = inl (subst (λ z. Has z.others.items place) (sym is.filter_is) h)
+    of_choice place pieces (inr h) m =
+        let found = found_key filter.folds refl looked h.kind h.key h.needed.ascii h.asked (subst (λ z. Asks z h.kind (length h.key)) (sym is.filter_is) h.asked) (h.needed.needed (letters path) (looked_letters filter.folds looked) m) in
+        let buckets = filter.buckets.items in
+        let listed : Has (bucket filter.folds buckets found.0) place = subst (λ z. Has (places_at buckets (if nat_eq (length buckets) 0 then 0 else bit_and z (length buckets - 1))) place) (sym found.1.1) h.listed in
+        inr (key_listed q place (path_keys q) found.0 found.1.0 (subst (λ z. Has (bucket z.folds z.buckets.items found.0) place) (sym is.filter_is) listed))
+
+    -- a choice that matches is in one of the lists
+    of_choices : (i j : ℕ) (cs : List (Choice A)) → AreCovered o filter i j cs → MatchesChoice o cs (letters path) → (k : ℕ) × ((k < length cs) × (HoldsAt (λ c. Matches o c.pieces.items (letters path)) cs k × OneHas (all_lists q) (record { pattern = i; choice = j + k })))
+    of_choices i j [] h m = absurd m
+    of_choices i j (c ∷ cs) h (inl m) =
+        let at : j ≡ j + 0 = omega arith in
+        (0, (omega arith, ((λ d. m), subst (λ z. OneHas (all_lists q) (record { pattern = i; choice = z })) at (of_choice (record { pattern = i; choice = j }) c.pieces.items h.0 m))))
+    of_choices i j (c ∷ cs) h (inr m) =
+        let found = of_choices i (j + 1) cs h.1 m in
+        let l = found.1.0 in
+        let at : (j + 1) + found.0 ≡ j + suc found.0 = omega arith in
+        (suc found.0, (omega (arith, l), (found.1.1.0, subst (λ z. OneHas (all_lists q) (record { pattern = i; choice = z })) at found.1.1.1)))
+
+    -- each pattern that matches has a place in the lists, whose choice does
+    pub of_hit : (patterns : List (Pattern A)) → CoversAll o filter patterns → (i : ℕ) → IsHit o patterns (letters path) i → ((place : Place) → place.pattern ≡ i → IsHitAt o patterns (letters path) place → OneHas (all_lists q) place → ⊥) → ⊥
+    of_hit [] covers i hit none = let l = hit.0 in omega (arith, l)
+    of_hit (p ∷ ps) covers i hit none = covers i hit.0 p (λ covered. there (of_choices i 0 own.choices.items covered (hit.1 p)))
+      where
+        own : Pattern A
+        own = slice_index_or (p ∷ ps) i p
+
+        there : (k : ℕ) × ((k < length own.choices.items) × (HoldsAt (λ c. Matches o c.pieces.items (letters path)) own.choices.items k × OneHas (all_lists q) (record { pattern = i; choice = 0 + k }))) → ⊥
+        there found =
+            let at : 0 + found.0 ≡ found.0 = omega arith in
+            none (record { pattern = i; choice = found.0 }) refl
+            (hit.0, at_read (p ∷ ps) (λ q. (found.0 < length q.choices.items) × HoldsAt (λ c. Matches o c.pieces.items (letters path)) q.choices.items found.0) i own hit.0 (same_read (p ∷ ps) i p own hit.0) (found.1.0, found.1.1.0))
+            (subst (λ z. OneHas (all_lists q) (record { pattern = i; choice = z })) at found.1.1.1)

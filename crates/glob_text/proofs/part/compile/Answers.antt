@@ -22,6 +22,6 @@ loop-left-preserved g c =
       read = c.in_ok-part.ensures.part;
       pieces_are = refl;
     }))
-    (c.in_ok-push_group.ensures
+    (c.in_ok-push_group.ensures.appended
     ∙ ap (λ z. items ++ group z c.is_some.result c.in_ok-part.part) c.is_deep-deep.ensures
     ∙ ap (λ z. items ++ group deep z c.in_ok-part.part) (c.is_some.ensures ∙ joined_is marks c.in_ok-part.after))

@@ -1,7 +1,11 @@
 use Rattle.std.proofs.Common.{subst}
 use Rattle.os_ignore.specs.Ignores.{IsAddedTo, files_of}
 use Rattle.names_commands.specs.Ignoring.{IsFileIn}
+use Rattle.names_commands.proofs.lemmas.Ignored.{name_text}
 use Rattle.names_commands.proofs.ignoring.add_file.Goals as goal
+
+pub read_file-requires : goal.read_file-requires
+read_file-requires g c = name_text c.as_bytes.result.now c.file_in.result.0.now c.file_in.result.1.now c.file_in.ensures c.as_bytes.ensures.utf8
 
 pub returns-in-Ok-clause-added : goal.returns-in-Ok-clause-added
 returns-in-Ok-clause-added g c =

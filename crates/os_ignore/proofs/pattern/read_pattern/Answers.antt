@@ -18,6 +18,6 @@ loop-left-preserved g c =
       left_is = ap text_of c.left-left.ensures;
     }) in
     let deep = c.is_deep-deep.ensures ∙ ap is_deep c.deref.ensures.value ∙ ap (λ z. is_deep z.items) (sym c.in_ok-part.ensures) in
-    one_more (NextGroup c.args.folds) _ _ _ more _ _ c.loop-left.invariant here (c.in_ok-push_group.ensures
+    one_more (NextGroup c.args.folds) _ _ _ more _ _ c.loop-left.invariant here (c.in_ok-push_group.ensures.appended
     ∙ ap (λ z. items ++ group z c.is_joined.result part) deep
     ∙ ap (λ z. items ++ group (is_deep part.pieces.items) z part) c.is_joined.ensures)

@@ -1,11 +1,9 @@
-use Rattle.std.proofs.Common.{◌≡◌, ◌++◌, List, length}
-use Rattle.std.specs.List.{AllByRecursion}
-use Rattle.os_ignore.specs.declared.file.File.{File}
-use Rattle.os_ignore.specs.Verdicts.{FileIsSilent}
+use Rattle.std.proofs.Common.{length}
+use Rattle.os_ignore.proofs.lemmas.Links.{IsLeft}
 use Rattle.os_ignore.proofs.verdict.own.Given as goal
 
 abbrev pub invariant-loop-file : goal.invariant-loop-file
-invariant-loop-file g l = (after : List (File _)) × (l.files ≡ l.left ++ after) × AllByRecursion (FileIsSilent l.path l.is_dir) after
+invariant-loop-file g l = IsLeft l.path l.is_dir l.files l.left
 
 abbrev pub decreases-loop-file : goal.decreases-loop-file
 decreases-loop-file g l = length l.left

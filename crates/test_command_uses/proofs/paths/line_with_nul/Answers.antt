@@ -15,4 +15,4 @@ returns g c =
     (λ written.
     c.requires.nul
     (known_whole P S c.args.task Newline 4096 path written.0 c.requires.whole c.requires.some
-    (subst (λ l. IsOutput (rules_of P S c.args.task l) path written.0) c.lacking.ensures written.1.0)))
+    (subst (λ l. IsOutput (rules_of P S c.args.task l l.end) path written.0) c.lacking.ensures written.1.0)))

@@ -16,6 +16,6 @@ returns g c =
     (λ fault stopped number error is.
     let s = stopped (λ e. no_write number _ (sym is ∙ e)) in
     known_rejection P g.E.PathStyle.follows c.args.task Nul 4096 path s.0 number (NoString error) c.requires.whole
-    (subst (λ f. StopsOn (rules_of P g.E.PathStyle.follows c.args.task (lacking Nul 4096)) path s.0 f) is
-    (subst (λ l. StopsOn (rules_of P g.E.PathStyle.follows c.args.task l) path s.0 fault) c.lacking.ensures s.1.0)))
+    (subst (λ f. StopsOn (rules_of P g.E.PathStyle.follows c.args.task (lacking Nul 4096) Nul) path s.0 f) is
+    (subst (λ l. StopsOn (rules_of P g.E.PathStyle.follows c.args.task l l.end) path s.0 fault) c.lacking.ensures s.1.0)))
     c.ask.ensures.stopped

@@ -13,5 +13,5 @@ returns g c =
     let path = c.args.path.now in
     not_ok c.ask.result _ c.ask.ensures.written
     (λ written.
-    never_read P (rules_of P S c.args.task (record { end = Nul; last = MustEnd; max = 4096 })) path written.0 c.requires.whole c.requires.some (λ never. never)
-    (subst (λ l. IsOutput (rules_of P S c.args.task l) path written.0) c.new.ensures written.1.0))
+    never_read P (rules_of P S c.args.task (record { end = Nul; last = MustEnd; max = 4096 }) Nul) path written.0 c.requires.whole c.requires.some (λ never. never)
+    (subst (λ l. IsOutput (rules_of P S c.args.task l l.end) path written.0) c.new.ensures written.1.0))

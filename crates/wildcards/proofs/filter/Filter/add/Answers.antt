@@ -1,6 +1,6 @@
 use Rattle.std.proofs.Common.{◌⊎◌, IfSome, inl, length, ap, sym, subst}
 use Rattle.wildcards.specs.Filters.{Asks}
-use Rattle.wildcards.specs.Keys.{IsNeeded}
+use Rattle.wildcards.specs.Small.{IsNeededBy}
 use Rattle.wildcards.specs.Sets.{Has}
 use Rattle.wildcards.specs.Tables.{bucket}
 use Rattle.wildcards.proofs.lemmas.Found.{has_pushed}
@@ -18,10 +18,11 @@ returns-clause-covered g c =
     let key = c.in-Some.key in
     let text = c.as_slice-text.ensures.value in
     listed_covered c.args.options c.note.new.self c.list.new.self c.args.place c.args.pieces.now key.kind key.text.items
-    (subst (λ z. IfSome z (λ k. IsNeeded c.args.options c.args.pieces.now k.kind k.text.items)) c.in-Some.is c.in_ok-key.ensures)
+    (subst (λ z. IfSome z (λ k. IsNeededBy c.note.new.self.folds c.args.options c.args.pieces.now k.kind k.text.items)) c.in-Some.is
+    (subst (λ v. IfSome c.in_ok-key.field-0 (λ k. IsNeededBy v c.args.options c.args.pieces.now k.kind k.text.items)) c.in_ok-note.ensures.grows.same c.in_ok-key.ensures))
     (subst (Asks c.note.new.self key.kind) (ap length text) c.in_ok-note.ensures.asked)
     c.in_ok-list.ensures.grows
-    (subst (λ z. Has c.list.new.self.others.items c.args.place ⊎ Has (bucket c.list.new.self.buckets.items z) c.args.place) text c.in_ok-list.ensures.listed)
+    (subst (λ z. Has c.list.new.self.others.items c.args.place ⊎ Has (bucket c.list.new.self.folds c.list.new.self.buckets.items z) c.args.place) text c.in_ok-list.ensures.listed)
 
 pub returns-clause-grows : goal.returns-clause-grows
 returns-clause-grows g c = grows_on c.args.self.now c.note.new.self c.list.new.self c.in_ok-note.ensures.grows c.in_ok-list.ensures.grows

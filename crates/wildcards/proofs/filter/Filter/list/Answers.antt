@@ -11,7 +11,7 @@ returns-then-slot-len-clause-listed g c =
     let len = c.len.ensures in
     let size = c.args.self.now.buckets.ok.0 in
     let l : c.slot-slot.result < length bs = omega (arith, below, len, size) in
-    inr (pushed_one bs _ c.slot-slot.result c.args.place c.push.new.self c.index_mut.result.now l refl (c.in_ok-push.ensures.items ∙ ap (λ z. z.items ++ c.args.place ∷ []) c.index_mut.ensures.value) c.args.key.now (c.slot-slot.ensures))
+    inr (pushed_one c.args.self.now.folds bs _ c.slot-slot.result c.args.place c.push.new.self c.index_mut.result.now l refl (c.in_ok-push.ensures.items ∙ ap (λ z. z.items ++ c.args.place ∷ []) c.index_mut.ensures.value) c.args.key.now (c.slot-slot.ensures))
 
 pub returns-then-slot-len-clause-grows : goal.returns-then-slot-len-clause-grows
 returns-then-slot-len-clause-grows g c =
@@ -20,7 +20,7 @@ returns-then-slot-len-clause-grows g c =
     let len = c.len.ensures in
     let size = c.args.self.now.buckets.ok.0 in
     let l : c.slot-slot.result < length bs = omega (arith, below, len, size) in
-    more_listed c.args.self.now _ (pushed_all bs _ c.slot-slot.result c.args.place c.push.new.self c.index_mut.result.now l refl (c.in_ok-push.ensures.items ∙ ap (λ z. z.items ++ c.args.place ∷ []) c.index_mut.ensures.value))
+    more_listed c.args.self.now _ (pushed_all c.args.self.now.folds bs _ c.slot-slot.result c.args.place c.push.new.self c.index_mut.result.now l refl (c.in_ok-push.ensures.items ∙ ap (λ z. z.items ++ c.args.place ∷ []) c.index_mut.ensures.value))
 
 pub returns-clause-listed : goal.returns-clause-listed
 returns-clause-listed g c = inl (subst (λ z. Has z c.args.place) (sym c.in_ok-push-2.ensures.items) (has_pushed c.args.self.now.others.items c.args.place))

@@ -22,5 +22,5 @@ pub returns : goal.returns
 returns g c =
     let set = c.args.self.now in
     all_found set.options set.patterns.items (g.L.Letters.letters c.args.path.now) (all_lists c.new-query.result)
-    (λ i hit none. of_hit g.L.Letters.formed g.L.Letters.letters g.met.L.Letters.laws set.options c.new-query.result set.filter c.args.path.now c.new-query.ensures c.requires.formed set.patterns.items set.covered i hit none)
+    (λ i hit none. of_hit g.L.Letters.formed g.L.Letters.letters g.met.L.Letters.laws set.options c.new-query.result set.filter c.args.path.now c.new-query.ensures c.requires.formed (c.tries_all.ensures c.if-tries_all.false) set.patterns.items set.covered i hit none)
     _ c.loop-places.found.items (ap (key_lists c.new-query.result) c.in_default.ensures) c.loop-places.invariant

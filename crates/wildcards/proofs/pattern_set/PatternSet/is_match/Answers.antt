@@ -31,6 +31,6 @@ returns g c =
     let no : ¬ (false ≡ true) = λ e. cc in
     let set = c.args.self.now in (
       λ e. absurd (no e),
-      λ m. absurd (of_hit g.L.Letters.formed g.L.Letters.letters g.met.L.Letters.laws set.options c.new-query.result set.filter c.args.path.now c.new-query.ensures c.requires set.patterns.items set.covered m.0 m.1
+      λ m. absurd (of_hit g.L.Letters.formed g.L.Letters.letters g.met.L.Letters.laws set.options c.new-query.result set.filter c.args.path.now c.new-query.ensures c.requires (c.tries_all.ensures c.if-tries_all.false) set.patterns.items set.covered m.0 m.1
           (λ place e hit has. subst (λ z. OneHas (key_lists c.new-query.result z) place) c.in_default.ensures (c.loop-places.invariant place has hit))),
     )

@@ -1,0 +1,9 @@
+pub mod Arguments
+pub mod Misuse
+pub mod ListOptions
+pub mod Items
+pub mod Rules
+pub mod Reading
+pub mod ListRun
+pub mod ListFault
+pub mod ProgramFault

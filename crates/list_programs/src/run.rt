@@ -1,0 +1,316 @@
+//! One run over a list: it reads items, makes their output and writes it, block by block.
+ghost use Rattle.std.specs.Prelude.{◌≡◌, ◌≢◌, ◌↔◌, ◌+◌, ◌<◌, ◌≤◌, ◌^◌, ◌++◌, [], length, ℕ, List, true, false, OnOk, OnErr, IfOk, IfErr};
+ghost use Rattle.std.specs.Io.KnownBytes.{Appends, IsAtEnd};
+ghost use Rattle.program_frame.specs.declared.fault.Failure.{Failure};
+ghost use Rattle.list_programs.specs.declared.fault.ListFault.{ListFault};
+ghost use Rattle.program_frame.specs.Marked.{marked_inner, has_failed};
+ghost use Rattle.program_frame.specs.Written.{AppendsBeginning};
+ghost use Rattle.list_programs.specs.Rules.{IsRejected, EndsRun, passing};
+ghost use Rattle.list_programs.specs.Reading.{HasBegun, IsEnded, Reads, Stops, Begins};
+ghost use Rattle.list_programs.specs.ListRun.{WritesOutput, WritesUpTo, WritesBeginning, Finishes, IsLast};
+
+use crate::fault::ListFault;
+use crate::reading::{read_block, write_at};
+use crate::rejections::{Rejections, Stop};
+use crate::task::ListTask;
+use program_frame::fault::Failure;
+use program_frame::marked::Marked;
+use program_frame::writing::write_out;
+use std::alloc::Allocator;
+use std::io::{Read, Write};
+
+/// How many bytes are read at a time.
+const BLOCK: usize = 16384;
+
+/// Reads all items that the reader has, and writes the output for each, block by block. Both marks
+/// must be unset (test: [`Marked::failed`]).
+///
+/// The last item may lack the byte that ends it if [`ListTask::takes_unended`] allows that. After
+/// each block all of its output is written and flushed. Only the item that has begun and the output
+/// of a block are kept.
+///
+/// # Errors
+///
+/// [`ListFault::Rejected`] and [`ListFault::TooLong`] report the first item that is rejected.
+/// [`ListFault::Unended`] reports a last item that must have its end and lacks it. With each of
+/// these, exactly the output for the items before the reported one has been written.
+///
+/// [`ListFault::Run`] has `Read` exactly where a read failed, `Write` exactly where a write or a
+/// flush did, and `Memory` where an allocation failed. [`ListFault::TooMuch`] reports an input of
+/// 2^64 - 1 bytes or more. Then the output for some of the first items has been written, and each
+/// of them has its end. With `Write` it may be a beginning of that output, or of all the output.
+///
+/// ```
+/// use names_commands::task::{OnPlatform, Settings, Task};
+/// use os_str_bytes::Unix;
+/// use list_programs::run::run;
+/// use program_frame::marked::Marked;
+///
+/// let names: &[u8] = b"a\nb\0\xFF\0c\0";
+/// let mut taken = Vec::new(alloc);
+/// let (mut reader, mut writer) = (Marked::new(names), Marked::new(&mut taken));
+/// let listing = OnPlatform::<Unix>::new(Settings::new(Task::ListAll, 255));
+/// assert!(rt; run(alloc, &listing, &mut reader, &mut writer) == Ok(()));
+/// assert_eq!(rt; taken.as_slice(), b"a\\u000Ab\n\\xFF\nc\n".as_slice());
+/// ```
+pub fn run<T: ListTask, A: Allocator, R: Read, W: Write>(
+    alloc: A,
+    task: &T,
+    reader: &mut Marked<R>,
+    writer: &mut Marked<W>,
+) -> Result<(), ListFault<T::Rejection>>
+    requires reader_unmarked { has_failed reader.old ≡ false }
+    requires writer_unmarked { has_failed writer.old ≡ false }
+
+    // The output.
+    ensures all_read { OnOk result (IsAtEnd (R.remaining (marked_inner reader.new))) }
+    ensures written { OnOk result (WritesOutput (T.rules task.now)
+        (R.remaining (marked_inner reader.old)) (W.contents (marked_inner writer.old))
+        (W.contents (marked_inner writer.new))) }
+
+    // What was written before a fault.
+    ensures stopped { IfErr result (λ fault. fault ≢ ListFault.Run Failure.Write
+        → WritesUpTo (T.rules task.now) fault
+        (R.remaining (marked_inner reader.old)) (W.contents (marked_inner writer.old))
+        (W.contents (marked_inner writer.new))) }
+    ensures beginning { result ≡ Err (ListFault.Run Failure.Write)
+        → WritesBeginning (T.rules task.now)
+        (R.remaining (marked_inner reader.old)) (W.contents (marked_inner writer.old))
+        (W.contents (marked_inner writer.new)) }
+
+    // When a read or a write is to blame.
+    ensures read { (result ≡ Err (ListFault.Run Failure.Read)) ↔ (has_failed reader.new ≡ true) }
+    ensures write { (result ≡ Err (ListFault.Run Failure.Write)) ↔ (has_failed writer.new ≡ true) }
+{
+    run_with(alloc, task, &mut Stop, reader, writer)
+}
+
+/// Reads all items that the reader has, and writes the output for each, as [`run`] does. What
+/// becomes of an item that is rejected is left to `rejections`: where it passes over it, nothing is
+/// written for the item, and the run goes on. Both marks must be unset (test: [`Marked::failed`]).
+///
+/// # Errors
+///
+/// Those of [`run`]. [`ListFault::Rejected`] is returned only if `rejections` ends the run. An item
+/// that is too long ends it in any case.
+///
+/// ```
+/// use os_str_bytes::Unix;
+/// use paths_commands::task::{OnPlatform, Task};
+/// use list_programs::options::ListOptions;
+/// use list_programs::rejections::KeepGoing;
+/// use list_programs::run::run_with;
+/// use program_frame::marked::Marked;
+///
+/// let paths: &[u8] = b"a/../b\0../c\0d/./e\0";
+/// let mut taken = Vec::new(alloc);
+/// let (mut reader, mut writer) = (Marked::new(paths), Marked::new(&mut taken));
+/// let task = OnPlatform::<Unix>::new(Task::Normalize, ListOptions::new(255));
+/// let mut rejections = KeepGoing::new("paths", &rt);
+/// assert!(rt; run_with(alloc, &task, &mut rejections, &mut reader, &mut writer).is_ok());
+/// assert_eq!(rt; rejections.count(), 1);
+/// assert_eq!(rt; taken.as_slice(), b"b\0d/e\0".as_slice());
+/// ```
+pub fn run_with<T: ListTask, N: Rejections<T::Rejection>, A: Allocator, R: Read, W: Write>(
+    alloc: A,
+    task: &T,
+    rejections: &mut N,
+    reader: &mut Marked<R>,
+    writer: &mut Marked<W>,
+) -> Result<(), ListFault<T::Rejection>>
+    requires reader_unmarked { has_failed reader.old ≡ false }
+    requires writer_unmarked { has_failed writer.old ≡ false }
+
+    // The output.
+    ensures all_read { OnOk result (IsAtEnd (R.remaining (marked_inner reader.new))) }
+    ensures written { OnOk result
+        (WritesOutput (passing (N.passed rejections.new) (T.rules task.now))
+        (R.remaining (marked_inner reader.old)) (W.contents (marked_inner writer.old))
+        (W.contents (marked_inner writer.new))) }
+
+    // What was written before a fault.
+    ensures stopped { IfErr result (λ fault. fault ≢ ListFault.Run Failure.Write
+        → WritesUpTo (passing (N.passed rejections.new) (T.rules task.now)) fault
+        (R.remaining (marked_inner reader.old)) (W.contents (marked_inner writer.old))
+        (W.contents (marked_inner writer.new))) }
+    ensures beginning { result ≡ Err (ListFault.Run Failure.Write)
+        → WritesBeginning (passing (N.passed rejections.new) (T.rules task.now))
+        (R.remaining (marked_inner reader.old)) (W.contents (marked_inner writer.old))
+        (W.contents (marked_inner writer.new)) }
+    ensures ends { IfErr result (λ fault. EndsRun N.stops fault) }
+
+    // When a read or a write is to blame.
+    ensures read { (result ≡ Err (ListFault.Run Failure.Read)) ↔ (has_failed reader.new ≡ true) }
+    ensures write { (result ≡ Err (ListFault.Run Failure.Write)) ↔ (has_failed writer.new ≡ true) }
+{
+    let mut memory = task.memory();
+    let mut begun = Vec::new(&alloc);
+    let mut count = 0;
+    let mut total = 0;
+    let mut piece = [0u8; BLOCK];
+    loop {
+        let size = match reader.read(&mut piece) {
+            Ok(0) => return finish::<T, N, &A, W>(
+                &alloc,
+                task,
+                &mut memory,
+                count,
+                &begun,
+                rejections,
+                writer,
+            ),
+            Ok(size) => size,
+            Err(_) => return Err(ListFault::Run(Failure::Read)),
+        };
+        if size as u64 >= u64::MAX - total {
+            return Err(ListFault::TooMuch);
+        }
+        total += size as u64;
+        let block = &piece[..size];
+        match write_block::<T, N, &A, W>(
+            &alloc,
+            task,
+            &mut memory,
+            count,
+            block,
+            &mut begun,
+            rejections,
+            writer,
+        ) {
+            Ok(ended) => count = ended,
+            Err(fault) => return Err(fault),
+        }
+    }
+}
+
+/// Reads a block, and writes the output for the items that end in it. It returns the number of
+/// items that have ended.
+fn write_block<T: ListTask, N: Rejections<T::Rejection>, A: Allocator + Copy, W: Write>(
+    alloc: A,
+    task: &T,
+    memory: &mut T::Memory,
+    count: u64,
+    block: &[u8],
+    begun: &mut Vec<u8, A>,
+    rejections: &mut N,
+    writer: &mut Marked<W>,
+) -> Result<u64, ListFault<T::Rejection>>
+    requires memory { T.remembers task.now memory.old }
+    requires counted { count + length begun.old.items + length block.now + 1 < 2 ^ 64 }
+    requires begun { HasBegun (passing (N.passed rejections.old) (T.rules task.now)) begun.old.items }
+    requires unmarked { has_failed writer.old ≡ false }
+    ensures ok { IfOk result (λ ended. (text : List ℕ)
+        × (Reads (passing (N.passed rejections.new) (T.rules task.now))
+        (record { begun = begun.old.items; count = count; output = [] }) block.now
+        (record { begun = begun.new.items; count = ended; output = text })
+        × Appends (W.contents (marked_inner writer.old)) (W.contents (marked_inner writer.new))
+        text)) }
+    ensures stopped { IfErr result (λ fault. fault ≢ ListFault.Run Failure.Write → (text : List ℕ)
+        × (((more : List ℕ) → Stops (passing (N.passed rejections.new) (T.rules task.now))
+        (record { begun = begun.old.items; count = count; output = [] }) (block.now ++ more) text
+        fault)
+        × Appends (W.contents (marked_inner writer.old)) (W.contents (marked_inner writer.new))
+        text)) }
+    ensures beginning { result ≡ Err (ListFault.Run Failure.Write) → (text : List ℕ)
+        × (((more : List ℕ) → Begins (passing (N.passed rejections.new) (T.rules task.now))
+        (record { begun = begun.old.items; count = count; output = [] }) (block.now ++ more) text)
+        × AppendsBeginning (W.contents (marked_inner writer.old))
+        (W.contents (marked_inner writer.new)) text) }
+    ensures no_read { result ≢ Err (ListFault.Run Failure.Read) }
+    ensures marked { (result ≡ Err (ListFault.Run Failure.Write)) ↔ (has_failed writer.new ≡ true) }
+    ensures more { N.passed rejections.old ≤ N.passed rejections.new }
+    ensures ends { IfErr result (λ fault. EndsRun N.stops fault) }
+    ensures memory { T.remembers task.now memory.new }
+{
+    let mut output = Vec::new(alloc);
+    let ended = read_block::<T, N, A>(
+        alloc,
+        task,
+        memory,
+        count,
+        block,
+        begun,
+        rejections,
+        &mut output,
+    );
+    match write_output(writer, &output) {
+        Ok(()) => ended,
+        Err(fault) => Err(fault),
+    }
+}
+
+/// Writes what is to be written for the item that has begun where the input ends.
+fn finish<T: ListTask, N: Rejections<T::Rejection>, A: Allocator + Copy, W: Write>(
+    alloc: A,
+    task: &T,
+    memory: &mut T::Memory,
+    count: u64,
+    begun: &[u8],
+    rejections: &mut N,
+    writer: &mut Marked<W>,
+) -> Result<(), ListFault<T::Rejection>>
+    requires memory { T.remembers task.now memory.old }
+    requires counted { count + 1 < 2 ^ 64 }
+    requires begun { HasBegun (passing (N.passed rejections.old) (T.rules task.now)) begun.now }
+    requires unmarked { has_failed writer.old ≡ false }
+    ensures ok { OnOk result ((text : List ℕ)
+        × (Finishes (passing (N.passed rejections.new) (T.rules task.now)) begun.now text
+        × Appends (W.contents (marked_inner writer.old)) (W.contents (marked_inner writer.new))
+        text)) }
+    ensures stopped { IfErr result (λ fault. fault ≢ ListFault.Run Failure.Write
+        → IsRejected (T.rules task.now) (count + 1) begun.now fault) }
+    ensures ended { IfErr result (λ fault. IsEnded (T.rules task.now) fault []) }
+    ensures unchanged { IfErr result (λ fault. fault ≢ ListFault.Run Failure.Write
+        → writer.new ≡ writer.old) }
+    ensures beginning { result ≡ Err (ListFault.Run Failure.Write) → (text : List ℕ)
+        × (IsLast (passing (N.passed rejections.new) (T.rules task.now)) begun.now text
+        × AppendsBeginning (W.contents (marked_inner writer.old))
+        (W.contents (marked_inner writer.new)) text) }
+    ensures no_read { result ≢ Err (ListFault.Run Failure.Read) }
+    ensures marked { (result ≡ Err (ListFault.Run Failure.Write)) ↔ (has_failed writer.new ≡ true) }
+    ensures more { N.passed rejections.old ≤ N.passed rejections.new }
+    ensures ends { IfErr result (λ fault. EndsRun N.stops fault) }
+    ensures memory { T.remembers task.now memory.new }
+{
+    if begun.is_empty() {
+        return Ok(());
+    }
+    if !task.takes_unended() {
+        return Err(ListFault::Unended(count + 1, task.end()));
+    }
+    let mut output = Vec::new(alloc);
+    match write_at::<T, N, A>(
+        alloc,
+        task,
+        memory,
+        count + 1,
+        begun,
+        rejections,
+        &mut output,
+    ) {
+        Ok(()) => write_output(writer, &output),
+        Err(fault) => Err(fault),
+    }
+}
+
+/// Writes all of the output, and flushes.
+fn write_output<F: Copy, W: Write>(
+    writer: &mut Marked<W>,
+    output: &[u8],
+) -> Result<(), ListFault<F>>
+    requires { has_failed writer.old ≡ false }
+    ensures written { OnOk result (Appends (W.contents (marked_inner writer.old))
+        (W.contents (marked_inner writer.new)) output.now) }
+    ensures fault { IfErr result (λ fault. fault ≡ ListFault.Run Failure.Write) }
+    ensures beginning { result ≡ Err (ListFault.Run Failure.Write)
+        → AppendsBeginning (W.contents (marked_inner writer.old))
+        (W.contents (marked_inner writer.new)) output.now }
+    ensures no_read { result ≢ Err (ListFault.Run Failure.Read) }
+    ensures marked { (result ≡ Err (ListFault.Run Failure.Write)) ↔ (has_failed writer.new ≡ true) }
+    ensures ends { IfErr result (λ fault. EndsRun ⊥ fault) }
+{
+    match write_out(writer, output) {
+        Ok(()) => Ok(()),
+        Err(_) => Err(ListFault::Run(Failure::Write)),
+    }
+}

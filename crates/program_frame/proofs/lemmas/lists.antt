@@ -1,5 +1,0 @@
-pub mod Items
-pub mod Lines
-pub mod Passing
-pub mod Reading
-pub mod Runs

@@ -1,7 +1,0 @@
-use Rattle.std.specs.Prelude.{IsTrue}
-use Rattle.os_quote.specs.Plain.{IsPlainUpTo}
-use Rattle.program_frame.proofs.lists.lines.are_plain.Given as goal
-
--- the bytes so far are plain where it is true
-abbrev pub invariant-loop-byte : goal.invariant-loop-byte
-invariant-loop-byte l = IsTrue l.plain → IsPlainUpTo l.bytes l.byte-index

@@ -1,0 +1,10 @@
+use Rattle.std.proofs.Common.{length}
+use Rattle.wildcards.specs.Small.{IsSmallItem}
+use Rattle.wildcards.proofs.lemmas.Small.{PairedSoFar}
+use Rattle.wildcards.proofs.small.small_part.Given as goal
+
+abbrev pub invariant-loop-piece : goal.invariant-loop-piece
+invariant-loop-piece g l = PairedSoFar IsSmallItem l.part.pieces.items l.small.items l.left
+
+abbrev pub decreases-loop-piece : goal.decreases-loop-piece
+decreases-loop-piece g l = length l.left

@@ -1,0 +1,47 @@
+# bash completion of names(1)
+_names() {
+    local word=${COMP_WORDS[COMP_CWORD]} command='' words='' count=0 i at=$((COMP_CWORD - 1))
+    COMPREPLY=()
+    # bash takes = as a word of its own
+    [ "$word" != = ] || word=
+    [ "${COMP_WORDS[at]}" != = ] || at=$((at - 1))
+    case ${COMP_WORDS[at]} in
+        --ignore) compopt -o default 2>/dev/null; return ;;
+        --glob|--name|--max) return ;;
+    esac
+    for ((i = 1; i < COMP_CWORD; i++)); do
+        case ${COMP_WORDS[i]} in
+            --glob|--name|--ignore|--max)
+                [ "${COMP_WORDS[i + 1]}" != = ] || ((i++))
+                ((i++))
+                ;;
+            =) ((i++)) ;;
+            -*) ;;
+            *)
+                command=${command:-${COMP_WORDS[i]}}
+                ((count++))
+                ;;
+        esac
+    done
+    case $word in
+        -*)
+            case $command in
+                list) words='--glob --name --ignore -v --invert -i --ignore-case --sh --sh-line --lines --unterminated --max' ;;
+                filter) words='--glob --name --ignore -v --invert -i --ignore-case --lines --unterminated --max' ;;
+                why) words='--ignore -i --ignore-case --lines --unterminated --max' ;;
+                join) words='--sh --sh-line --lines --unterminated --empty --max' ;;
+                check) words='--lines --unterminated --max' ;;
+                '') words='--lines --unterminated --max -h --help -V --version' ;;
+            esac
+            ;;
+        *)
+            case $command:$count in
+                :0) words='list filter why join check' ;;
+                list:1|filter:1|why:1|join:1|check:1) words='unix windows wasm' ;;
+                why:3) compopt -o default 2>/dev/null; return ;;
+            esac
+            ;;
+    esac
+    mapfile -t COMPREPLY < <(compgen -W "$words" -- "$word")
+}
+complete -F _names names

@@ -1,0 +1,22 @@
+# fish completion of paths(1)
+complete -c paths -f
+complete -c paths -n __fish_use_subcommand -a parent -d 'the path without its last component'
+complete -c paths -n __fish_use_subcommand -a name -d 'the last component, where that is a name'
+complete -c paths -n __fish_use_subcommand -a stem -d 'the name without its extension'
+complete -c paths -n __fish_use_subcommand -a extension -d 'the extension of the name'
+complete -c paths -n __fish_use_subcommand -a components -d 'each component on a line'
+complete -c paths -n __fish_use_subcommand -a normalize -d 'the path without . and .., or an error'
+complete -c paths -n __fish_use_subcommand -a clean -d 'the path without . and .. as far as it goes'
+complete -c paths -n __fish_use_subcommand -a join -d 'the path after BASE'
+complete -c paths -n __fish_use_subcommand -a relative -d 'how the path is reached from BASE'
+complete -c paths -n __fish_use_subcommand -a absolute -d 'the path as an absolute path'
+complete -c paths -n __fish_use_subcommand -a convert -d 'the path in the syntax of another platform'
+complete -c paths -n '__fish_seen_subcommand_from parent name stem extension components normalize clean join relative absolute; and not __fish_seen_subcommand_from unix windows wasm' -a 'unix windows wasm'
+complete -c paths -n '__fish_seen_subcommand_from convert' -a 'unix windows wasm'
+complete -c paths -n '__fish_seen_subcommand_from join relative absolute; and __fish_seen_subcommand_from unix windows wasm' -F
+complete -c paths -n '__fish_seen_subcommand_from join' -l checked -d 'reject a path that could leave BASE'
+complete -c paths -l lines -d 'a newline ends each path, and not NUL'
+complete -c paths -l unterminated -d 'the last path may lack its end'
+complete -c paths -l keep-going -d 'go on after a path that is rejected'
+complete -c paths -n __fish_use_subcommand -s h -l help -d 'print the commands and options'
+complete -c paths -n __fish_use_subcommand -s V -l version -d 'print the version'
