@@ -12,8 +12,8 @@ use crate::option::NamesOption;
 use crate::pick::patterns_of;
 use crate::task::{EmptyLine, Task};
 use list_programs::arguments::{Given, has, next_operand, values};
-use list_programs::options::ListOptions;
 use list_programs::misuse::Misuse;
+use list_programs::options::ListOptions;
 use program_frame::os::Os;
 use std::alloc::{AllocError, Allocator, Global};
 

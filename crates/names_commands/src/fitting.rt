@@ -15,8 +15,6 @@ use list_programs::arguments::{Given, has, next_operand};
 use list_programs::misuse::Misuse;
 use os_args::{ArgumentError, Word};
 use os_str_bytes::{OsStr, Wasm};
-use list_programs::arguments::{Given, has, next_operand};
-use list_programs::misuse::Misuse;
 use program_frame::os::Os;
 
 /// Checks that a command takes each option that was given.

@@ -12,8 +12,8 @@ use crate::option::NamesOption;
 use crate::task::{EmptyLine, WordForm};
 use glob_patterns::{GlobOptions, Separators};
 use list_programs::arguments::{has, last_value, next_operand};
-use list_programs::options::ListOptions;
 use list_programs::misuse::Misuse;
+use list_programs::options::ListOptions;
 use program_frame::os::Os;
 
 /// How many bytes a name may have where the arguments state no limit.

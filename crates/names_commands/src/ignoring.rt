@@ -17,8 +17,6 @@ use list_programs::items::split_at_end;
 use os_ignore::{Ignore, IgnoreOptions, Verdict, Walk};
 use program_frame::fault::Failure;
 use program_frame::files::{FileFault, Files};
-use list_programs::fault::ListFault;
-use list_programs::items::split_at_end;
 use std::alloc::{AllocError, Allocator};
 
 /// The name without one `./` before it.

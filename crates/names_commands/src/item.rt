@@ -21,10 +21,6 @@ use list_programs::lines::{is_plain, push_line};
 use list_programs::options::{ItemEnd, ListOptions};
 use os_quote::{QuoteError, unescape_line};
 use os_str_bytes::{OsStr, Platform, Wasm};
-use list_programs::fault::ItemFault;
-use list_programs::items::{push_ended, split_at_end};
-use list_programs::lines::{is_plain, push_line};
-use list_programs::options::{ItemEnd, ListOptions};
 use std::alloc::Allocator;
 
 /// Appends what is written for an item.

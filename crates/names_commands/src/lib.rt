@@ -10,9 +10,9 @@
 //! The arguments make up a request ([`Request::parse`](command::Request::parse)). A run reads a block
 //! at a time, and writes what the items that end in it become ([`list_programs::run::run`]).
 //! So it keeps one item and what a block becomes. Where it ends early, the text of a
-//! [`Fault`](fault::Fault) states why, and for which item ([`list_programs::program::execute`]).
+//! [`Fault`](fault::Fault) states why, and for which item ([`program_frame::program::execute`]).
 //!
-//! Two calls have a `requires`: [`list_programs::program::execute`] and [`tar::run_tar`] take a
+//! Two calls have a `requires`: [`program_frame::program::execute`] and [`tar::run_tar`] take a
 //! reader and a writer whose marks are unset, as `Marked::new` makes them.
 #![tactic(auto)]
 

@@ -17,9 +17,6 @@ use list_programs::options::{ItemEnd, ListOptions};
 use list_programs::task::ListTask;
 use os_ignore::{Ignore, Walk};
 use os_str_bytes::{OsStr, Platform};
-use list_programs::fault::ItemFault;
-use list_programs::options::{ItemEnd, ListOptions};
-use list_programs::task::ListTask;
 use std::alloc::{AllocError, Allocator, Global};
 
 /// What is written for a name.

@@ -7,7 +7,6 @@ ghost use Rattle.names_commands.specs.declared.option.NamesOption.{NamesOption};
 use list_programs::arguments::ProgramOption;
 use os_args::Word;
 use os_str_bytes::{OsStr, Wasm};
-use list_programs::arguments::ProgramOption;
 
 /// An option of the program.
 #[derive(Clone, Copy, PartialEq, Eq)]

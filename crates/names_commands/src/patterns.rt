@@ -23,8 +23,6 @@ use os_ignore::IgnoreOptions;
 use os_str_bytes::Platform;
 use program_frame::fault::Failure;
 use program_frame::files::Files;
-use list_programs::answers::run_list;
-use list_programs::fault::ListFault;
 use program_frame::marked::Marked;
 use program_frame::os::Os;
 use std::alloc::Allocator;

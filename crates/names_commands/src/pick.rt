@@ -11,7 +11,6 @@ use crate::option::NamesOption;
 use glob_patterns::PatternFault;
 use list_programs::arguments::{next_operand, values};
 use os_str_bytes::{OsStr, Platform};
-use list_programs::arguments::{next_operand, values};
 use std::alloc::{AllocError, Allocator};
 
 /// The patterns that pick names, and how many come before those of `--name`.

@@ -18,21 +18,16 @@ use list_programs::arguments::{ReadFault, read_arguments};
 use list_programs::fault::ListFault;
 use list_programs::misuse::Misuse;
 use os_str_bytes::{Platform, Unix, Wasm, Windows};
-use list_programs::arguments::{ReadFault, read_arguments};
 use program_frame::fault::Failure;
 use program_frame::files::Files;
-use list_programs::answers::{run_list, write_help};
-use list_programs::fault::ListFault;
-use list_programs::program::ListProgram;
 use program_frame::marked::Marked;
-use list_programs::misuse::Misuse;
 use program_frame::os::Os;
 use program_frame::program::Program;
 use std::alloc::Allocator;
 use std::io::{Read, Write};
 
 /// The program `names`: its words are those of a request ([`Request::parse`]).
-/// [`list_programs::program::execute`] runs it.
+/// [`program_frame::program::execute`] runs it.
 #[derive(Drop)]
 pub struct Names<F> {
     files: F,
@@ -47,7 +42,7 @@ impl<F: Files> Names<F> {
     /// use names_commands::fault::{CommandFault, Fault};
     /// use names_commands::program::Names;
     /// use program_frame::files::Disk;
-    /// use list_programs::program::ListProgram;
+    /// use program_frame::program::Program;
     /// use program_frame::marked::Marked;
     ///
     /// let mut taken = Vec::new(alloc);

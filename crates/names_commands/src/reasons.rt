@@ -14,7 +14,6 @@ use os_ignore::IgnoreOptions;
 use os_ignore::laws::known_line;
 use os_str_bytes::Platform;
 use program_frame::files::Files;
-use list_programs::answers::run_list;
 use program_frame::marked::Marked;
 use std::alloc::Allocator;
 use std::io::{Read, Write};

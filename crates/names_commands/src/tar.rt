@@ -9,12 +9,12 @@ ghost use Rattle.names_commands.specs.Tar.{IsItem, IsNoItem, IsTarOutput, earlie
 
 use crate::fault::{Fault, Rejection};
 use crate::item::unfit;
-use os_str_bytes::{OsStr, Platform};
-use program_frame::fault::Failure;
-use program_frame::input::read_all;
 use list_programs::fault::ListFault;
 use list_programs::items::push_ended;
 use list_programs::options::ListOptions;
+use os_str_bytes::{OsStr, Platform};
+use program_frame::fault::Failure;
+use program_frame::input::read_all;
 use program_frame::marked::Marked;
 use program_frame::writing::write_out;
 use std::alloc::{AllocError, Allocator};

@@ -8,9 +8,6 @@ use list_programs::fault::ItemFault;
 use list_programs::options::{ItemEnd, ListOptions};
 use list_programs::task::ListTask;
 use os_str_bytes::Platform;
-use list_programs::fault::ItemFault;
-use list_programs::options::{ItemEnd, ListOptions};
-use list_programs::task::ListTask;
 use std::alloc::Allocator;
 use std::marker::PhantomData;
 

@@ -18,11 +18,6 @@ use list_programs::options::{ItemEnd, ListOptions};
 use list_programs::task::ListTask;
 use os_ignore::Ignore;
 use os_str_bytes::{OsStr, Platform, Unix};
-use list_programs::fault::ItemFault;
-use list_programs::items::push_ended;
-use list_programs::lines::{push_escape, push_line};
-use list_programs::options::{ItemEnd, ListOptions};
-use list_programs::task::ListTask;
 use std::alloc::{AllocError, Allocator, Global};
 use std::marker::PhantomData;
 

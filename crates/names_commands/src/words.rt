@@ -17,9 +17,6 @@ use list_programs::items::push_ended;
 use list_programs::options::ListOptions;
 use os_command_line::shell::{ShellError, Specials, Word, Words, quote, quote_line};
 use os_str_bytes::{OsStr, OsString, Unix};
-use list_programs::fault::ItemFault;
-use list_programs::items::push_ended;
-use list_programs::options::ListOptions;
 use std::alloc::Allocator;
 
 /// Appends the word of a name, and a newline.

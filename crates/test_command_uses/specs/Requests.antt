@@ -1,11 +1,10 @@
 -- What the program `paths` does with arguments that request a command.
-use Rattle.std.specs.Prelude.{◌≡◌, ◌⊎◌, ℕ, List, Err}
-use Rattle.list_programs.specs.Arguments.{AreGiven}
+use Rattle.std.specs.Prelude.{◌≡◌, ◌≢◌, ◌⊎◌, ℕ, List, [], Err}
+use Rattle.list_programs.specs.Arguments.{operands_of}
 use Rattle.program_frame.specs.declared.fault.Failure.TheVariants.{Memory}
 use Rattle.list_programs.specs.declared.fault.ListFault.TheVariants.{Run}
 use Rattle.list_programs.specs.declared.program_fault.Fault.TheVariants.{List as OfList}
-use Rattle.paths_commands.specs.Command.{IsRequestFor, Line}
-use Rattle.paths_commands.specs.Options.{has_value, spelled}
+use Rattle.paths_commands.specs.Command.{AreRead, IsRequestFor, Line}
 use Rattle.paths_commands.specs.Program.{Doing, RunsCommand}
 use Rattle.paths_commands.specs.declared.command.Command.{Command}
 use Rattle.paths_commands.specs.declared.command.Command.TheVariants.{Ask, Help, Version}

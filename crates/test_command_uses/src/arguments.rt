@@ -5,7 +5,6 @@ ghost use Rattle.list_programs.specs.Arguments.{AreGiven, AreValues, HasOption, 
 ghost use Rattle.names_commands.specs.Options.{has_value, spelled};
 ghost use Rattle.names_commands.specs.declared.option.NamesOption.TheVariants.{Glob, Help, Max};
 
-use names_commands::option::NamesOption;
 use list_programs::arguments::{
     Given, ReadFault, has, last_value, next_operand, read_arguments, values,
 };

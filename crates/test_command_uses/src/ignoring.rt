@@ -12,7 +12,6 @@ use names_commands::program::Names;
 use os_args::laws::one_outcome;
 use program_frame::ends::{Messages, Output};
 use program_frame::files::{FileFault, Files};
-use list_programs::program::execute;
 use program_frame::marked::Marked;
 use program_frame::program::execute;
 use std::alloc::Allocator;
