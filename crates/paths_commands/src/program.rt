@@ -5,7 +5,7 @@ ghost use Rattle.program_frame.specs.Marked.{marked_inner, has_failed};
 ghost use Rattle.list_programs.specs.ProgramFault.{BlamesEnds, EndsRunOf};
 ghost use Rattle.list_programs.specs.Rules.{passing};
 ghost use Rattle.list_programs.specs.declared.program_fault.Fault.TheVariants.{List as OfList};
-ghost use Rattle.paths_commands.specs.Program.{Does, IsAfter, RunsLine, RunsPast, rules_on};
+ghost use Rattle.paths_commands.specs.Program.{Does, IsAfter, RunsLine, RunsPast, UnlessOutOfMemory, rules_on};
 
 use crate::command::Command;
 use crate::fault::{CommandFault, Fault, Rejection};
@@ -94,7 +94,8 @@ impl<'a, P: Eprint> Program for Paths<'a, P> {
         match read_arguments::<PathsOption, A>(alloc, words) {
             Ok(given) => run_line(alloc, self.errors, &given, reader, writer),
             Err(ReadFault::Misuse(error)) => {
-                Err(Fault::Words(CommandFault::of(Misuse::Argument(error))))
+                let misuse = Misuse::Argument(error);
+                Err(Fault::Words(CommandFault::of(alloc, misuse)?))
             }
             Err(ReadFault::Memory) => Err(Fault::List(ListFault::Run(Failure::Memory))),
         }
@@ -111,14 +112,14 @@ fn run_line<P: Eprint, A: Allocator + Copy, R: Read, W: Write>(
 ) -> Result<(), Fault>
     requires reader_unmarked { has_failed reader.old ≡ false }
     requires writer_unmarked { has_failed writer.old ≡ false }
-    ensures run { RunsLine given.now (R.remaining (marked_inner reader.old))
+    ensures run { UnlessOutOfMemory (RunsLine given.now) (R.remaining (marked_inner reader.old))
         (R.remaining (marked_inner reader.new)) (W.contents (marked_inner writer.old))
         (W.contents (marked_inner writer.new)) result }
     ensures ends { BlamesEnds result (has_failed reader.new) (has_failed writer.new) }
 {
     match Command::parse(given) {
         Ok(command) => run_command(alloc, errors, command, reader, writer),
-        Err(misuse) => Err(Fault::Words(CommandFault::of(misuse))),
+        Err(misuse) => Err(Fault::Words(CommandFault::of(alloc, misuse)?)),
     }
 }
 
