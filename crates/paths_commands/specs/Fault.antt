@@ -1,6 +1,6 @@
 -- The text of each reason why a path or the arguments are rejected.
-use Rattle.std.specs.Prelude.{ℕ, ◌+◌, ◌-◌, ◌^◌, min, List, ◌++◌, codes, decimal}
-use Rattle.std.specs.Fmt.Cut.{IsTextOrCut}
+use Rattle.std.specs.Prelude.{◌≡◌, ℕ, ◌+◌, ◌-◌, ◌^◌, min, List, ◌++◌, codes, decimal}
+use Rattle.std.specs.Fmt.Cut.{cut_to}
 use Rattle.std.specs.Fmt.InlineText.{inline_text}
 use Rattle.os_str_bytes.specs.FaultText.{fault_text}
 use Rattle.path_building.specs.ErrorText.{absolute_error_text, name_error_text}
@@ -78,5 +78,5 @@ words_status (PassedOver count) = 1
 -- the fault has the text of the misuse, which is cut if it is longer than 400 bytes
 abbrev pub IsOfMisuse : misuse.Misuse → CommandFault → Type 0
 IsOfMisuse why Unreadable = ⊥
-IsOfMisuse why (Misuse text) = IsTextOrCut 400 (misuse_text why) (inline_text text)
+IsOfMisuse why (Misuse text) = inline_text text ≡ cut_to 400 (misuse_text why)
 IsOfMisuse why (PassedOver count) = ⊥

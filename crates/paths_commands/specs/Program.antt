@@ -1,5 +1,5 @@
 -- The whole program, from the arguments after its name to its exit status.
-use Rattle.std.specs.Prelude.{◌≡◌, ◌≢◌, ◌⊎◌, ℕ, ◌<◌, Bool, true, false, List, [], ◌∷◌, ◌++◌, Option, Some, Result, Ok, Err, ⊤, IfErr, IsOk}
+use Rattle.std.specs.Prelude.{◌≡◌, ◌≢◌, ◌⊎◌, ℕ, ◌<◌, Bool, true, false, List, [], ◌∷◌, ◌++◌, Option, Some, Result, Ok, Err, ⊤, IfErr, IsOk, length, take, codes}
 use Rattle.os_args.specs.Views.{fault_of}
 use Rattle.os_args.specs.declared.error.ArgumentError.{ArgumentError}
 use Rattle.os_str_bytes.specs.Wasm.{Wasm}
@@ -46,6 +46,10 @@ Doing = Option (List ℕ) → Option (List ℕ) → Option (List ℕ) → Option
 abbrev pub EndsAtOnce : Fault → Doing
 EndsAtOnce fault input left old new answer = (answer ≡ Err fault) × ((left ≡ input) × (new ≡ old))
 
+-- so it ends where memory is refused, or else this is done
+abbrev pub UnlessOutOfMemory : Doing → Doing
+UnlessOutOfMemory Done input left old new answer = EndsAtOnce (OfList (Run Memory)) input left old new answer ⊎ Done input left old new answer
+
 -- what is done with each path of the platform, in a list that is written so, where this byte ends each result
 abbrev pub rules_on : Os → Task → ListOptions → ItemEnd → ListRules Rejection
 rules_on os task list end = rules_of (strings os) (style_of os) task list end
@@ -63,9 +67,10 @@ pub record RunsPast (list : ListRules Rejection) (input left old new : Option (L
   pub ends : IfErr ran (λ fault. EndsRunOf ⊥ fault)
   pub after : IsAfter count ran answer
 
--- a text is written, and nothing is read
-abbrev pub WritesSomeText : Doing
-WritesSomeText input left old new answer = (left ≡ input) × ((text : List ℕ) × WritesText text (OfList (Run Write)) old new answer)
+-- a text of the program's own that begins so is written, and nothing is read
+abbrev pub WritesTextFrom : List ℕ → Doing
+WritesTextFrom start input left old new answer =
+    (left ≡ input) × ((text : List ℕ) × ((take (length start) text ≡ start) × WritesText text (OfList (Run Write)) old new answer))
 
 -- the task's result for a list of paths of the platform that is written so, where this byte ends each result and paths that are rejected may be passed over
 abbrev pub RunsTask : Bool → Os → Task → ListOptions → ItemEnd → Doing
@@ -99,8 +104,8 @@ RunsOver (path ∷ paths) keeps_going os task list input left old new answer = (
 -- what the command does
 abbrev pub Does : Command → Doing
 Does (Ask task os list keeps_going paths) input left old new answer = RunsOver (operands_of paths.now) keeps_going os task list input left old new answer
-Does Help input left old new answer = WritesSomeText input left old new answer
-Does Version input left old new answer = WritesSomeText input left old new answer
+Does Help input left old new answer = WritesTextFrom (codes "paths: ") input left old new answer
+Does Version input left old new answer = WritesTextFrom (codes "paths ") input left old new answer
 
 -- the options and operands, of which the last come after `--`, request no command, and the run ends at once with what is wrong
 abbrev pub RejectsLine : ℕ → Line → Doing

@@ -1,16 +1,17 @@
 //! What keeps the program from its output.
-ghost use Rattle.std.specs.Prelude.{◌≡◌};
+ghost use Rattle.std.specs.Prelude.{◌≡◌, IfOk};
 ghost use Rattle.std.specs.Fmt.{WritesStyledOnOk};
 ghost use Rattle.std.specs.Fmt.InlineText.{inline_text};
 ghost use Rattle.paths_commands.specs.Fault.{IsOfMisuse, at_fault_text, from_one, numbered, quoted, result_text, unlike_text};
 
 use list_programs::fault::ItemRejection;
-use list_programs::misuse::Misuse;
+use list_programs::misuse::{Misuse, ROOM, cut_text};
 use list_programs::options::ItemEnd;
 use list_programs::program_fault;
 use list_programs::program_fault::WordsRejection;
 use os_path::{AbsoluteError, NameError};
 use os_str_bytes::{EncodingError, write_number};
+use std::alloc::{AllocError, Allocator};
 use std::fmt;
 use std::fmt::{Display as _, InlineText};
 
@@ -44,9 +45,6 @@ pub enum Rejection {
     ResultHas(ItemEnd),
 }
 
-/// How many bytes the text of a misuse may have; a longer one is cut, and ends in three dots.
-pub const ROOM: usize = 400;
-
 /// Why the program ends, beside what [`ListFault`](list_programs::fault::ListFault) states.
 #[derive(Clone, Copy)]
 pub enum CommandFault {
@@ -61,18 +59,22 @@ pub enum CommandFault {
 impl CommandFault {
     /// The fault for a misuse of the arguments.
     ///
+    /// # Errors
+    ///
+    /// `AllocError` if an allocation failed.
+    ///
     /// ```
     /// use paths_commands::fault::{CommandFault, Fault};
     /// use list_programs::misuse::Misuse;
     ///
-    /// let fault: Fault = Fault::Words(CommandFault::of(Misuse::Missing("BASE")));
+    /// let fault: Fault = Fault::Words(CommandFault::of(alloc, Misuse::Missing("BASE"))?);
     /// let text = "missing BASE; paths --help lists the commands";
     /// assert_eq!(rt; fault.to_string(alloc)?.as_str(), text);
     /// ```
-    pub fn of(misuse: Misuse<'_>) -> CommandFault
-        ensures { IsOfMisuse misuse.entry result }
+    pub fn of<A: Allocator>(alloc: A, misuse: Misuse<'_>) -> Result<CommandFault, AllocError>
+        ensures { IfOk result (IsOfMisuse misuse.entry) }
     {
-        CommandFault::Misuse(InlineText::of(misuse))
+        Ok(CommandFault::Misuse(cut_text(alloc, misuse)?))
     }
 }
 

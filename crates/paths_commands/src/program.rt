@@ -7,7 +7,7 @@ ghost use Rattle.list_programs.specs.ProgramFault.{BlamesEnds, EndsRunOf};
 ghost use Rattle.list_programs.specs.Rules.{passing};
 ghost use Rattle.list_programs.specs.declared.program_fault.Fault.TheVariants.{List as OfList};
 ghost use Rattle.paths_commands.specs.Command.{AreAfterEnd};
-ghost use Rattle.paths_commands.specs.Program.{Does, IsAfter, RunsLine, RunsOver, RunsPast, RunsTask, rules_on};
+ghost use Rattle.paths_commands.specs.Program.{Does, IsAfter, RunsLine, RunsOver, RunsPast, RunsTask, UnlessOutOfMemory, rules_on};
 
 use crate::command::{Command, Line};
 use crate::fault::{CommandFault, Fault, Rejection};
@@ -97,7 +97,8 @@ impl<'a, P: Eprint> Program for Paths<'a, P> {
         match read_arguments::<PathsOption, A>(alloc, words) {
             Ok(given) => run_line(alloc, self.errors, &given, after_end(words), reader, writer),
             Err(ReadFault::Misuse(error)) => {
-                Err(Fault::Words(CommandFault::of(Misuse::Argument(error))))
+                let misuse = Misuse::Argument(error);
+                Err(Fault::Words(CommandFault::of(alloc, misuse)?))
             }
             Err(ReadFault::Memory) => Err(Fault::List(ListFault::Run(Failure::Memory))),
         }
@@ -129,14 +130,14 @@ fn run_line<P: Eprint, A: Allocator + Copy, R: Read, W: Write>(
 ) -> Result<(), Fault>
     requires reader_unmarked { has_failed reader.old ≡ false }
     requires writer_unmarked { has_failed writer.old ≡ false }
-    ensures run { RunsLine after_end given.now (R.remaining (marked_inner reader.old))
+    ensures run { UnlessOutOfMemory (RunsLine after_end given.now) (R.remaining (marked_inner reader.old))
         (R.remaining (marked_inner reader.new)) (W.contents (marked_inner writer.old))
         (W.contents (marked_inner writer.new)) result }
     ensures ends { BlamesEnds result (has_failed reader.new) (has_failed writer.new) }
 {
     match Command::parse(given, after_end) {
         Ok(command) => run_command(alloc, errors, command, reader, writer),
-        Err(misuse) => Err(Fault::Words(CommandFault::of(misuse))),
+        Err(misuse) => Err(Fault::Words(CommandFault::of(alloc, misuse)?)),
     }
 }
 
