@@ -1,5 +1,5 @@
 -- The whole program, from the words after its name to its exit status.
-use Rattle.std.specs.Prelude.{◌≡◌, ◌⊎◌, ◌+◌, ℕ, Bool, List, drop, Option, None, Some, IfSome, Result, Ok, Err, ⊤}
+use Rattle.std.specs.Prelude.{◌≡◌, ◌⊎◌, ◌+◌, ℕ, Bool, List, drop, Option, None, Some, IfSome, Result, Ok, Err, ⊤, length, take, codes}
 use Rattle.std.specs.Io.KnownBytes.{Appends, IsAtEnd}
 use Rattle.std.specs.Fmt.InlineText.{inline_text}
 use Rattle.os_str_bytes.specs.Platform.{Ghosts}

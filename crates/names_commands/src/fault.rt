@@ -12,6 +12,7 @@ use list_programs::program_fault::WordsRejection;
 use os_command_line::shell::WordsFault;
 use os_quote::QuoteError;
 use os_str_bytes::{EncodingError, write_number};
+use std::alloc::{AllocError, Allocator};
 use std::fmt;
 use std::fmt::{Display as _, InlineText};
 use tar_names::TarFault;
