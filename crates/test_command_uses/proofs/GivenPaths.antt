@@ -23,7 +23,7 @@ module _ (input left old new : Option (List ℕ)) (answer : Result ⊤ Fault) wh
   does_unread Help some does = does.0
   does_unread Version some does = does.0
 
-  runs_unread : (words : List (List ℕ)) → GivesPaths words → RunsTo words input left old new answer → left ≡ input
+  pub runs_unread : (words : List (List ℕ)) → GivesPaths words → RunsTo words input left old new answer → left ≡ input
   runs_unread words gives (inl memory) = memory.1.0
   runs_unread words gives (inr (inl (none, inl faulty))) = faulty.1.1.1.1.0
   runs_unread words gives (inr (inl (none, inr rejected))) = rejected.1.1.1.1.1.1.1.1.0

@@ -7,3 +7,4 @@ pub mod KnownPaths
 pub mod KnownWhy
 pub mod Requested
 pub mod TurnsEnded
+pub mod UnreadArchives

@@ -1,2 +1,3 @@
+pub mod Archives
 pub mod OneFile
 pub mod Requests

@@ -5,6 +5,7 @@
 //! or a private word of the crates below, so that a contract that states too little breaks a caller.
 #![tactic(auto)]
 
+mod archives;
 mod arguments;
 mod ignoring;
 mod marks;
@@ -15,6 +16,7 @@ mod programs;
 mod runs;
 mod words;
 
+pub use archives::{sizeless_first, sparse_first};
 pub use arguments::{
     last_limit, only_operand, options_of_names, patterns_of_options, requests_help,
 };
