@@ -4,10 +4,10 @@ ghost use Rattle.program_frame.specs.Marked.{marked_inner, has_failed};
 ghost use Rattle.tar_names.specs.declared.fault.TarFault.TheVariants.{Kind, Size};
 ghost use Rattle.test_command_uses.specs.Archives.{BeginsSparse, LacksSize, RejectsFirst};
 
+use list_programs::options::ListOptions;
 use names_commands::fault::Fault;
 use names_commands::tar::run_tar;
 use os_str_bytes::Platform;
-use list_programs::options::ListOptions;
 use program_frame::marked::Marked;
 use std::alloc::Allocator;
 use std::io::Write;

@@ -31,13 +31,14 @@ _names() {
                 why) words='--ignore -i --ignore-case --lines --unterminated --max' ;;
                 join) words='--sh --sh-line --lines --unterminated --empty --max' ;;
                 check) words='--lines --unterminated --max' ;;
-                '') words='--lines --unterminated --max -h --help -V --version' ;;
+                tar) words='--lines --max' ;;
+                '') words='--lines --max -h --help -V --version' ;;
             esac
             ;;
         *)
             case $command:$count in
-                :0) words='list filter why join check' ;;
-                list:1|filter:1|why:1|join:1|check:1) words='unix windows wasm' ;;
+                :0) words='list filter why join check tar' ;;
+                list:1|filter:1|why:1|join:1|check:1|tar:1) words='unix windows wasm' ;;
                 why:3) compopt -o default 2>/dev/null; return ;;
             esac
             ;;

@@ -5,7 +5,8 @@ complete -c names -n __fish_use_subcommand -a filter -d 'print the names that ma
 complete -c names -n __fish_use_subcommand -a why -d 'print the line of an ignore file that decides each name'
 complete -c names -n __fish_use_subcommand -a join -d 'print the names of lines that list printed'
 complete -c names -n __fish_use_subcommand -a check -d 'check that each name is valid'
-complete -c names -n '__fish_seen_subcommand_from list filter why join check; and not __fish_seen_subcommand_from unix windows wasm' -a 'unix windows wasm'
+complete -c names -n __fish_use_subcommand -a tar -d 'print the names of the entries of a tar archive'
+complete -c names -n '__fish_seen_subcommand_from list filter why join check tar; and not __fish_seen_subcommand_from unix windows wasm' -a 'unix windows wasm'
 complete -c names -n '__fish_seen_subcommand_from why; and __fish_seen_subcommand_from unix windows wasm' -F
 complete -c names -n '__fish_seen_subcommand_from list filter' -l glob -x -d 'pick the names that a pattern matches'
 complete -c names -n '__fish_seen_subcommand_from list filter' -l name -x -d 'pick the names whose last component a pattern matches'
@@ -15,7 +16,7 @@ complete -c names -n '__fish_seen_subcommand_from list filter why' -s i -l ignor
 complete -c names -n '__fish_seen_subcommand_from list join' -l sh -d 'words that every POSIX shell reads as the names'
 complete -c names -n '__fish_seen_subcommand_from list join' -l sh-line -d 'words of a shell, each on one line'
 complete -c names -l lines -d 'a newline ends each name, and not NUL'
-complete -c names -l unterminated -d 'the last name, or the last line, may lack its end'
+complete -c names -n '__fish_seen_subcommand_from list filter why join check' -l unterminated -d 'the last name, or the last line, may lack its end'
 complete -c names -n '__fish_seen_subcommand_from join' -l empty -d 'an empty line is an empty name'
 complete -c names -l max -x -d 'the longest name, in bytes'
 complete -c names -n __fish_use_subcommand -s h -l help -d 'print the commands and options'
