@@ -1342,9 +1342,9 @@ void osb_globs_free(osb_globs *globs) {
     free(globs);
 }
 
-/* What the exports keep of ignore files: a vector, three words. */
+/* What the exports keep of ignore files: two vectors, of three words each. */
 struct core_files {
-    void *words[3];
+    void *words[6];
 };
 
 /* Ignore files that are kept, in the same way. */
@@ -1397,7 +1397,7 @@ osb_status osb_ignores_new(osb_ignores **ignores) {
     if (ignores == NULL) return OSB_BAD_POINTER;
     osb_ignores *made = malloc(sizeof *made);
     if (made == NULL) return OSB_NO_MEMORY;
-    *made = (osb_ignores){{false, &made->files}, {{NULL, NULL, NULL}}, 0};
+    *made = (osb_ignores){{false, &made->files}, {{NULL}}, 0};
     osb_status status = CORE(ignores_new)(&made->held);
     if (status == OSB_OK) *ignores = made;
     else free(made);

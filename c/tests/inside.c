@@ -21,7 +21,7 @@ static bool are_whole(void) {
 /* Whether a set and ignore files that are in no place are reported, and nothing is written or kept. */
 static bool are_empty(void) {
     osb_globs globs = {{false, &globs.set}, NULL}, *other = NULL;
-    osb_ignores ignores = {{false, &ignores.files}, {{NULL, NULL, NULL}}, 0};
+    osb_ignores ignores = {{false, &ignores.files}, {{NULL}}, 0};
     osb_decision decision = {OSB_TAKEN_IN, 7, 7};
     const osb_view path = {"a", 1};
     bool matched = true;

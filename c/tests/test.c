@@ -2353,7 +2353,8 @@ static void kept_ignores(void) {
             osb_status status = osb_ignores_add(ignores, directory, strlen(directory), file, strlen(file));
             left = SIZE_MAX;
             if (status == OSB_OK) break;
-            EXPECT(status == OSB_NO_MEMORY && blocks == kept && given < 100);
+            /* a vector may have got room, and keeps it */
+            EXPECT(status == OSB_NO_MEMORY && blocks <= kept + 1 && given < 100);
             EXPECT(osb_ignores_match(ignores, TEXT("src/deep/keep.o"), false, &decision) == OSB_OK);
             EXPECT(decision.kind == (i == 0 ? OSB_NEITHER : i == 1 ? OSB_IGNORED : OSB_TAKEN_IN));
         }
