@@ -12,9 +12,10 @@
 //! Paths are bytes here too, in no encoding, and may have a NUL, at which a system would end them:
 //! only [`Base`], [`join_checked`] and [`join_checked_keeping_sep`] reject it. They resolve `..`, and so do
 //! [`normalize`], [`clean`], [`relative_from`], also after `\\?\`, and a join to a path that begins
-//! with `\\?\`. Each call allocates, with an allocator that it is given or that the
-//! vector has, and returns a `Result`; at `Err` a vector is unchanged. Only an extension has a
-//! precondition ([`path_rules::is_extension_text`]).
+//! with `\\?\`. Each call but [`Base::new`] and the two of a common base allocates, with an allocator
+//! that it is given or that the vector has. Each returns a `Result`; at `Err` a vector is unchanged.
+//! Only an extension ([`path_rules::is_extension_text`]) and the base of [`common_base_with`] have
+//! a precondition.
 #![tactic(auto)]
 
 mod base;
