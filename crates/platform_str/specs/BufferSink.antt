@@ -26,10 +26,10 @@ abbrev pub buffer_rules : SinkRules TruncatedBuffer
 buffer_rules = record {
   took = BufferTook;
   has_room = λ b text. b.count + length text < 2 ^ 64;
-  rejects = λ b text. ⊥;
+  rejects = λ b text c. ⊥;
   took_nothing = λ b. (refl, push_nothing b.bytes.now b.count);
   took_both = λ b c d s t p q. (q.0 ∙ p.0, push_both p.1 q.1);
   room_before = λ b s t room. omega (arith, room, length-append s t);
   room_after = λ b c s t took room. omega (arith, room, took.1.1, length-append s t);
-  rejects_after = λ b c s t u took rejected. rejected;
+  rejects_after = λ b c d s t u took rejected. rejected;
 }

@@ -27,17 +27,17 @@ module _ {W : Type 0} (wrote : W → List ℕ → W → Type 0) where
     flush = q.flush;
   }
 
-  -- what it took is written; it may reject anything
+  -- what it took is written; it may reject anything, and nothing is known of it after that, since `fmt::Write` states nothing of an error
   abbrev pub formatter_rules : SinkRules (Formatter W)
   formatter_rules = record {
     took = λ f text g. IsFlush f → HasWrittenStyled wrote f text g;
     has_room = λ f text. Unit {0};
-    rejects = λ f text. Unit {0};
+    rejects = λ f text g. Unit {0};
     took_nothing = λ f flush. record { wrote = record { parts = []; calls = refl; whole = refl }; spec = refl; flush = flush };
     took_both = λ f g h a b first next flush. let p = first flush in both_written f g h a b p (next p.flush);
     room_before = λ f a b room. tt;
     room_after = λ f g a b took room. tt;
-    rejects_after = λ f g a b c took rejected. tt;
+    rejects_after = λ f g h a b c took rejected. tt;
   }
 
 -- a text is cut around an ASCII character between two texts

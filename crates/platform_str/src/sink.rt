@@ -20,6 +20,12 @@ pub trait Sink {
     /// A formatter accepts UTF-8 alone. A buffer has room while the length of what was written is
     /// below 2^64.
     ///
+    /// # Errors
+    ///
+    /// A buffer returns none. After an error a vector still has what it had, and after that at most
+    /// a prefix of what it was to take, whether that was one piece or many. What a formatter has
+    /// written then isn't known.
+    ///
     /// ```
     /// use os_str_bytes::Sink;
     ///

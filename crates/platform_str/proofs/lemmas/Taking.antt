@@ -13,7 +13,7 @@ module _ {S : Type 0} (sink : SinkRules S) where
   nothing_taken {s} = ([], sink.took_nothing s, refl)
 
   -- what is rejected, as the exit of a `?` returns it
-  pub rejected : {T E : Type 0} {s : S} {text : List ℕ} (Q : E → Type 0) (u : S) (r : Result T E) → IsErrAnd r Q → sink.rejects s text → Takes sink s text r u
+  pub rejected : {T E : Type 0} {s : S} {text : List ℕ} (Q : E → Type 0) (u : S) (r : Result T E) → IsErrAnd r Q → sink.rejects s text u → Takes sink s text r u
   rejected Q u r is_err never = rw (err_from_is_err_and r is_err).1 never
 
   module _ {s t : S} {left all : List ℕ} (so_far : TakesRest s t left all) where
@@ -27,8 +27,8 @@ module _ {S : Type 0} (sink : SinkRules S) where
     pub room_left : (more rest : List ℕ) → sink.has_room s all → left ≡ more ++ rest → sink.has_room t more
     room_left more rest room e = sink.room_before t more rest (sink.room_after s t so_far.0 (more ++ rest) so_far.1 (subst (sink.has_room s) (sym so_far.2 ∙ ap (λ x. so_far.0 ++ x) e) room))
 
-    pub none_taken : (more rest : List ℕ) → sink.rejects t more → left ≡ more ++ rest → sink.rejects s all
-    none_taken more rest never e = subst (sink.rejects s) (ap (λ x. so_far.0 ++ x) (sym e) ∙ so_far.2) (sink.rejects_after s t so_far.0 more rest so_far.1 never)
+    pub none_taken : {u : S} (more rest : List ℕ) → sink.rejects t more u → left ≡ more ++ rest → sink.rejects s all u
+    none_taken {u} more rest never e = subst (λ x. sink.rejects s x u) (ap (λ x. so_far.0 ++ x) (sym e) ∙ so_far.2) (sink.rejects_after s t u so_far.0 more rest so_far.1 never)
 
   -- what is left is taken at once
   pub last_taken : {R : Type 0} {s t : S} {left all : List ℕ} (now : List ℕ) (u : S) → TakesRest s t left all → left ≡ now → (r : Result (Unit {0}) R) → Takes sink t now r u → Takes sink s all r u
