@@ -57,7 +57,7 @@ returns-in_err-take_text-clause-taken g c =
       | then-loop-len-test+then-shown-lt-SHOWN+in_default w ↦ w.texts-is ∙ w.in_default.ensures
     ] in
     let all = parts c.loop-len.len _ c.loop-len.invariant.4 same c.from_utf8_unchecked.ensures in
-    rw (err_from_is_err_and c.from_residual.result c.from_residual.ensures.1).1 (subst (sink.rejects old) (sym all) (sink.rejects_after old old [] _ _ (sink.took_nothing old) c.in_err-take_text.ensures))
+    rw (err_from_is_err_and c.from_residual.result c.from_residual.ensures.1).1 (subst (λ x. sink.rejects old x c.take_text.new.self) (sym all) (sink.rejects_after old old c.take_text.new.self [] _ _ (sink.took_nothing old) c.in_err-take_text.ensures))
 
 pub returns : goal.returns
 returns g c =
