@@ -1,7 +1,7 @@
-"""The man page of each program, from its table in docs/programs, and its completions.
+"""The table of each program, docs/programs/NAME.toml, and the man page that is made of it.
 
 A table has the program's commands, its options with the commands that take them, and examples with what they print.
-An operand is a word in capitals. The completions are files beside the table.
+An operand is a word in capitals. tools/documents/programs prints the completions, and what the sources have of a table.
 """
 
 import re
@@ -24,29 +24,56 @@ STATUSES = {
 }
 
 
+# What --help has after the operands of a command that takes options.
+OPTIONS = "[OPTION..]"
+
+
 class Command(NamedTuple):
-    """A command: its name, its operands, and what it does, short and in full."""
+    """A command: its name, its operands, what it does, short and in full, and its forms in --help with their texts."""
 
     name: str
     operands: list[str]
     short: str
     text: str
+    forms: list[tuple[str, str]]
+
+    @property
+    def case(self) -> str:
+        """Returns the case of the command in its enum."""
+        return "".join(part.capitalize() for part in self.name.split("-"))
 
     @property
     def kinds(self) -> list[str]:
-        """Returns the operands without the marks of those that may be missing or repeated."""
-        return [re.sub(r"[\[\].]", "", it) for it in self.operands]
+        """Returns the operands without the marks of those that may be missing or repeated, and without options."""
+        return re.sub(r"--\S+ \S+|[\[\].]", "", " ".join(self.operands)).split()
 
 
 class Option(NamedTuple):
-    """An option: its spellings, its value if any, the commands that take it (none means all), and what it does."""
+    """An option: its name, its letter and value if any, the commands that take it (none means all), and what it does:
+    short, in --help and in full."""
 
-    spellings: list[str]
+    name: str
+    letter: str
     value: str
     commands: list[str]
     short: str
+    help: str
     text: str
     is_alone: bool
+
+    @property
+    def case(self) -> str:
+        """Returns the case of the option in its enum."""
+        return "".join(part.capitalize() for part in self.name.split("-"))
+
+    @property
+    def spellings(self) -> list[str]:
+        return [*([f"-{self.letter}"] if self.letter else []), f"--{self.name}"]
+
+    @property
+    def tag(self) -> str:
+        """Returns the option as --help lists it: `-i, --ignore-case`, `--max N`."""
+        return f"{', '.join(self.spellings)} {self.value}".rstrip()
 
 
 class Example(NamedTuple):
@@ -65,10 +92,15 @@ class Program(NamedTuple):
     name: str
     summary: str
     text: str
+    columns: dict[str, int]
     commands: list[Command]
     options: list[Option]
     sections: dict[str, str]
     examples: list[Example]
+
+    def takers(self, option: Option) -> list[Command]:
+        """Returns the commands that take an option."""
+        return [it for it in self.commands if not option.commands or it.name in option.commands]
 
     def options_of(self, command: str) -> list[Option]:
         """Returns the options that a command takes, or those that need none."""
@@ -81,14 +113,16 @@ def flowed(text: str) -> str:
 
 
 def option_of(row: dict) -> Option:
-    *before, last = row["synopsis"].split(", ")
-    spelling, _, value = last.partition(" ")
-    return Option([*before, spelling], value, row.get("commands", []), row["short"], flowed(row["text"]), row.get("alone", False))
+    """Returns an option. Without a text for --help, its short text is printed there, too."""
+    said = row.get("help", row["short"])
+    letter, value, commands = row.get("letter", ""), row.get("value", ""), row.get("commands", [])
+    return Option(row["name"], letter, value, commands, row["short"], said, flowed(row["text"]), row.get("alone", False))
 
 
 def command_of(row: dict) -> Command:
-    name, *operands = row["synopsis"].split()
-    return Command(name, operands, row["short"], flowed(row["text"]))
+    name, *operands = row["synopsis"].replace(OPTIONS, "").split()
+    forms = [(it["synopsis"], it.get("help", row["short"])) for it in [row, *row.get("forms", [])]]
+    return Command(name, operands, row["short"], flowed(row["text"]), forms)
 
 
 def example_of(row: dict) -> Example:
@@ -106,13 +140,14 @@ def program(name: str) -> Program:
         name,
         table["summary"],
         flowed(table["text"]),
+        table.get("columns", {}),
         [command_of(row) for row in table["commands"]],
         [option_of(row) for row in table.get("options", [])],
         {row["title"]: flowed(row["text"]) for row in table.get("sections", [])},
         [example_of(row) for row in table["examples"]],
     )
     known = {it.name for it in made.commands}
-    if unknown := [f"{it.spellings[-1]} of {of}" for it in made.options for of in it.commands if of not in known]:
+    if unknown := [f"--{it.name} of {of}" for it in made.options for of in it.commands if of not in known]:
         raise ValueError(f"docs/programs/{name}.toml: no such command: {', '.join(unknown)}")
     return made
 
@@ -151,7 +186,7 @@ def synopsis(of: Program) -> str:
     for command in of.commands:
         has = [in_bold("[OPTIONS]")] if of.options_of(command.name) else []
         lines.append(" ".join([in_bold(of.name, command.name), *has, in_bold(*command.operands)]))
-    lines += [in_bold(of.name, it.spellings[-1]) for it in of.options if it.is_alone]
+    lines += [in_bold(of.name, f"--{it.name}") for it in of.options if it.is_alone]
     return "\n.br\n".join(lines)
 
 
@@ -178,7 +213,7 @@ def man_page(of: Program) -> str:
     })
 
 
-# Where a completion is below share/, by its shell.
+# Where a completion is below share/, by its shell. tools/documents/programs prints them.
 COMPLETIONS = {"bash": "bash-completion/completions/{}", "zsh": "zsh/site-functions/_{}", "fish": "fish/vendor_completions.d/{}.fish"}
 
 

@@ -197,28 +197,19 @@ impl Name {
         ensures { IsTrue result ↔ TakesOption self option }
     {
         match option {
-            NamesOption::Help | NamesOption::Version | NamesOption::Max | NamesOption::Lines =>
-                true,
-            NamesOption::Unterminated => match self {
-                Name::List | Name::Filter | Name::Why | Name::Join | Name::Check => true,
-                Name::Tar => false,
-            },
-            NamesOption::Sh | NamesOption::ShLine => match self {
-                Name::List | Name::Join => true,
-                Name::Filter | Name::Why | Name::Check | Name::Tar => false,
-            },
-            NamesOption::Empty => match self {
-                Name::Join => true,
-                Name::List | Name::Filter | Name::Why | Name::Check | Name::Tar => false,
-            },
-            NamesOption::Ignore | NamesOption::IgnoreCase => match self {
-                Name::List | Name::Filter | Name::Why => true,
-                Name::Join | Name::Check | Name::Tar => false,
-            },
-            NamesOption::Glob | NamesOption::Name | NamesOption::Invert => match self {
-                Name::List | Name::Filter => true,
-                Name::Why | Name::Join | Name::Check | Name::Tar => false,
-            },
+            NamesOption::Help => true,
+            NamesOption::Version => true,
+            NamesOption::Max => true,
+            NamesOption::Sh => matches!(self, Name::List | Name::Join),
+            NamesOption::ShLine => matches!(self, Name::List | Name::Join),
+            NamesOption::Lines => true,
+            NamesOption::Unterminated => !matches!(self, Name::Tar),
+            NamesOption::Empty => matches!(self, Name::Join),
+            NamesOption::Glob => matches!(self, Name::List | Name::Filter),
+            NamesOption::Name => matches!(self, Name::List | Name::Filter),
+            NamesOption::Ignore => matches!(self, Name::List | Name::Filter | Name::Why),
+            NamesOption::Invert => matches!(self, Name::List | Name::Filter),
+            NamesOption::IgnoreCase => matches!(self, Name::List | Name::Filter | Name::Why),
         }
     }
 }

@@ -11,13 +11,13 @@ use os_str_bytes::{OsStr, Wasm};
 /// An option of the program.
 #[derive(Clone, Copy, PartialEq, Eq)]
 pub enum NamesOption {
-    /// `-h`, `--help`: writes what the commands are.
+    /// `-h`, `--help`: print the commands and options.
     Help,
-    /// `-V`, `--version`: writes the version.
+    /// `-V`, `--version`: print the version.
     Version,
-    /// `--max N`: a name may have N bytes.
+    /// `--max N`: the longest name, in bytes.
     Max,
-    /// `--sh`: words of a shell.
+    /// `--sh`: words that every POSIX shell reads as the names.
     Sh,
     /// `--sh-line`: words of a shell, each on one line.
     ShLine,
@@ -25,17 +25,17 @@ pub enum NamesOption {
     Lines,
     /// `--unterminated`: the last name, or the last line, may lack its end.
     Unterminated,
-    /// `--empty`: an empty line is the escape of the empty name.
+    /// `--empty`: an empty line is an empty name.
     Empty,
-    /// `--glob GLOB`: picks the names that a pattern matches.
+    /// `--glob GLOB`: pick the names that a pattern matches.
     Glob,
-    /// `--name GLOB`: picks the names whose last component a pattern matches, as `--glob '**/GLOB'`.
+    /// `--name GLOB`: pick the names whose last component a pattern matches.
     Name,
-    /// `--ignore FILE` or `--ignore DIR=FILE`: leaves out the names that an ignore file ignores.
+    /// `--ignore FILE`: leave out what an ignore file ignores.
     Ignore,
-    /// `-v`, `--invert`: picks the names that would be left out, and leaves out the others.
+    /// `-v`, `--invert`: pick the others.
     Invert,
-    /// `-i`, `--ignore-case`: patterns and ignore files match without regard to case.
+    /// `-i`, `--ignore-case`: match without regard to case.
     IgnoreCase,
 }
 
@@ -85,16 +85,19 @@ impl ProgramOption for NamesOption {
 
     fn takes_value(self) -> bool {
         match self {
-            NamesOption::Max | NamesOption::Glob | NamesOption::Name | NamesOption::Ignore => true,
-            NamesOption::Help
-            | NamesOption::Version
-            | NamesOption::Sh
-            | NamesOption::ShLine
-            | NamesOption::Lines
-            | NamesOption::Unterminated
-            | NamesOption::Empty
-            | NamesOption::Invert
-            | NamesOption::IgnoreCase => false,
+            NamesOption::Help => false,
+            NamesOption::Version => false,
+            NamesOption::Max => true,
+            NamesOption::Sh => false,
+            NamesOption::ShLine => false,
+            NamesOption::Lines => false,
+            NamesOption::Unterminated => false,
+            NamesOption::Empty => false,
+            NamesOption::Glob => true,
+            NamesOption::Name => true,
+            NamesOption::Ignore => true,
+            NamesOption::Invert => false,
+            NamesOption::IgnoreCase => false,
         }
     }
 

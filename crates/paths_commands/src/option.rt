@@ -11,15 +11,15 @@ use os_str_bytes::{OsStr, Wasm};
 /// An option of the program.
 #[derive(Clone, Copy, PartialEq, Eq)]
 pub enum PathsOption {
-    /// `-h`, `--help`: writes what the commands are.
+    /// `-h`, `--help`: print the commands and options.
     Help,
-    /// `-V`, `--version`: writes the version.
+    /// `-V`, `--version`: print the version.
     Version,
-    /// `--checked`: `join` rejects a path that could leave the base.
+    /// `--checked`: reject a path that could leave BASE.
     Checked,
-    /// `--keep-going`: rejected paths are passed over.
+    /// `--keep-going`: go on after a path that is rejected.
     KeepGoing,
-    /// `--lines`: a newline ends each path and each result, and not NUL.
+    /// `--lines`: a newline ends each path, and not NUL.
     Lines,
     /// `--unterminated`: the last path may lack its end.
     Unterminated,

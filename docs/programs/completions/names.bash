@@ -11,37 +11,22 @@ _names() {
     esac
     for ((i = 1; i < COMP_CWORD; i++)); do
         case ${COMP_WORDS[i]} in
-            --glob|--name|--ignore|--max)
-                [ "${COMP_WORDS[i + 1]}" != = ] || ((i++))
-                ((i++))
-                ;;
+            --glob|--name|--ignore|--max) [ "${COMP_WORDS[i + 1]}" != = ] || ((i++)); ((i++)) ;;
             =) ((i++)) ;;
             -*) ;;
-            *)
-                command=${command:-${COMP_WORDS[i]}}
-                ((count++))
-                ;;
+            *) command=${command:-${COMP_WORDS[i]}}; ((count++)) ;;
         esac
     done
-    case $word in
-        -*)
-            case $command in
-                list) words='--glob --name --ignore -v --invert -i --ignore-case --sh --sh-line --lines --unterminated --max' ;;
-                filter) words='--glob --name --ignore -v --invert -i --ignore-case --lines --unterminated --max' ;;
-                why) words='--ignore -i --ignore-case --lines --unterminated --max' ;;
-                join) words='--sh --sh-line --lines --unterminated --empty --max' ;;
-                check) words='--lines --unterminated --max' ;;
-                tar) words='--lines --max' ;;
-                '') words='--lines --max -h --help -V --version' ;;
-            esac
-            ;;
-        *)
-            case $command:$count in
-                :0) words='list filter why join check tar' ;;
-                list:1|filter:1|why:1|join:1|check:1|tar:1) words='unix windows wasm' ;;
-                why:3) compopt -o default 2>/dev/null; return ;;
-            esac
-            ;;
+    case $command:$count:$word in
+        list:*:-*) words='--glob --name --ignore -v --invert -i --ignore-case --sh --sh-line --lines --unterminated --max' ;;
+        filter:*:-*) words='--glob --name --ignore -v --invert -i --ignore-case --lines --unterminated --max' ;;
+        why:*:-*) words='--ignore -i --ignore-case --lines --unterminated --max' ;;
+        join:*:-*) words='--sh --sh-line --lines --unterminated --empty --max' ;;
+        check:*:-*) words='--lines --unterminated --max' ;;
+        tar:*:-*) words='--lines --max' ;;
+        :*:-*) words='--lines --max -h --help -V --version' ;;
+        :0:*) words='list filter why join check tar' ;;
+        list:1:*|filter:1:*|why:1:*|join:1:*|check:1:*|tar:1:*) words='unix windows wasm' ;;
     esac
     mapfile -t COMPREPLY < <(compgen -W "$words" -- "$word")
 }

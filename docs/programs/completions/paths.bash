@@ -2,41 +2,35 @@
 _paths() {
     local word=${COMP_WORDS[COMP_CWORD]} command='' words='' count=0 i at=$((COMP_CWORD - 1))
     COMPREPLY=()
+    # bash takes = as a word of its own
+    [ "$word" != = ] || word=
+    [ "${COMP_WORDS[at]}" != = ] || at=$((at - 1))
+    case ${COMP_WORDS[at]} in
+    esac
     for ((i = 1; i < COMP_CWORD; i++)); do
         case ${COMP_WORDS[i]} in
+            =) ((i++)) ;;
             -*) ;;
-            *)
-                command=${command:-${COMP_WORDS[i]}}
-                ((count++))
-                ;;
+            *) command=${command:-${COMP_WORDS[i]}}; ((count++)) ;;
         esac
     done
-    case $word in
-        -*)
-            case $command in
-                parent) words='--lines --unterminated --keep-going' ;;
-                name) words='--lines --unterminated --keep-going' ;;
-                stem) words='--lines --unterminated --keep-going' ;;
-                extension) words='--lines --unterminated --keep-going' ;;
-                components) words='--lines --unterminated --keep-going' ;;
-                normalize) words='--lines --unterminated --keep-going' ;;
-                clean) words='--lines --unterminated --keep-going' ;;
-                join) words='--checked --lines --unterminated --keep-going' ;;
-                relative) words='--lines --unterminated --keep-going' ;;
-                absolute) words='--lines --unterminated --keep-going' ;;
-                convert) words='--lines --unterminated --keep-going' ;;
-                '') words='--lines --unterminated --keep-going -h --help -V --version' ;;
-            esac
-            ;;
-        *)
-            case $command:$count in
-                :0) words='parent name stem extension components normalize clean join relative absolute convert' ;;
-                parent:1|name:1|stem:1|extension:1|components:1|normalize:1|clean:1|join:1|relative:1|absolute:1|convert:1) words='unix windows wasm' ;;
-                join:2|relative:2) compopt -o default 2>/dev/null; return ;;
-                absolute:2) compopt -o default 2>/dev/null; return ;;
-                convert:2) words='unix windows wasm' ;;
-            esac
-            ;;
+    case $command:$count:$word in
+        components:*:-*) words='--lines --unterminated --keep-going' ;;
+        parent:*:-*) words='--lines --unterminated --keep-going' ;;
+        name:*:-*) words='--lines --unterminated --keep-going' ;;
+        stem:*:-*) words='--lines --unterminated --keep-going' ;;
+        extension:*:-*) words='--lines --unterminated --keep-going' ;;
+        normalize:*:-*) words='--lines --unterminated --keep-going' ;;
+        clean:*:-*) words='--lines --unterminated --keep-going' ;;
+        join:*:-*) words='--checked --lines --unterminated --keep-going' ;;
+        relative:*:-*) words='--lines --unterminated --keep-going' ;;
+        absolute:*:-*) words='--lines --unterminated --keep-going' ;;
+        convert:*:-*) words='--lines --unterminated --keep-going' ;;
+        :*:-*) words='--lines --unterminated --keep-going -h --help -V --version' ;;
+        :0:*) words='components parent name stem extension normalize clean join relative absolute convert' ;;
+        components:1:*|parent:1:*|name:1:*|stem:1:*|extension:1:*|normalize:1:*|clean:1:*|join:1:*|relative:1:*|absolute:1:*|convert:1:*) words='unix windows wasm' ;;
+        convert:2:*) words='unix windows wasm' ;;
+        join:2:*|relative:2:*|absolute:2:*) compopt -o default 2>/dev/null; return ;;
     esac
     mapfile -t COMPREPLY < <(compgen -W "$words" -- "$word")
 }
