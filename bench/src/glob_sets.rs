@@ -7,6 +7,7 @@ use crate::table::Bench;
 use globset::{GlobBuilder, GlobSet, GlobSetBuilder};
 use std::collections::HashSet;
 use std::hint::black_box;
+use std::slice;
 use std::sync::{LazyLock, OnceLock};
 
 const COUNTS: [usize; 4] = [1, 10, 100, 1000];
@@ -110,11 +111,21 @@ fn hostile(bench: &mut Bench) {
     bench.table("Hard sets beside globset", "a path");
     for count in [6, 7, 8] {
         let pattern = format!("**/x/**/{}?/**", "{a,b}".repeat(count));
-        matched(bench, &format!("`**/x/**/{{a,b}}^{count}?/**` on (x/)^100"), &[pattern], &"x/".repeat(100));
+        let input = format!("`**/x/**/{{a,b}}^{count}?/**` on (x/)^");
+        matched(bench, &format!("{input}100"), slice::from_ref(&pattern), &"x/".repeat(100));
+        matched(bench, &format!("{input}99abababab"), &[pattern], &("x/".repeat(99) + "abababab"));
     }
     for times in [200, 400, 800] {
         let patterns: Vec<_> = (0..100).map(|index| format!("**/x/**/y{index}?/**")).collect();
-        matched(bench, &format!("100 of `**/x/**/yN?/**` on (x/)^{times}"), &patterns, &"x/".repeat(times));
+        let input = "100 of `**/x/**/yN?/**` on (x/)^";
+        matched(bench, &format!("{input}{times}"), &patterns, &"x/".repeat(times));
+        let less = times - 1;
+        matched(bench, &format!("{input}{less}y1z"), &patterns, &("x/".repeat(less) + "y1z"));
+    }
+    for times in [50, 100] {
+        let patterns: Vec<_> = (0..100).map(|index| format!("**/x/**/y{index}?/**")).collect();
+        let path: String = (0..times).map(|index| format!("y{index}z/")).collect();
+        matched(bench, &format!("100 of `**/x/**/yN?/**` on y0z/ to y{}z/", times - 1), &patterns, &path);
     }
     for count in [1000, 2000, 4000] {
         let patterns: Vec<_> =

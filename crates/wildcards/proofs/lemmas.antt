@@ -13,7 +13,6 @@ pub mod Covers
 pub mod Small
 pub mod Extensions
 pub mod Queries
-pub mod AnyWith
 pub mod Adding
 pub mod Orders
 pub mod Beginnings

@@ -1,5 +1,5 @@
 -- The places that a path is matched with: only private contracts name this.
-use Rattle.std.specs.Prelude.{◌≡◌, ◌-◌, ◌<◌, ◌⊎◌, ◌||◌, nat_eq, ℕ, Bool, List, [], ◌∷◌, ◌++◌, length, drop, if◌then◌else◌, true, false, Option, Some, None, MatchOption}
+use Rattle.std.specs.Prelude.{◌≡◌, ◌-◌, ◌<◌, ◌⊎◌, ◌||◌, nat_eq, ℕ, Bool, List, [], ◌∷◌, ◌++◌, map, length, drop, if◌then◌else◌, true, false, Option, Some, None, MatchOption}
 use denote.Ref.{Bor}
 use Rattle.wildcards.specs.declared.candidates.Query.{Query}
 use Rattle.wildcards.specs.declared.candidates.Stage.{Stage}
@@ -10,7 +10,7 @@ use Rattle.wildcards.specs.declared.separators.Separators.{Separators}
 use Rattle.wildcards.specs.Components.{components}
 use Rattle.wildcards.specs.Extensions.{LacksExtension, IsExtension}
 use Rattle.wildcards.specs.Filters.{AsksName}
-use Rattle.wildcards.specs.Keys.{EndsIn, key_separators}
+use Rattle.wildcards.specs.Keys.{EndsIn, first_letters, key_separators}
 use Rattle.wildcards.specs.Sets.{Has}
 use Rattle.wildcards.specs.Tables.{bucket, slot_of}
 
@@ -33,38 +33,39 @@ module _ {A : Type 0} where
     pub extension_is : MatchOption q.extension (filter.extensions ≡ true → LacksExtension (components s path)) (λ text. IsExtension (components s path) text.now)
 
   module _ (q : Query A) where
-    -- the suffixes of these lengths
-    abbrev pub suffix_keys : List ℕ → List (List ℕ)
-    suffix_keys [] = []
-    suffix_keys (n ∷ ns) = drop (length q.name.now - n) q.name.now ∷ suffix_keys ns
+    -- the end of the last component, of these sizes
+    abbrev pub end_keys : List ℕ → List (List ℕ)
+    end_keys [] = []
+    end_keys (n ∷ ns) = drop (length q.name.now - n) q.name.now ∷ end_keys ns
 
     -- the extension, and others
-    abbrev pub extension_keys : Option (Bor (List ℕ)) → List (List ℕ) → List (List ℕ)
-    extension_keys None keys = keys
-    extension_keys (Some extension) keys = extension.now ∷ keys
+    abbrev pub after_extension : Option (Bor (List ℕ)) → List (List ℕ) → List (List ℕ)
+    after_extension None keys = keys
+    after_extension (Some extension) keys = extension.now ∷ keys
 
-    -- the ends: the extension, and all suffixes
-    abbrev pub end_keys : List (List ℕ)
-    end_keys = extension_keys q.extension (suffix_keys q.filter.now.lengths.items)
+    -- the extension, and the end of each size
+    abbrev pub extension_keys : List (List ℕ)
+    extension_keys = after_extension q.extension (end_keys q.filter.now.ends.items)
 
-    -- components, and ends
-    abbrev pub part_keys : Option (Bor (List ℕ)) → List (List ℕ)
-    part_keys None = end_keys
-    part_keys (Some rest) = components q.separators rest.now ++ end_keys
+    -- the start of the last component, of these sizes, and those
+    abbrev pub name_keys : List ℕ → List (List ℕ)
+    name_keys [] = extension_keys
+    name_keys (n ∷ ns) = first_letters n q.name.now ∷ name_keys ns
 
-    -- the keys that aren't the whole path
-    abbrev pub name_keys : List (List ℕ)
-    name_keys = with_key q.filter.now.names q.name.now (if q.filter.now.components then components q.separators q.path.now ++ end_keys else end_keys)
+    -- the starts of these components of the first size, of all components of the other sizes, and those of the last
+    abbrev pub component_keys : List ℕ → List ℕ → List (List ℕ)
+    component_keys [] rest = name_keys q.filter.now.names.items
+    component_keys (n ∷ ns) rest = map (first_letters n) (components q.separators rest) ++ component_keys ns q.path.now
 
     abbrev pub path_keys : List (List ℕ)
-    path_keys = with_key q.filter.now.paths q.path.now name_keys
+    path_keys = with_key q.filter.now.paths q.path.now (component_keys q.filter.now.components.items q.path.now)
 
     -- all that are left at a stage
     abbrev pub left_keys : Stage → List (List ℕ)
     left_keys stage.Path = path_keys
-    left_keys stage.Name = name_keys
-    left_keys (stage.Component rest) = part_keys rest
-    left_keys (stage.Suffix lengths) = suffix_keys lengths.now
+    left_keys (stage.Component sizes rest) = component_keys sizes.now rest.now
+    left_keys (stage.Name sizes) = name_keys sizes.now
+    left_keys (stage.End sizes) = end_keys sizes.now
 
     -- the first of the keys, and the stage at which the others are left; None where there is none
     abbrev pub IsNextKey : List (List ℕ) → Option (Bor (List ℕ) × Stage) → Type 0

@@ -16,24 +16,25 @@ use Rattle.wildcards.specs.Small.{IsNeededBy}
 use Rattle.wildcards.specs.Tables.{bucket}
 
 module _ {A : Type 0} where
-  -- keys of this kind and length are looked up
+  -- keys of this kind and size are looked up
   abbrev pub Asks : Filter A → Kind → ℕ → Type 0
   Asks f kind.Path n = f.paths ≡ true
-  Asks f kind.Name n = f.names ≡ true
-  Asks f kind.Component n = f.components ≡ true
+  Asks f kind.Component n = Has f.components.items n
+  Asks f kind.Name n = Has f.names.items n
   Asks f kind.Extension n = f.extensions ≡ true
-  Asks f kind.Suffix n = Has f.lengths.items n
+  Asks f kind.End n = Has f.ends.items n
 
-  -- the last component is looked up, or suffixes of it
+  -- the start of the last component is looked up, or its end
   abbrev pub AsksName : Filter A → Type 0
-  AsksName f = (f.names ≡ true) ⊎ ((n : ℕ) × Has f.lengths.items n)
+  AsksName f = ((n : ℕ) × Has f.names.items n) ⊎ ((n : ℕ) × Has f.ends.items n)
 
   -- the place is in the bucket of a key that the pieces need
   pub record IsListed (o : Options) (f : Filter A) (i : Place) (pieces : List (Piece (Part A))) : Type 0 where
     pub kind : Kind
+    pub size : ℕ
     pub key : List ℕ
-    pub needed : IsNeededBy f.folds o pieces kind key
-    pub asked : Asks f kind (length key)
+    pub needed : IsNeededBy f.folds o pieces kind size key
+    pub asked : Asks f kind size
     pub listed : Has (bucket f.folds f.buckets.items key) i
 
   -- the place is found wherever the pieces match

@@ -1,5 +1,5 @@
 -- What a path needs to be matched by a pattern: only private contracts name this.
-use Rattle.std.specs.Prelude.{◌≡◌, ◌⊎◌, ◌<◌, Bool, true, false, ℕ, List, [], ◌∷◌, ◌++◌}
+use Rattle.std.specs.Prelude.{◌≡◌, ◌⊎◌, ◌<◌, Bool, true, false, ℕ, zero, suc, List, [], ◌∷◌, ◌++◌, length, take}
 use Rattle.std.specs.List.{AllByRecursion, join_with_byte}
 use Rattle.wildcards.specs.declared.options.Options.{Options}
 use Rattle.wildcards.specs.declared.separators.Separators.{Separators}
@@ -42,27 +42,54 @@ EndsIn parts last = (before : List (List ℕ)) × (parts ≡ before ++ last ∷ 
 abbrev pub HasPart : List (List ℕ) → List ℕ → Type 0
 HasPart parts part = (before : List (List ℕ)) × ((after : List (List ℕ)) × (parts ≡ before ++ part ∷ after))
 
--- the path has the key
-abbrev pub HasKey : Options → Kind → List ℕ → List ℕ → Type 0
-HasKey o kind.Path path key = path ≡ key
-HasKey o kind.Name path key = EndsIn (components o.separators path) key
-HasKey o kind.Component path key = HasPart (components (key_separators o.separators) path) key
-HasKey o kind.Extension path key = LacksDot key × ((start : List ℕ) × EndsIn (components o.separators path) (start ++ 0x2E ∷ key))
-HasKey o kind.Suffix path key = (start : List ℕ) × EndsIn (components o.separators path) (start ++ key)
+-- the first letters of a component, as many as the size; all of them for 0
+abbrev pub first_letters : ℕ → List ℕ → List ℕ
+first_letters zero component = component
+first_letters (suc n) component = take (suc n) component
+
+-- the letters before the rest have the size; for 0 they are all
+abbrev pub HaveSize : ℕ → List ℕ → List ℕ → Type 0
+HaveSize zero key rest = rest ≡ []
+HaveSize (suc n) key rest = length key ≡ suc n
+
+-- the path has the key of this kind and size
+abbrev pub HasKey : Options → Kind → ℕ → List ℕ → List ℕ → Type 0
+HasKey o kind.Path n path key = path ≡ key
+HasKey o kind.Component n path key = (rest : List ℕ) × (HasPart (components (key_separators o.separators) path) (key ++ rest) × HaveSize n key rest)
+HasKey o kind.Name n path key = (rest : List ℕ) × (EndsIn (components o.separators path) (key ++ rest) × HaveSize n key rest)
+HasKey o kind.Extension n path key = LacksDot key × ((start : List ℕ) × EndsIn (components o.separators path) (start ++ 0x2E ∷ key))
+HasKey o kind.End n path key = (length key ≡ n) × ((start : List ℕ) × EndsIn (components o.separators path) (start ++ key))
 
 -- a component that ends with the text has the key
-abbrev pub IsOfEnd : List ℕ → Kind → List ℕ → Type 0
-IsOfEnd text kind.Path key = ⊥
-IsOfEnd text kind.Name key = ⊥
-IsOfEnd text kind.Component key = ⊥
-IsOfEnd text kind.Extension key = LacksDot key × (text ≡ 0x2E ∷ key)
-IsOfEnd text kind.Suffix key = (before : List ℕ) × (text ≡ before ++ key)
+abbrev pub IsOfEnd : List ℕ → Kind → ℕ → List ℕ → Type 0
+IsOfEnd text kind.Path n key = ⊥
+IsOfEnd text kind.Component n key = ⊥
+IsOfEnd text kind.Name n key = ⊥
+IsOfEnd text kind.Extension n key = LacksDot key × (text ≡ 0x2E ∷ key)
+IsOfEnd text kind.End n key = (length key ≡ n) × ((before : List ℕ) × (text ≡ before ++ key))
 
 module _ {A : Type 0} where
   -- each path that the pieces match has the key, which is ASCII
-  pub record IsNeeded (o : Options) (pieces : List (Piece (Part A))) (k : Kind) (key : List ℕ) : Type 0 where
+  pub record IsNeeded (o : Options) (pieces : List (Piece (Part A))) (k : Kind) (n : ℕ) (key : List ℕ) : Type 0 where
     pub ascii : AllByRecursion (λ b. b < 0x80) key
-    pub needed : (path : List ℕ) → Matches o pieces path → HasKey o k path key
+    pub needed : (path : List ℕ) → Matches o pieces path → HasKey o k n path key
+
+  -- the last component of each path that the pieces match ends with the text, which is ASCII
+  pub record EndsWith (o : Options) (pieces : List (Piece (Part A))) (text : List ℕ) : Type 0 where
+    pub ascii : AllByRecursion (λ b. b < 0x80) text
+    pub needed : (path : List ℕ) → Matches o pieces path → (start : List ℕ) × EndsIn (components o.separators path) (start ++ text)
+
+  -- the pieces begin with literals, of this text
+  pub record BeginWith (pieces : List (Piece (Item A))) (text : List ℕ) : Type 0 where
+    pub own : List (Piece (Item A))
+    pub after : List (Piece (Item A))
+    pub joined : pieces ≡ own ++ after
+    pub spelled : spells own text ≡ true
+
+  -- the letters of this size with which the part begins; for 0 they are all
+  abbrev pub AreOfPart : Part A → ℕ → List ℕ → Type 0
+  AreOfPart part zero text = spells part.pieces.items text ≡ true
+  AreOfPart part (suc n) text = (length text ≡ suc n) × BeginWith part.pieces.items text
 
   -- the pieces are at the start, or after a `/`
   abbrev pub BeginsAt : List (Piece (Item A)) → List (Piece (Item A)) → Type 0

@@ -18,6 +18,5 @@ pub mod Tables
 pub mod Extensions
 pub mod Keys
 pub mod Small
-pub mod Enough
 pub mod Filters
 pub mod Candidates

@@ -59,6 +59,6 @@ IsLookedUp true path = AreAscii path
 
 module _ {A : Type 0} where
   -- each path that the pieces match and that is looked up has the key, which is ASCII
-  pub record IsNeededBy (folds : Bool) (o : Options) (pieces : List (Piece (Part A))) (k : Kind) (key : List ℕ) : Type 0 where
+  pub record IsNeededBy (folds : Bool) (o : Options) (pieces : List (Piece (Part A))) (k : Kind) (n : ℕ) (key : List ℕ) : Type 0 where
     pub ascii : AreAscii key
-    pub needed : (path : List ℕ) → IsLookedUp folds path → Matches o pieces path → HasKey o k (folded folds path) key
+    pub needed : (path : List ℕ) → IsLookedUp folds path → Matches o pieces path → HasKey o k n (folded folds path) key

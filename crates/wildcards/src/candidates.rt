@@ -2,8 +2,8 @@
 ghost use Rattle.std.specs.Prelude.{◌≡◌, ◌∷◌, true, MatchOption};
 ghost use Rattle.wildcards.specs.Components.{components};
 ghost use Rattle.wildcards.specs.Extensions.{LacksExtension, IsExtension};
-ghost use Rattle.wildcards.specs.Keys.{EndsIn};
-ghost use Rattle.wildcards.specs.Candidates.{IsQuery, IsNext, IsNextKey, asked, comes_again, left_keys, path_keys, name_keys, part_keys, end_keys, suffix_keys};
+ghost use Rattle.wildcards.specs.Keys.{EndsIn, first_letters};
+ghost use Rattle.wildcards.specs.Candidates.{IsQuery, IsNext, IsNextKey, asked, comes_again, left_keys, path_keys, component_keys, name_keys, extension_keys, end_keys};
 
 use crate::component;
 use crate::component::{split_first, split_last};
@@ -18,12 +18,13 @@ use std::alloc::Allocator;
 pub(crate) enum Stage<'s, 'p> {
     /// All of them.
     Path,
-    /// Those of keys that aren't the whole path.
-    Name,
-    /// Those of these components, and of ends: of the extension, and of suffixes.
-    Component(Option<&'p [u8]>),
-    /// Those of suffixes of these lengths.
-    Suffix(&'s [usize]),
+    /// Those of the first of these sizes of these components, of the others of all components, and
+    /// those of the last component.
+    Component(&'s [usize], &'p [u8]),
+    /// Those of these sizes of the last component, and of its end.
+    Name(&'s [usize]),
+    /// Those of these sizes of its end.
+    End(&'s [usize]),
 }
 
 /// A path that is looked up in a set, and the parts of it that the set's filter needs.
@@ -33,10 +34,10 @@ pub(crate) struct Query<'s, 'p, A: Allocator> {
     // what separates the components that are looked up
     separators: Separators,
     path: &'p [u8],
-    // the last component, if there are patterns that need it or a suffix of it
+    // the last component, if there are keys of it
     name: &'p [u8],
     // its extension, if there are patterns that need one
-    pub extension: Option<&'p [u8]>,
+    extension: Option<&'p [u8]>,
 }
 
 /// Returns the last component if the flag is set, and the path otherwise.
@@ -62,6 +63,18 @@ fn extension_if(asked: bool, separators: Separators, path: &[u8]) -> Option<&[u8
     } else {
         None
     }
+}
+
+/// The first letters of a component, as many as this size; all of them for 0.
+#[inline(always)]
+fn first_letters(size: usize, component: &[u8]) -> &[u8]
+    ensures { result.now ≡ first_letters size component.now }
+{
+    if size == 0 || size >= component.len() {
+        return component;
+    }
+    let (first, _) = component.split_at(size);
+    first
 }
 
 impl<'s, 'p, A: Allocator> Query<'s, 'p, A> {
@@ -125,9 +138,9 @@ impl<'s, 'p, A: Allocator> Query<'s, 'p, A> {
     {
         match stage {
             Stage::Path => self.next_path(),
-            Stage::Name => self.next_name(),
-            Stage::Component(rest) => self.next_component(rest),
-            Stage::Suffix(lengths) => self.next_suffix(lengths),
+            Stage::Component(sizes, rest) => self.next_component(sizes, rest),
+            Stage::Name(sizes) => self.next_name(sizes),
+            Stage::End(sizes) => self.next_end(sizes),
         }
     }
 
@@ -136,60 +149,65 @@ impl<'s, 'p, A: Allocator> Query<'s, 'p, A> {
     fn next_path(&self) -> Option<(&'p [u8], Stage<'s, 'p>)>
         ensures { IsNextKey self.now (path_keys self.now) result }
     {
+        let sizes = self.filter.components.as_slice();
         if self.filter.paths {
-            return Some((self.path, Stage::Name));
+            return Some((self.path, Stage::Component(sizes, self.path)));
         }
-        self.next_name()
+        self.next_component(sizes, self.path)
     }
 
-    /// The next key after the whole path.
+    /// The next key of the first of these sizes of these components, or a later one.
     #[inline(always)]
-    fn next_name(&self) -> Option<(&'p [u8], Stage<'s, 'p>)>
-        ensures { IsNextKey self.now (name_keys self.now) result }
+    fn next_component(
+        &self,
+        sizes: &'s [usize],
+        rest: &'p [u8],
+    ) -> Option<(&'p [u8], Stage<'s, 'p>)>
+        ensures { IsNextKey self.now (component_keys self.now sizes.entry.now rest.entry.now)
+            result }
     {
-        let rest = if self.filter.components {
-            Some(self.path)
-        } else {
-            None
+        let Some((size, more)) = sizes.split_first() else {
+            return self.next_name(self.filter.names.as_slice());
         };
-        if self.filter.names {
-            return Some((self.name, Stage::Component(rest)));
+        let (component, left) = split_first::<Bytes>(self.separators, rest);
+        let key = first_letters(*size, component);
+        match left {
+            Some(rest) => Some((key, Stage::Component(sizes, rest))),
+            None => Some((key, Stage::Component(more, self.path))),
         }
-        self.next_component(rest)
     }
 
-    /// The next key of these components, and of ends.
+    /// The next key of these sizes of the last component, or a later one.
     #[inline(always)]
-    fn next_component(&self, rest: Option<&'p [u8]>) -> Option<(&'p [u8], Stage<'s, 'p>)>
-        ensures { IsNextKey self.now (part_keys self.now rest.entry) result }
+    fn next_name(&self, sizes: &'s [usize]) -> Option<(&'p [u8], Stage<'s, 'p>)>
+        ensures { IsNextKey self.now (name_keys self.now sizes.entry.now) result }
     {
-        let Some(path) = rest else {
-            return self.next_end();
+        let Some((size, more)) = sizes.split_first() else {
+            return self.next_extension();
         };
-        let (component, more) = split_first::<Bytes>(self.separators, path);
-        Some((component, Stage::Component(more)))
+        Some((first_letters(*size, self.name), Stage::Name(more)))
     }
 
-    /// The next key of ends.
+    /// The next key of the extension, and of the end.
     #[inline(always)]
-    fn next_end(&self) -> Option<(&'p [u8], Stage<'s, 'p>)>
-        ensures { IsNextKey self.now (end_keys self.now) result }
+    fn next_extension(&self) -> Option<(&'p [u8], Stage<'s, 'p>)>
+        ensures { IsNextKey self.now (extension_keys self.now) result }
     {
-        let lengths = self.filter.lengths.as_slice();
+        let sizes = self.filter.ends.as_slice();
         if let Some(extension) = self.extension {
-            return Some((extension, Stage::Suffix(lengths)));
+            return Some((extension, Stage::End(sizes)));
         }
-        self.next_suffix(lengths)
+        self.next_end(sizes)
     }
 
-    /// The next suffix of these lengths.
+    /// The next key of these sizes of the end of the last component.
     #[inline(always)]
-    fn next_suffix(&self, lengths: &'s [usize]) -> Option<(&'p [u8], Stage<'s, 'p>)>
-        ensures { IsNextKey self.now (suffix_keys self.now lengths.entry.now) result }
+    fn next_end(&self, sizes: &'s [usize]) -> Option<(&'p [u8], Stage<'s, 'p>)>
+        ensures { IsNextKey self.now (end_keys self.now sizes.entry.now) result }
     {
-        let (length, more) = lengths.split_first()?;
-        let at = self.name.len().saturating_sub(*length);
-        let (_, suffix) = self.name.split_at(at);
-        Some((suffix, Stage::Suffix(more)))
+        let (size, more) = sizes.split_first()?;
+        let at = self.name.len().saturating_sub(*size);
+        let (_, end) = self.name.split_at(at);
+        Some((end, Stage::End(more)))
     }
 }

@@ -1,5 +1,5 @@
 //! Which choices of a set a path may match, by the keys that they need.
-ghost use Rattle.std.specs.Prelude.{◌≡◌, ◌⊎◌, true, length, OnOk, IfOk, IfSome};
+ghost use Rattle.std.specs.Prelude.{◌≡◌, ◌⊎◌, ℕ, true, length, OnOk, IfOk, IfSome};
 ghost use Rattle.wildcards.specs.Tables.{slot_of, places_at, bucket};
 ghost use Rattle.wildcards.specs.Sets.{Has};
 ghost use Rattle.wildcards.specs.Filters.{Asks, AsksName, Grows, IsCovered};
@@ -29,21 +29,25 @@ pub(crate) struct Filter<A: Allocator> {
     pub buckets: Vec<Vec<Place, A>, A>,
     /// Those of choices that need no key.
     pub others: Vec<Place, A>,
-    /// Which kinds of keys there are.
+    /// Whether there are keys that are whole paths.
     pub paths: bool,
-    pub names: bool,
-    pub components: bool,
+    /// Whether there are keys that are extensions.
     pub extensions: bool,
-    /// The lengths of the suffixes.
-    pub lengths: Vec<usize, A>,
+    /// The sizes of the keys of components, of the last one, and of its end.
+    pub components: Vec<usize, A>,
+    pub names: Vec<usize, A>,
+    pub ends: Vec<usize, A>,
 }
 
-/// The text of a key, if that is an extension.
-fn if_extension<A: Allocator>(key: Key<A>) -> Option<Vec<u8, A>> {
-    match key.kind {
-        Kind::Extension => Some(key.text),
-        _ => None,
+/// Notes a size, once.
+fn note_size<A: Allocator>(sizes: &mut Vec<usize, A>, size: usize) -> Result<(), AllocError>
+    ensures noted { OnOk result (Has sizes.new.items size) }
+    ensures kept { OnOk result ((n : ℕ) → Has sizes.old.items n → Has sizes.new.items n) }
+{
+    if !has(sizes, size) {
+        sizes.push(size)?;
     }
+    Ok(())
 }
 
 /// The key of a pattern, if it has one: of small letters, if it folds.
@@ -54,7 +58,7 @@ fn key_by<A: Allocator + Copy>(
     pieces: &[Piece<Part<A>>],
 ) -> Result<Option<Key<A>>, AllocError>
     ensures { IfOk result (λ key. IfSome key (λ key. IsNeededBy folds options pieces.entry.now
-        key.kind key.text.items)) }
+        key.kind key.size key.text.items)) }
 {
     if folds {
         let small = small_parts(alloc, pieces)?;
@@ -80,10 +84,10 @@ impl<A: Allocator> Filter<A> {
             buckets,
             others: Vec::new(alloc),
             paths: false,
-            names: false,
-            components: false,
             extensions: false,
-            lengths: Vec::new(alloc),
+            components: Vec::new(alloc),
+            names: Vec::new(alloc),
+            ends: Vec::new(alloc),
         })
     }
 
@@ -111,32 +115,28 @@ impl<A: Allocator> Filter<A> {
         &[]
     }
 
-    /// Whether the last component is needed, as a key or for suffixes.
+    /// Whether the last component is needed, for its start or its end.
     #[inline(always)]
     pub fn asks_name(&self) -> bool
         ensures { AsksName self.now → result ≡ true }
     {
-        if self.names {
+        if !self.names.is_empty() {
             return true;
         }
-        !self.lengths.is_empty()
+        !self.ends.is_empty()
     }
 
-    /// Notes that there are keys of this kind and length.
-    fn note(&mut self, kind: Kind, length: usize) -> Result<(), AllocError>
-        ensures asked { OnOk result (Asks self.new kind length) }
+    /// Notes that there are keys of this kind and size.
+    fn note(&mut self, kind: Kind, size: usize) -> Result<(), AllocError>
+        ensures asked { OnOk result (Asks self.new kind size) }
         ensures grows { OnOk result (Grows self.old self.new) }
     {
         match kind {
             Kind::Path => self.paths = true,
-            Kind::Name => self.names = true,
-            Kind::Component => self.components = true,
+            Kind::Component => note_size(&mut self.components, size)?,
+            Kind::Name => note_size(&mut self.names, size)?,
             Kind::Extension => self.extensions = true,
-            Kind::Suffix => {
-                if !has(&self.lengths, length) {
-                    self.lengths.push(length)?;
-                }
-            }
+            Kind::End => note_size(&mut self.ends, size)?,
         }
         Ok(())
     }
@@ -156,15 +156,14 @@ impl<A: Allocator> Filter<A> {
         Ok(())
     }
 
-    /// Adds the place of a choice that has these pieces; the extension by which it is listed, if it is
-    /// by one.
+    /// Adds the place of a choice that has these pieces.
     pub fn add(
         &mut self,
         alloc: A,
         options: Options,
         pieces: &[Piece<Part<A>>],
         place: Place,
-    ) -> Result<Option<Vec<u8, A>>, AllocError>
+    ) -> Result<(), AllocError>
     where
         A: Copy,
         ensures covered { OnOk result (IsCovered options self.new place pieces.now) }
@@ -172,11 +171,11 @@ impl<A: Allocator> Filter<A> {
     {
         let Some(key) = key_by(alloc, self.folds, options, pieces)? else {
             self.others.push(place)?;
-            return Ok(None);
+            return Ok(());
         };
         let text = key.text.as_slice();
-        self.note(key.kind, text.len())?;
+        self.note(key.kind, key.size)?;
         self.list(text, place)?;
-        Ok(if_extension(key))
+        Ok(())
     }
 }

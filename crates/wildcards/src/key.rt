@@ -1,8 +1,7 @@
 //! What a path needs to be matched by a pattern.
 ghost use Rattle.std.specs.Prelude.{◌≡◌, ◌≤◌, ◌++◌, ◌∷◌, length, IsTrue, IfOk, IfSome, OnOk};
 ghost use Rattle.wildcards.specs.Extensions.{LacksDot};
-ghost use Rattle.wildcards.specs.Keys.{IsNeeded, IsOfEnd, AreJoinedTexts, IsBetween, joins_by_slash, key_separators, slash_before};
-ghost use Rattle.wildcards.specs.declared.key.Kind.TheVariants.{Suffix};
+ghost use Rattle.wildcards.specs.Keys.{IsNeeded, EndsWith, AreOfPart, IsOfEnd, AreJoinedTexts, IsBetween, joins_by_slash, key_separators, slash_before};
 ghost use Rattle.wildcards.specs.declared.piece.Item.TheVariants.{Literal};
 ghost use Rattle.wildcards.specs.declared.piece.Piece.TheVariants.{One};
 ghost use Rattle.wildcards.specs.declared.separators.Separators.TheVariants.{None};
@@ -21,20 +20,22 @@ use std::alloc::{AllocError, Allocator};
 pub(crate) enum Kind {
     /// The whole path.
     Path,
-    /// The last component.
-    Name,
-    /// A component; one between `/` of a path that is a component itself.
+    /// A component, or its first letters; of a path that is a component itself, one between `/`.
     Component,
+    /// The last component, or its first letters.
+    Name,
     /// What comes after the last dot of the last component.
     Extension,
-    /// A suffix of the last component.
-    Suffix,
+    /// The last letters of the last component.
+    End,
 }
 
 /// A text that each path has which a pattern matches.
 #[derive(Drop)]
 pub(crate) struct Key<A: Allocator> {
     pub kind: Kind,
+    /// How many letters of a component it is; 0 if that is stated by its kind, or it is the whole.
+    pub size: usize,
     pub text: Vec<u8, A>,
 }
 
@@ -99,20 +100,49 @@ fn joined_texts<A: Allocator + Copy>(
     Ok(Some(text))
 }
 
-/// The index of the longest part that is a text; that of the last one, of several.
+/// Whether a piece is a literal of ASCII.
+fn is_literal<A: Allocator>(piece: &Piece<Item<A>>) -> bool {
+    match piece {
+        Piece::One(Item::Literal(letter)) => *letter < 0x80,
+        _ => false,
+    }
+}
+
+/// How many literals of ASCII pieces begin with, of at most four.
+fn literal_prefix<A: Allocator>(pieces: &[Piece<Item<A>>]) -> usize
+    ensures { result ≤ length pieces.now }
+{
+    let mut count = 0;
+    while count < pieces.len() && count < 4 {
+        if !is_literal(&pieces[count]) {
+            return count;
+        }
+        count += 1;
+    }
+    count
+}
+
+/// How many letters of a component a part states: all, or at most the first four.
+fn letter_count<A: Allocator>(part: &Part<A>) -> usize {
+    match part.text() {
+        Some(text) => text.len(),
+        None => literal_prefix(part.pieces()),
+    }
+}
+
+/// The index of the part that states the most letters; that of the last one, of several.
 fn longest_text<A: Allocator>(pieces: &[Piece<Part<A>>]) -> usize
     ensures { result ≤ length pieces.now }
 {
     let mut longest = 0;
-    let mut size = 0;
+    let mut most = 0;
     let mut at = 0;
     while at < pieces.len() {
         if let Piece::One(part) = &pieces[at] {
-            if let Some(text) = part.text() {
-                if text.len() >= size {
-                    longest = at;
-                    size = text.len();
-                }
+            let count = letter_count(part);
+            if count >= most {
+                longest = at;
+                most = count;
             }
         }
         at += 1;
@@ -126,13 +156,8 @@ fn literal_suffix<A: Allocator>(pieces: &[Piece<Item<A>>]) -> usize
 {
     let mut at = pieces.len();
     while at > 0 {
-        match &pieces[at - 1] {
-            Piece::One(Item::Literal(letter)) => {
-                if *letter >= 0x80 {
-                    return at;
-                }
-            }
-            _ => return at,
+        if !is_literal(&pieces[at - 1]) {
+            return at;
         }
         at -= 1;
     }
@@ -146,7 +171,7 @@ fn literal_end<A: Allocator + Copy>(
     options: Options,
     pieces: &[Piece<Part<A>>],
 ) -> Result<Option<Vec<u8, A>>, AllocError>
-    ensures { IfOk result (λ text. IfSome text (λ text. IsNeeded options pieces.entry.now Suffix
+    ensures { IfOk result (λ text. IfSome text (λ text. EndsWith options pieces.entry.now
         text.items)) }
 {
     let Some((Piece::One(part), _)) = pieces.split_last() else {
@@ -168,16 +193,18 @@ fn lacks_dot(text: &[u8]) -> bool
 }
 
 /// Returns the key of each last component that ends with a text. It is the extension if the text is
-/// a dot followed by one. Otherwise it is a suffix of at most four letters. So suffixes have only
-/// three lengths, and each length is looked up.
+/// a dot followed by one. Otherwise it is its last letters, at most four: each number of letters is
+/// looked up.
 fn key_of_end<A: Allocator>(alloc: A, text: &[u8]) -> Result<Option<Key<A>>, AllocError>
-    ensures { IfOk result (λ key. IfSome key (λ key. IsOfEnd text.now key.kind key.text.items)) }
+    ensures { IfOk result (λ key. IfSome key (λ key. IsOfEnd text.now key.kind key.size
+        key.text.items)) }
 {
     if let Some((b'.', extension)) = text.split_first() {
         if lacks_dot(extension) {
             let own = Vec::from_slice(alloc, extension)?;
             return Ok(Some(Key {
                 kind: Kind::Extension,
+                size: 0,
                 text: own,
             }));
         }
@@ -188,7 +215,8 @@ fn key_of_end<A: Allocator>(alloc: A, text: &[u8]) -> Result<Option<Key<A>>, All
     }
     let own = Vec::from_slice(alloc, suffix)?;
     Ok(Some(Key {
-        kind: Kind::Suffix,
+        kind: Kind::End,
+        size: suffix.len(),
         text: own,
     }))
 }
@@ -200,7 +228,7 @@ fn end_key<A: Allocator + Copy>(
     pieces: &[Piece<Part<A>>],
 ) -> Result<Option<Key<A>>, AllocError>
     ensures { IfOk result (λ key. IfSome key (λ key. IsNeeded options pieces.entry.now key.kind
-        key.text.items)) }
+        key.size key.text.items)) }
 {
     let Some(text) = literal_end(alloc, options, pieces)? else {
         return Ok(None);
@@ -268,7 +296,7 @@ fn between_key<A: Allocator + Copy>(
 ) -> Result<Option<Key<A>>, AllocError>
     requires { options.separators ≡ None }
     ensures { IfOk result (λ key. IfSome key (λ key. IsNeeded options pieces.entry.now key.kind
-        key.text.items)) }
+        key.size key.text.items)) }
 {
     let Some((Piece::One(part), rest)) = pieces.split_first() else {
         return Ok(None);
@@ -281,25 +309,53 @@ fn between_key<A: Allocator + Copy>(
     };
     Ok(Some(Key {
         kind: Kind::Component,
+        size: 0,
         text,
     }))
 }
 
-/// The longest component that a path needs.
-fn component_key<A: Allocator>(
+/// The key of the component that a part matches: the text that the part is, or the letters with
+/// which it begins.
+fn part_key<A: Allocator + Copy>(
+    alloc: A,
+    kind: Kind,
+    part: &Part<A>,
+) -> Result<Option<Key<A>>, AllocError>
+    ensures { IfOk result (λ key. IfSome key (λ key. (key.kind ≡ kind) × AreOfPart part.now key.size
+        key.text.items)) }
+{
+    if let Some(own) = part.text() {
+        let text = Vec::from_slice(alloc, own)?;
+        return Ok(Some(Key {
+            kind,
+            size: 0,
+            text,
+        }));
+    }
+    let own = part.pieces();
+    let (first, _) = own.split_at(literal_prefix(own));
+    let Some(text) = literal_text(alloc, first)? else {
+        return Ok(None);
+    };
+    if text.len() < 2 {
+        return Ok(None);
+    }
+    let size = text.len();
+    Ok(Some(Key { kind, size, text }))
+}
+
+/// The key of the part that states the most letters of its component.
+fn component_key<A: Allocator + Copy>(
     alloc: A,
     options: Options,
     pieces: &[Piece<Part<A>>],
 ) -> Result<Option<Key<A>>, AllocError>
     requires { options.separators ≡ None → ⊥ }
     ensures { IfOk result (λ key. IfSome key (λ key. IsNeeded options pieces.entry.now key.kind
-        key.text.items)) }
+        key.size key.text.items)) }
 {
     let (_, rest) = pieces.split_at(longest_text(pieces));
     let Some((Piece::One(part), after)) = rest.split_first() else {
-        return Ok(None);
-    };
-    let Some(own) = part.text() else {
         return Ok(None);
     };
     let kind = if after.is_empty() {
@@ -307,8 +363,7 @@ fn component_key<A: Allocator>(
     } else {
         Kind::Component
     };
-    let text = Vec::from_slice(alloc, own)?;
-    Ok(Some(Key { kind, text }))
+    part_key(alloc, kind, part)
 }
 
 /// The key of a pattern, if it has one.
@@ -318,12 +373,13 @@ pub(crate) fn key_of<A: Allocator + Copy>(
     pieces: &[Piece<Part<A>>],
 ) -> Result<Option<Key<A>>, AllocError>
     ensures { IfOk result (λ key. IfSome key (λ key. IsNeeded options pieces.entry.now key.kind
-        key.text.items)) }
+        key.size key.text.items)) }
 {
     if joins_by_slash(options.separators) {
         if let Some(text) = joined_texts(alloc, pieces)? {
             return Ok(Some(Key {
                 kind: Kind::Path,
+                size: 0,
                 text,
             }));
         }

@@ -13,7 +13,6 @@ mod class;
 mod class_name;
 mod component;
 mod digest;
-mod enough;
 mod filter;
 mod group;
 mod hidden;

@@ -31,25 +31,3 @@ pub(crate) fn literal_text<A: Allocator + Copy>(
     }
     Ok(Some(text))
 }
-
-/// Whether pieces are the literals of ASCII of a text.
-pub(crate) fn spells<A: Allocator>(pieces: &[Piece<Item<A>>], text: &[u8]) -> bool
-    ensures { IsTrue result → spells pieces.entry.now text.entry.now ≡ true }
-{
-    let mut left = pieces;
-    let mut rest = text;
-    while let Some((first, more)) = left.split_first() {
-        let Piece::One(Item::Literal(letter)) = first else {
-            return false;
-        };
-        let Some((byte, after)) = rest.split_first() else {
-            return false;
-        };
-        if *letter >= 0x80 || *letter != u32::from(*byte) {
-            return false;
-        }
-        left = more;
-        rest = after;
-    }
-    rest.is_empty()
-}

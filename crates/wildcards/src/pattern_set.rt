@@ -1,14 +1,10 @@
 //! Sets of patterns that a path is matched with at once.
 ghost use Rattle.std.specs.Prelude.{◌≡◌, ◌↔◌, ℕ, [], false, IsTrue, IfOk, IfSome, OnOk, OnErr};
-ghost use Rattle.wildcards.specs.Components.{components};
-ghost use Rattle.wildcards.specs.Enough.{AreEnough, IsEnough};
-ghost use Rattle.wildcards.specs.Extensions.{IsExtension};
 ghost use Rattle.wildcards.specs.Filters.{AddsHits, AreCovered, CoversAll, Grows, IsHitAt};
 ghost use Rattle.wildcards.specs.Sets.{Has, IsHit, AreFound, AreHits};
 ghost use Rattle.wildcards.specs.Small.{IsLookedUp};
 
 use crate::candidates::{Query, Stage};
-use crate::enough::{if_enough, is_text};
 use crate::filter::{Filter, Place};
 use crate::indices::make_ascending;
 use crate::letters::Letters;
@@ -20,18 +16,15 @@ use crate::small::folds;
 use std::alloc::{AllocError, Allocator, Global};
 
 /// A set of patterns. A path is matched only with the choices whose literal parts it has. Each
-/// choice is listed once: by its whole text, by a component, or by the extension or a suffix of its
-/// last component. So a path takes at most the time that matching it with each choice in turn
-/// takes.
+/// choice is listed once: by its whole text, by a component or its first letters, or by the
+/// extension or the last letters of its last component. So a path takes at most the time that
+/// matching it with each choice in turn takes.
 #[derive(Drop)]
 pub struct PatternSet<A: Allocator = Global> {
     options: Options,
     patterns: Vec<Pattern<A>, A>,
     filter: Filter<A>,
-    // For each pattern the extension that is enough for a path to match it, if there is one.
-    enough: Vec<Option<Vec<u8, A>>, A>,
     ghost covered: { CoversAll options filter patterns.items },
-    ghost texts: { AreEnough options patterns.items enough.items },
 }
 
 /// How many choices there are.
@@ -53,28 +46,24 @@ fn bucket_count(choices: usize) -> usize {
     count * 4
 }
 
-/// Adds the choices of the pattern of an index to a filter; the extension that is enough for a path to
-/// match it, if there is one.
+/// Adds the choices of the pattern of an index to a filter.
 fn add_choices<A: Allocator + Copy>(
     filter: &mut Filter<A>,
     alloc: A,
     options: Options,
     choices: &[Choice<A>],
     pattern: usize,
-) -> Result<Option<Vec<u8, A>>, AllocError>
+) -> Result<(), AllocError>
     ensures covered { OnOk result (AreCovered options filter.new pattern 0 choices.entry.now) }
     ensures grows { OnOk result (Grows filter.old filter.new) }
-    ensures enough { IfOk result (λ text. IfSome text (λ text. IsEnough options choices.entry.now
-        text.items)) }
 {
-    let mut extension = None;
     let mut left = choices;
     while let Some((first, rest)) = left.split_first() {
         let choice = choices.len() - left.len();
-        extension = filter.add(alloc, options, &first.pieces, Place { pattern, choice })?;
+        filter.add(alloc, options, &first.pieces, Place { pattern, choice })?;
         left = rest;
     }
-    Ok(if_enough(options, choices, extension))
+    Ok(())
 }
 
 impl<A: Allocator> PatternSet<A> {
@@ -94,28 +83,10 @@ impl<A: Allocator> PatternSet<A> {
         false
     }
 
-    /// Whether a pattern matches a path of this extension: if the choice of this place does, and only
-    /// if one of its choices does.
+    /// Whether the choice of one of the places matches a path.
     #[inline(always)]
-    fn is_hit<L: Letters>(&self, path: &[u8], extension: Option<&[u8]>, place: Place) -> bool
+    fn any_hit<L: Letters>(&self, path: &[u8], places: &[Place]) -> bool
         requires formed { L.formed path.now }
-        requires extension { IfSome extension (λ text. IsExtension (components
-            self.now.options.separators path.now) text.now) }
-        ensures sound { IsTrue result → IsHit self.now.options self.now.patterns.items
-            (L.letters path.now) place.pattern }
-        ensures complete { IsHitAt self.now.options self.now.patterns.items
-            (L.letters path.now) place → IsTrue result }
-    {
-        is_text(&self.enough, place.pattern, extension) || self.is_hit_at::<L>(path, place)
-    }
-
-    /// Whether a pattern matches a path of this extension: if the choice of one of the places does, and
-    /// only if one of its choices does.
-    #[inline(always)]
-    fn any_hit<L: Letters>(&self, path: &[u8], extension: Option<&[u8]>, places: &[Place]) -> bool
-        requires formed { L.formed path.now }
-        requires extension { IfSome extension (λ text. IsExtension (components
-            self.now.options.separators path.now) text.now) }
         ensures sound { IsTrue result → (i : ℕ) × IsHit self.now.options self.now.patterns.items
             (L.letters path.now) i }
         ensures complete { (place : Place) → Has places.entry.now place → IsHitAt self.now.options
@@ -123,7 +94,7 @@ impl<A: Allocator> PatternSet<A> {
     {
         let mut left = places;
         while let Some((place, rest)) = left.split_first() {
-            if self.is_hit::<L>(path, extension, *place) {
+            if self.is_hit_at::<L>(path, *place) {
                 return true;
             }
             left = rest;
@@ -131,26 +102,22 @@ impl<A: Allocator> PatternSet<A> {
         false
     }
 
-    /// Appends the indices of patterns that match a path of this extension: of those whose choice of one
-    /// of the places does.
+    /// Appends the indices of the patterns whose choice of one of the places matches a path.
     #[inline(always)]
     fn add_hits<L: Letters, B: Allocator>(
         &self,
         path: &[u8],
-        extension: Option<&[u8]>,
         places: &[Place],
         found: &mut Vec<usize, B>,
     ) -> Result<(), AllocError>
         requires formed { L.formed path.now }
-        requires extension { IfSome extension (λ text. IsExtension (components
-            self.now.options.separators path.now) text.now) }
         ensures { OnOk result (AddsHits self.now.options self.now.patterns.items
             (L.letters path.now) places.entry.now found.old.items found.new.items) }
     {
         let mut left = places;
         while let Some((place, rest)) = left.split_first() {
             left = rest;
-            if self.is_hit::<L>(path, extension, *place) {
+            if self.is_hit_at::<L>(path, *place) {
                 found.push(place.pattern)?;
             }
         }
@@ -231,10 +198,10 @@ impl<A: Allocator> PatternSet<A> {
             return self.add_of_all::<L, B>(path, found);
         }
         let query = Query::new(&self.filter, self.options.separators, path);
-        self.add_hits::<L, B>(path, query.extension, &self.filter.others, found)?;
+        self.add_hits::<L, B>(path, &self.filter.others, found)?;
         let mut stage = Stage::Path;
         while let Some((places, more)) = query.next(stage) {
-            self.add_hits::<L, B>(path, query.extension, places, found)?;
+            self.add_hits::<L, B>(path, places, found)?;
             stage = more;
         }
         Ok(())
@@ -265,19 +232,15 @@ impl<A: Allocator> PatternSet<A> {
             folds(&patterns),
             bucket_count(choice_count(&patterns)),
         )?;
-        let mut enough = Vec::new(alloc);
-        enough.reserve_exact(patterns.len())?;
         let mut at = 0;
         while at < patterns.len() {
-            let extension = add_choices(&mut filter, alloc, options, &patterns[at].choices, at)?;
-            enough.push(extension)?;
+            add_choices(&mut filter, alloc, options, &patterns[at].choices, at)?;
             at += 1;
         }
         Ok(PatternSet {
             options,
             patterns,
             filter,
-            enough,
         })
     }
 
@@ -322,12 +285,12 @@ impl<A: Allocator> PatternSet<A> {
             return self.any_of_all::<L>(path);
         }
         let query = Query::new(&self.filter, self.options.separators, path);
-        if self.any_hit::<L>(path, query.extension, &self.filter.others) {
+        if self.any_hit::<L>(path, &self.filter.others) {
             return true;
         }
         let mut stage = Stage::Path;
         while let Some((places, more)) = query.next(stage) {
-            if self.any_hit::<L>(path, query.extension, places) {
+            if self.any_hit::<L>(path, places) {
                 return true;
             }
             stage = more;

@@ -77,48 +77,35 @@ module _ {A : Type 0} where
     asked = λ kind n k. b.asked kind n (a.asked kind n k);
   }
 
-  pub asks_suffix : (f : Filter A) (k : Kind) (n : ℕ) → k ≡ kind.Suffix → Has f.lengths.items n → Asks f k n
-  asks_suffix f k n e h = subst (λ z. Asks f z n) (sym e) h
-
-  pub more_lengths : (f : Filter A) (v : Vec ℕ A) (n : ℕ) → v.items ≡ f.lengths.items ++ n ∷ [] → Grows f (record { folds = f.folds; buckets = f.buckets; others = f.others; paths = f.paths; names = f.names; components = f.components; extensions = f.extensions; lengths = v })
-  more_lengths f v n e = record { others = λ i h. h; same = refl; listed = λ key i h. h; asked = asked }
-    where
-      asked : (k : Kind) (m : ℕ) → Asks f k m → Asks (record { folds = f.folds; buckets = f.buckets; others = f.others; paths = f.paths; names = f.names; components = f.components; extensions = f.extensions; lengths = v }) k m
-      asked kind.Path m h = h
-      asked kind.Name m h = h
-      asked kind.Component m h = h
-      asked kind.Extension m h = h
-      asked kind.Suffix m h = subst (λ z. Has z m) (sym e) (has_more f.lengths.items n m h)
-
-  pub more_others : (f : Filter A) (v : Vec Place A) (n : Place) → v.items ≡ f.others.items ++ n ∷ [] → Grows f (record { folds = f.folds; buckets = f.buckets; others = v; paths = f.paths; names = f.names; components = f.components; extensions = f.extensions; lengths = f.lengths })
+  pub more_others : (f : Filter A) (v : Vec Place A) (n : Place) → v.items ≡ f.others.items ++ n ∷ [] → Grows f (record { folds = f.folds; buckets = f.buckets; others = v; paths = f.paths; extensions = f.extensions; components = f.components; names = f.names; ends = f.ends })
   more_others f v n e = record { others = λ i h. subst (λ z. Has z i) (sym e) (has_more f.others.items n i h); same = refl; listed = λ key i h. h; asked = asked }
     where
-      asked : (k : Kind) (m : ℕ) → Asks f k m → Asks (record { folds = f.folds; buckets = f.buckets; others = v; paths = f.paths; names = f.names; components = f.components; extensions = f.extensions; lengths = f.lengths }) k m
+      asked : (k : Kind) (m : ℕ) → Asks f k m → Asks (record { folds = f.folds; buckets = f.buckets; others = v; paths = f.paths; extensions = f.extensions; components = f.components; names = f.names; ends = f.ends }) k m
       asked kind.Path m h = h
-      asked kind.Name m h = h
       asked kind.Component m h = h
+      asked kind.Name m h = h
       asked kind.Extension m h = h
-      asked kind.Suffix m h = h
+      asked kind.End m h = h
 
-  pub more_listed : (f : Filter A) (v : Vec (Vec Place A) A) → ((key : List ℕ) (i : Place) → Has (bucket f.folds f.buckets.items key) i → Has (bucket f.folds v.items key) i) → Grows f (record { folds = f.folds; buckets = v; others = f.others; paths = f.paths; names = f.names; components = f.components; extensions = f.extensions; lengths = f.lengths })
+  pub more_listed : (f : Filter A) (v : Vec (Vec Place A) A) → ((key : List ℕ) (i : Place) → Has (bucket f.folds f.buckets.items key) i → Has (bucket f.folds v.items key) i) → Grows f (record { folds = f.folds; buckets = v; others = f.others; paths = f.paths; extensions = f.extensions; components = f.components; names = f.names; ends = f.ends })
   more_listed f v more = record { others = λ i h. h; same = refl; listed = more; asked = asked }
     where
-      asked : (k : Kind) (m : ℕ) → Asks f k m → Asks (record { folds = f.folds; buckets = v; others = f.others; paths = f.paths; names = f.names; components = f.components; extensions = f.extensions; lengths = f.lengths }) k m
+      asked : (k : Kind) (m : ℕ) → Asks f k m → Asks (record { folds = f.folds; buckets = v; others = f.others; paths = f.paths; extensions = f.extensions; components = f.components; names = f.names; ends = f.ends }) k m
       asked kind.Path m h = h
-      asked kind.Name m h = h
       asked kind.Component m h = h
+      asked kind.Name m h = h
       asked kind.Extension m h = h
-      asked kind.Suffix m h = h
+      asked kind.End m h = h
 
   -- a key is noted, and then its index listed
-  pub listed_covered : (o : Options) (f g : Filter A) (i : Place) (pieces : List (Piece (Part A))) (k : Kind) (key : List ℕ) → IsNeededBy f.folds o pieces k key → Asks f k (length key) → Grows f g → Has g.others.items i ⊎ Has (bucket g.folds g.buckets.items key) i → IsCovered o g i pieces
-  listed_covered o f g i pieces k key needed asked grows (inl h) = inl h
-  listed_covered o f g i pieces k key needed asked grows (inr h) = inr (record { kind = k; key = key; needed = subst (λ z. IsNeededBy z o pieces k key) grows.same needed; asked = grows.asked k (length key) asked; listed = h })
+  pub listed_covered : (o : Options) (f g : Filter A) (i : Place) (pieces : List (Piece (Part A))) (k : Kind) (n : ℕ) (key : List ℕ) → IsNeededBy f.folds o pieces k n key → Asks f k n → Grows f g → Has g.others.items i ⊎ Has (bucket g.folds g.buckets.items key) i → IsCovered o g i pieces
+  listed_covered o f g i pieces k n key needed asked grows (inl h) = inl h
+  listed_covered o f g i pieces k n key needed asked grows (inr h) = inr (record { kind = k; size = n; key = key; needed = subst (λ z. IsNeededBy z o pieces k n key) grows.same needed; asked = grows.asked k n asked; listed = h })
 
   module _ (o : Options) (f g : Filter A) (grows : Grows f g) where
     covered_on : (i : Place) (pieces : List (Piece (Part A))) → IsCovered o f i pieces → IsCovered o g i pieces
     covered_on i pieces (inl h) = inl (grows.others i h)
-    covered_on i pieces (inr h) = inr (record { kind = h.kind; key = h.key; needed = subst (λ z. IsNeededBy z o pieces h.kind h.key) grows.same h.needed; asked = grows.asked h.kind (length h.key) h.asked; listed = grows.listed h.key i h.listed })
+    covered_on i pieces (inr h) = inr (record { kind = h.kind; size = h.size; key = h.key; needed = subst (λ z. IsNeededBy z o pieces h.kind h.size h.key) grows.same h.needed; asked = grows.asked h.kind h.size h.asked; listed = grows.listed h.key i h.listed })
 
     pub are_covered_on : (i j : ℕ) (cs : List (Choice A)) → AreCovered o f i j cs → AreCovered o g i j cs
     are_covered_on i j [] h = tt

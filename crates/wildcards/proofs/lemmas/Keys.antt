@@ -1,5 +1,5 @@
 -- What a pattern matches has its keys.
-use Rattle.std.proofs.Common.{◌≡◌, inl, inr, ◌<◌, Bool, true, false, ℕ, List, [], ◌∷◌, ◌++◌, refl, sym, ap, ◌∙◌, subst, arith, append_assoc, append-nil}
+use Rattle.std.proofs.Common.{◌≡◌, inl, inr, ◌<◌, Bool, true, false, ℕ, zero, suc, List, [], ◌∷◌, ◌++◌, refl, sym, ap, ◌∙◌, subst, arith, append_assoc, append-nil}
 use Rattle.std.specs.List.{AllByRecursion, join_with_byte}
 use Rattle.std.specs.Prelude.{Option, None, Some, IfSome}
 use Rattle.std.specs.declared.vec.Vec.{Vec}
@@ -17,7 +17,7 @@ use Rattle.wildcards.specs.declared.piece.Piece.{Piece}
 use Rattle.wildcards.specs.declared.piece.Piece.TheVariants.{Many, One}
 use Rattle.wildcards.specs.Components.{components, separates}
 use Rattle.wildcards.specs.Cuts.{IsPlain}
-use Rattle.wildcards.specs.Keys.{BeginsAt, HasPart, IsBetween, IsNeeded, IsOfEnd, AreTexts, AreJoinedTexts, joins_by_slash, key_separators, slash_before}
+use Rattle.wildcards.specs.Keys.{BeginsAt, HasPart, HaveSize, IsBetween, IsNeeded, EndsWith, BeginWith, AreOfPart, IsOfEnd, AreTexts, AreJoinedTexts, joins_by_slash, key_separators, slash_before}
 use Rattle.wildcards.specs.Literals.{spells, spells_some}
 use Rattle.wildcards.specs.Match.{Fits, TakesLetter, TakesComponent, FitsComponent, MatchesParts, Matches}
 use Rattle.wildcards.specs.Wild.{Wild}
@@ -133,6 +133,18 @@ module _ {A : Type 0} where
     fits_text : (part : Part A) (text component : List ℕ) → spells part.pieces.items text ≡ true → FitsComponent o.literal_leading_dot part component → component ≡ text
     fits_text part text component is f = only_text _ part.pieces.items text component is f.0
 
+    -- what a part fits begins with the letters that the part does
+    fits_start : (part : Part A) (n : ℕ) (text component : List ℕ) → AreOfPart part n text → FitsComponent o.literal_leading_dot part component → (rest : List ℕ) × ((component ≡ text ++ rest) × HaveSize n text rest)
+    fits_start part zero text component are f = ([], (fits_text part text component are f ∙ sym (append-nil text), refl))
+    fits_start part (suc n) text component are f =
+        let begins = are.1 in
+        let h = text_first A begins.own begins.after text component begins.spelled (subst (λ z. Wild TakesLetter Fits z component) begins.joined f.0) in
+        (h.rest, (h.joined, are.0))
+
+    part_ascii : (part : Part A) (n : ℕ) (text : List ℕ) → AreOfPart part n text → AllByRecursion (λ b. b < 0x80) text
+    part_ascii part zero text are = spelled_ascii _ part.pieces.items text are
+    part_ascii part (suc n) text are = spelled_ascii _ are.1.own text are.1.spelled
+
     each_text : (ps : List (Piece (Part A))) (ts parts : List (List ℕ)) → AreTexts ps ts → MatchesParts o.literal_leading_dot ps parts → parts ≡ ts
     each_text [] [] parts h m = m
     each_text [] (t ∷ ts) parts h m = absurd h
@@ -156,22 +168,22 @@ module _ {A : Type 0} where
         all_append [] ys h k = k
         all_append (x ∷ xs) ys h k = (h.0, all_append xs ys h.1 k)
 
-    pub path_needed : (pieces : List (Piece (Part A))) (text : List ℕ) → joins_by_slash o.separators ≡ true → AreJoinedTexts pieces text → IsNeeded o pieces kind.Path text
+    pub path_needed : (pieces : List (Piece (Part A))) (text : List ℕ) → joins_by_slash o.separators ≡ true → AreJoinedTexts pieces text → IsNeeded o pieces kind.Path 0 text
     path_needed pieces text e h = record {
       ascii = subst (AllByRecursion (λ b. b < 0x80)) (sym (h.1.1 ∙ sym (all_joined h.0))) (each_ascii pieces h.0 h.1.0).0;
       needed = λ path m. sym (joined_components o.separators e path) ∙ ap (join_with_byte 0x2F) (each_text pieces h.0 (components o.separators path) h.1.0 m) ∙ sym h.1.1;
     }
 
     -- a part that is a whole path needs a text between its `/`
-    pub between_needed : (pieces rest : List (Piece (Part A))) (part : Part A) (text : List ℕ) → o.separators ≡ separators.None → pieces ≡ One part ∷ rest → rest ≡ [] → IsBetween part.pieces.items text → IsNeeded o pieces kind.Component text
+    pub between_needed : (pieces rest : List (Piece (Part A))) (part : Part A) (text : List ℕ) → o.separators ≡ separators.None → pieces ≡ One part ∷ rest → rest ≡ [] → IsBetween part.pieces.items text → IsNeeded o pieces kind.Component 0 text
     between_needed pieces rest part text one e none h = record {
       ascii = spelled_ascii _ h.own text h.spelled;
       needed = λ path m.
           let n : MatchesParts o.literal_leading_dot (One part ∷ []) (components separators.None path) = subst (λ s. MatchesParts o.literal_leading_dot (One part ∷ []) (components s path)) one (subst (λ z. MatchesParts o.literal_leading_dot z (components o.separators path)) (e ∙ ap (λ z. One part ∷ z) none) m) in
           let here : path ∷ [] ≡ n.letter ∷ n.rest = sym (whole_component path) ∙ n.joined in
           let same : n.letter ≡ path = cc in
-          subst (λ s. HasPart (components (key_separators s) path) text) (sym one)
-          (between_part part.pieces.items text path h (subst (Wild TakesLetter Fits part.pieces.items) same n.fits.0));
+          let here = between_part part.pieces.items text path h (subst (Wild TakesLetter Fits part.pieces.items) same n.fits.0) in
+          ([], (subst (λ s. HasPart (components (key_separators s) path) (text ++ [])) (sym one) (subst (HasPart (components separators.Slash path)) (sym (append-nil text)) here), refl));
     }
 
     module _ (pieces before after : List (Piece (Part A))) (part : Part A) (e : pieces ≡ before ++ One part ∷ after) where
@@ -191,25 +203,33 @@ module _ {A : Type 0} where
           let one = h.matched in
           record { parts_before = h.before; component = one.letter; parts_after = one.rest; joined = h.joined ∙ ap (λ z. h.before ++ z) one.joined; fits = one.fits; rest = one.after }
 
-      pub component_needed : (text : List ℕ) → spells part.pieces.items text ≡ true → (o.separators ≡ separators.None → ⊥) → IsNeeded o pieces kind.Component text
-      component_needed text is several = record {
-        ascii = spelled_ascii _ part.pieces.items text is;
+      pub component_needed : (n : ℕ) (text : List ℕ) → AreOfPart part n text → (o.separators ≡ separators.None → ⊥) → IsNeeded o pieces kind.Component n text
+      component_needed n text are several = record {
+        ascii = part_ascii part n text are;
         needed = λ path m.
             let h = at_part path m in
-            subst (λ s. HasPart (components s path) text) (sym (same_separators o.separators several))
-            (h.parts_before, (h.parts_after, h.joined ∙ ap (λ z. h.parts_before ++ z ∷ h.parts_after) (fits_text part text h.component is h.fits)));
+            let starts = fits_start part n text h.component are h.fits in (
+              starts.0,
+              (
+                subst (λ s. HasPart (components s path) (text ++ starts.0)) (sym (same_separators o.separators several))
+                    (h.parts_before, (h.parts_after, h.joined ∙ ap (λ z. h.parts_before ++ z ∷ h.parts_after) starts.1.0)),
+                starts.1.1,
+              ),
+            );
       }
 
-      pub name_needed : (text : List ℕ) → spells part.pieces.items text ≡ true → after ≡ [] → IsNeeded o pieces kind.Name text
-      name_needed text is none = record {
-        ascii = spelled_ascii _ part.pieces.items text is;
-        needed = λ path m. let h = at_part path m in
+      pub name_needed : (n : ℕ) (text : List ℕ) → AreOfPart part n text → after ≡ [] → IsNeeded o pieces kind.Name n text
+      name_needed n text are none = record {
+        ascii = part_ascii part n text are;
+        needed = λ path m.
+            let h = at_part path m in
+            let starts = fits_start part n text h.component are h.fits in
             let nothing : h.parts_after ≡ [] = subst (λ z. MatchesParts o.literal_leading_dot z h.parts_after) none h.rest in
-            (h.parts_before, h.joined ∙ ap (λ z. h.parts_before ++ z ∷ h.parts_after) (fits_text part text h.component is h.fits) ∙ ap (λ z. h.parts_before ++ text ∷ z) nothing);
+            (starts.0, ((h.parts_before, h.joined ∙ ap (λ z. h.parts_before ++ z ∷ h.parts_after) starts.1.0 ∙ ap (λ z. h.parts_before ++ (text ++ starts.0) ∷ z) nothing), starts.1.1));
       }
 
-      pub suffix_needed : (start own : List (Piece (Item A))) (text : List ℕ) → part.pieces.items ≡ start ++ own → spells own text ≡ true → after ≡ [] → IsNeeded o pieces kind.Suffix text
-      suffix_needed start own text split is none = record {
+      pub ends_with : (start own : List (Piece (Item A))) (text : List ℕ) → part.pieces.items ≡ start ++ own → spells own text ≡ true → after ≡ [] → EndsWith o pieces text
+      ends_with start own text split is none = record {
         ascii = spelled_ascii _ own text is;
         needed = λ path m. let h = at_part path m in
             let nothing : h.parts_after ≡ [] = subst (λ z. MatchesParts o.literal_leading_dot z h.parts_after) none h.rest in
@@ -219,20 +239,20 @@ module _ {A : Type 0} where
       }
 
   -- a part that ends with a text needs the key of that end
-  pub end_needed : (o : Options) (pieces : List (Piece (Part A))) (text key : List ℕ) (k : Kind) → IsNeeded o pieces kind.Suffix text → IsOfEnd text k key → IsNeeded o pieces k key
-  end_needed o pieces text key kind.Path h e = absurd e
-  end_needed o pieces text key kind.Name h e = absurd e
-  end_needed o pieces text key kind.Component h e = absurd e
-  end_needed o pieces text key kind.Extension h e =
-      let same = subst (IsNeeded o pieces kind.Suffix) e.1 h in
+  pub end_needed : (o : Options) (pieces : List (Piece (Part A))) (text key : List ℕ) (k : Kind) (n : ℕ) → EndsWith o pieces text → IsOfEnd text k n key → IsNeeded o pieces k n key
+  end_needed o pieces text key kind.Path n h e = absurd e
+  end_needed o pieces text key kind.Component n h e = absurd e
+  end_needed o pieces text key kind.Name n h e = absurd e
+  end_needed o pieces text key kind.Extension n h e =
+      let same = subst (EndsWith o pieces) e.1 h in
       record { ascii = same.ascii.1; needed = λ path m. (e.0, same.needed path m) }
-  end_needed o pieces text key kind.Suffix h e =
-      let same = subst (IsNeeded o pieces kind.Suffix) e.1 h in
+  end_needed o pieces text key kind.End n h e =
+      let same = subst (EndsWith o pieces) e.1.1 h in
       record {
-        ascii = after e.0 same.ascii;
+        ascii = after e.1.0 same.ascii;
         needed = λ path m.
             let s = same.needed path m in
-            (s.0 ++ e.0, (s.1.0, s.1.1 ∙ ap (λ z. s.1.0 ++ z ∷ []) (sym (append_assoc s.0 e.0 key))));
+            (e.0, (s.0 ++ e.1.0, (s.1.0, s.1.1 ∙ ap (λ z. s.1.0 ++ z ∷ []) (sym (append_assoc s.0 e.1.0 key)))));
       }
     where
       after : (before : List ℕ) → AllByRecursion (λ b. b < 0x80) (before ++ key) → AllByRecursion (λ b. b < 0x80) key

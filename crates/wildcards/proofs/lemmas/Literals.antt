@@ -76,10 +76,6 @@ module _ (A : Type 0) where
   pub text_first : (own pieces : List (Piece (Item A))) (bytes letters : List ℕ) → spells own bytes ≡ true → Wild TakesLetter Fits (own ++ pieces) letters → AfterText bytes pieces letters
   text_first own pieces bytes letters e m = text_then bytes pieces letters (subst (λ z. Wild TakesLetter Fits (z ++ pieces) letters) (spelled own bytes e).are m)
 
-  -- pieces that are a text match it
-  pub matches_itself : (pieces : List (Piece (Item A))) (bytes : List ℕ) → spells pieces bytes ≡ true → Wild TakesLetter Fits pieces bytes
-  matches_itself pieces bytes e = subst (λ z. Wild TakesLetter Fits z bytes) (sym (spelled pieces bytes e).are) (text_itself bytes)
-
   pub spelled_ascii : (pieces : List (Piece (Item A))) (bytes : List ℕ) → spells pieces bytes ≡ true → AllByRecursion (λ b. b < 0x80) bytes
   spelled_ascii pieces bytes e = (spelled pieces bytes e).ascii
 

@@ -1,10 +1,10 @@
 -- A path is matched with each choice whose key it has.
-use Rattle.std.proofs.Common.{bit_and, ◌≡◌, ◌⊎◌, inl, inr, ◌<◌, ◌+◌, ◌-◌, ℕ, zero, suc, nat_eq, true, false, Bool, ◌||◌, List, [], ◌∷◌, ◌++◌, map, length, drop, refl, sym, ap, ◌∙◌, subst, arith, length-append, append-nil}
+use Rattle.std.proofs.Common.{bit_and, ◌≡◌, ◌⊎◌, inl, inr, ◌<◌, ◌+◌, ◌-◌, ℕ, zero, suc, nat_eq, true, false, Bool, ◌||◌, List, [], ◌∷◌, ◌++◌, map, length, take, drop, refl, sym, ap, ◌∙◌, subst, arith, length-append, append-nil}
 use Rattle.std.specs.List.{AllByRecursion, HoldsAt}
 use Rattle.std.specs.Prelude.{slice_index_or, if◌then◌else◌, Option, None, Some, MatchOption}
 use denote.Ref.{Bor}
 use Rattle.std.proofs.lemmas.Bool.{eqb-true}
-use Rattle.std.proofs.lemmas.List.{same_from_push, drop_at, map-append, length-map}
+use Rattle.std.proofs.lemmas.List.{same_from_push, take_at, drop_at, take-map, map-append, length-map}
 use Rattle.std.proofs.lemmas.Str.Ascii.{lowercase-lowercase}
 use Rattle.std.specs.Char.{to_ascii_lowercase}
 use Rattle.std.proofs.lemmas.List.Elements.{All-from_recursion, at_read}
@@ -19,12 +19,12 @@ use Rattle.wildcards.specs.declared.pattern.Choice.{Choice}
 use Rattle.wildcards.specs.declared.piece.Piece.{Piece}
 use Rattle.wildcards.specs.declared.separators.Separators.{Separators}
 use Rattle.wildcards.specs.declared.set.Pattern.{Pattern}
-use Rattle.wildcards.specs.Candidates.{OneHas, IsQuery, with_key, extension_keys, end_keys, suffix_keys, name_keys, path_keys, slot_in, comes_again, key_lists, all_lists}
+use Rattle.wildcards.specs.Candidates.{OneHas, IsQuery, with_key, after_extension, extension_keys, end_keys, name_keys, component_keys, path_keys, slot_in, comes_again, key_lists, all_lists}
 use Rattle.wildcards.specs.Components.{components, separates}
 use Rattle.wildcards.specs.Cuts.{IsPlain, IsCut}
 use Rattle.wildcards.specs.Extensions.{LacksDot, IsExtension, LacksExtension}
 use Rattle.wildcards.specs.Filters.{Asks, IsCovered, AreCovered, CoversAll, IsHitAt}
-use Rattle.wildcards.specs.Keys.{HasPart, HasKey, key_separators}
+use Rattle.wildcards.specs.Keys.{HasPart, HaveSize, HasKey, first_letters, key_separators}
 use Rattle.wildcards.specs.Match.{Matches}
 use Rattle.wildcards.specs.Reading.{LetterLaws}
 use Rattle.wildcards.specs.Sets.{Has, MatchesChoice, IsHit}
@@ -32,7 +32,7 @@ use Rattle.wildcards.specs.Small.{AreAscii, IsLookedUp, folded}
 use Rattle.wildcards.specs.Tables.{digest_after, digest_of, places_at, bucket}
 use Rattle.wildcards.proofs.lemmas.Extensions.{has_dot, one_extension}
 use Rattle.wildcards.proofs.lemmas.Parts.{one_component, first_component}
-use Rattle.wildcards.proofs.lemmas.Readings.{whole, first_of, cut_letters}
+use Rattle.wildcards.proofs.lemmas.Readings.{whole, first_of, first_ascii, first_found, cut_letters}
 use Rattle.wildcards.proofs.lemmas.Small.{dot_only, small_components}
 
 -- a list is cut at its first separator, or has none
@@ -89,17 +89,36 @@ module _ (formed : List ℕ → Type 0) (letters : List ℕ → List ℕ) (laws 
       let both = laws.cut at.prefix at.suffix b ascii.0 (subst formed at.joined f) in
       (at.prefix, at.joined ∙ ap (λ z. at.prefix ++ b ∷ z) (itself at.suffix key both.1.0 ascii.1 at.letters_after))
 
-  -- a part of ASCII among the letters of parts
-  part_itself : (parts before after : List (List ℕ)) (key : List ℕ) → AllByRecursion formed parts → AllByRecursion (λ b. b < 0x80) key → map letters parts ≡ before ++ key ∷ after → HasPart parts key
-  part_itself [] [] after key f ascii e = let never : [] ≡ key ∷ after = e in absurd (cc)
-  part_itself [] (b ∷ before) after key f ascii e = let never : [] ≡ b ∷ (before ++ key ∷ after) = e in absurd (cc)
-  part_itself (p ∷ parts) [] after key f ascii e =
-      let first : letters p ≡ key = cc in
-      ([], (parts, ap (λ z. z ∷ parts) (itself p key f.0 ascii first)))
-  part_itself (p ∷ parts) (b ∷ before) after key f ascii e =
-      let rest : map letters parts ≡ before ++ key ∷ after = cc in
-      let h = part_itself parts before after key f.1 ascii rest in
-      (p ∷ h.0, (h.1.0, ap (λ z. p ∷ z) h.1.1))
+  -- so is a prefix of ASCII
+  begins_itself : (s key rest : List ℕ) → formed s → AllByRecursion (λ b. b < 0x80) key → letters s ≡ key ++ rest → (after : List ℕ) × (s ≡ key ++ after)
+  begins_itself s [] rest f ascii e = (s, refl)
+  begins_itself s (b ∷ key) rest f ascii e =
+      let first = first_found formed letters laws s (key ++ rest) b ascii.0 f e in
+      let read = first_ascii formed letters laws s first.0 b ascii.0 first.1 f in
+      let same : b ∷ (key ++ rest) ≡ b ∷ letters first.0 = sym e ∙ read.1 in
+      let left : letters first.0 ≡ key ++ rest = cc in
+      let more = begins_itself first.0 key rest read.0 ascii.1 left in
+      (more.0, first.1 ∙ ap (λ z. b ∷ z) more.1)
+
+  -- letters of a size that are ASCII are read of themselves
+  sized_itself : (n : ℕ) (s key rest : List ℕ) → formed s → AllByRecursion (λ b. b < 0x80) key → letters s ≡ key ++ rest → HaveSize n key rest → first_letters n s ≡ key
+  sized_itself zero s key rest f ascii e size = itself s key f ascii (e ∙ ap (λ z. key ++ z) size ∙ append-nil key)
+  sized_itself (suc n) s key rest f ascii e size =
+      let begins = begins_itself s key rest f ascii e in
+      ap (take (suc n)) begins.1 ∙ take_at key begins.0 (suc n) size
+
+  -- a part among the letters of parts
+  part_read : (parts before after : List (List ℕ)) (part : List ℕ) → AllByRecursion formed parts → map letters parts ≡ before ++ part ∷ after → (own : List ℕ) × (HasPart parts own × (formed own × (letters own ≡ part)))
+  part_read [] [] after part f e = let never : [] ≡ part ∷ after = e in absurd (cc)
+  part_read [] (b ∷ before) after part f e = let never : [] ≡ b ∷ (before ++ part ∷ after) = e in absurd (cc)
+  part_read (p ∷ parts) [] after part f e =
+      let first : letters p ≡ part = cc in
+      (p, (([], (parts, refl)), (f.0, first)))
+  part_read (p ∷ parts) (b ∷ before) after part f e =
+      let rest : map letters parts ≡ before ++ part ∷ after = cc in
+      let h = part_read parts before after part f.1 rest in
+      let at = h.1.0 in
+      (h.0, ((p ∷ at.0, (at.1.0, ap (λ z. p ∷ z) at.1.1)), h.1.1))
 
   -- the last part is that whose letters come last
   last_read : (front before : List (List ℕ)) (name last : List ℕ) → AllByRecursion formed (front ++ name ∷ []) → map letters (front ++ name ∷ []) ≡ before ++ last ∷ [] → formed name × (letters name ≡ last)
@@ -151,27 +170,44 @@ module _ {A : Type 0} (q : Query A) where
           inr (again later.0 later.1.0 (subst (λ z. Has (places_at q.filter.now.buckets.items z) place) (sym later.1.1) here))
       by_again false f again = inl (subst (λ z. Has (if z then [] else bucket q.filter.now.folds q.filter.now.buckets.items k) place) (sym f) here)
 
-  of_suffix : (lengths : List ℕ) (n : ℕ) (before key : List ℕ) → q.name.now ≡ before ++ key → n ≡ length key → Has lengths n → Has (suffix_keys q lengths) key
-  of_suffix [] n before key e size has = absurd has
-  of_suffix (m ∷ lengths) n before key e size (inl same) =
+  of_end : (sizes : List ℕ) (n : ℕ) (before key : List ℕ) → q.name.now ≡ before ++ key → n ≡ length key → Has sizes n → Has (end_keys q sizes) key
+  of_end [] n before key e size has = absurd has
+  of_end (m ∷ sizes) n before key e size (inl same) =
       let at : length q.name.now - m ≡ length before = omega (arith, same, size, ap length e, length-append before key) in
       inl (sym (ap (λ z. drop z q.name.now) at ∙ ap (drop (length before)) e ∙ drop_at before key (length before) refl))
-  of_suffix (m ∷ lengths) n before key e size (inr has) = inr (of_suffix lengths n before key e size has)
+  of_end (m ∷ sizes) n before key e size (inr has) = inr (of_end sizes n before key e size has)
 
-  of_part : (parts before after more : List (List ℕ)) (key : List ℕ) → parts ≡ before ++ key ∷ after → Has (parts ++ more) key
-  of_part parts before after more key e = subst (λ z. Has (z ++ more) key) (sym e) (go before)
-    where
-      go : (ps : List (List ℕ)) → Has ((ps ++ key ∷ after) ++ more) key
-      go [] = inl refl
-      go (p ∷ ps) = inr (go ps)
-
-  of_extension : (key : List ℕ) (extension : Option (Bor (List ℕ))) (keys : List (List ℕ)) → MatchOption extension ⊥ (λ text. key ≡ text.now) → Has (extension_keys q extension keys) key
+  of_extension : (key : List ℕ) (extension : Option (Bor (List ℕ))) (keys : List (List ℕ)) → MatchOption extension ⊥ (λ text. key ≡ text.now) → Has (after_extension q extension keys) key
   of_extension key None keys h = absurd h
   of_extension key (Some text) keys h = inl h
 
-  after_extension : (key : List ℕ) (extension : Option (Bor (List ℕ))) (keys : List (List ℕ)) → Has keys key → Has (extension_keys q extension keys) key
-  after_extension key None keys h = h
-  after_extension key (Some text) keys h = inr h
+  or_extension : (key : List ℕ) (extension : Option (Bor (List ℕ))) (keys : List (List ℕ)) → Has keys key → Has (after_extension q extension keys) key
+  or_extension key None keys h = h
+  or_extension key (Some text) keys h = inr h
+
+  of_name : (sizes : List ℕ) (n : ℕ) → Has sizes n → Has (name_keys q sizes) (first_letters n q.name.now)
+  of_name [] n has = absurd has
+  of_name (m ∷ sizes) n (inl same) = inl (ap (λ z. first_letters z q.name.now) same)
+  of_name (m ∷ sizes) n (inr has) = inr (of_name sizes n has)
+
+  or_name : (sizes : List ℕ) (key : List ℕ) → Has (extension_keys q) key → Has (name_keys q sizes) key
+  or_name [] key h = h
+  or_name (m ∷ sizes) key h = inr (or_name sizes key h)
+
+  of_component : (sizes : List ℕ) (n : ℕ) (part : List ℕ) → Has sizes n → HasPart (components q.separators q.path.now) part → Has (component_keys q sizes q.path.now) (first_letters n part)
+  of_component [] n part has at = absurd has
+  of_component (m ∷ sizes) n part (inl same) at =
+      subst (λ z. Has (map (first_letters m) z ++ component_keys q sizes q.path.now) (first_letters n part)) (sym at.1.1) (go at.0)
+    where
+      go : (before : List (List ℕ)) → Has (map (first_letters m) (before ++ part ∷ at.1.0) ++ component_keys q sizes q.path.now) (first_letters n part)
+      go [] = inl (ap (λ z. first_letters z part) same)
+      go (p ∷ before) = inr (go before)
+  of_component (m ∷ sizes) n part (inr has) at =
+      has_before (map (first_letters m) (components q.separators q.path.now)) (component_keys q sizes q.path.now) (first_letters n part) (of_component sizes n part has at)
+
+  or_component : (sizes rest key : List ℕ) → Has (name_keys q q.filter.now.names.items) key → Has (component_keys q sizes rest) key
+  or_component [] rest key h = h
+  or_component (m ∷ sizes) rest key h = has_before (map (first_letters m) (components q.separators rest)) (component_keys q sizes q.path.now) key (or_component sizes q.path.now key h)
 
 key_asked : (asked : Bool) (key : List ℕ) (keys : List (List ℕ)) → asked ≡ true → Has (with_key asked key keys) key
 key_asked true key keys e = inl refl
@@ -180,14 +216,6 @@ key_asked false key keys e = let never : false ≡ true = e in absurd (cc)
 after_key : (asked : Bool) (first key : List ℕ) (keys : List (List ℕ)) → Has keys key → Has (with_key asked first keys) key
 after_key true first key keys h = inr h
 after_key false first key keys h = h
-
-parts_asked : (asked : Bool) (key : List ℕ) (all ends : List (List ℕ)) → asked ≡ true → Has all key → Has (if asked then all else ends) key
-parts_asked true key all ends e h = h
-parts_asked false key all ends e h = let never : false ≡ true = e in absurd (cc)
-
-after_parts : (asked : Bool) (key : List ℕ) (parts ends : List (List ℕ)) → Has ends key → Has (if asked then parts ++ ends else ends) key
-after_parts true key parts ends h = has_before parts ends key h
-after_parts false key parts ends h = h
 
 -- nothing is asked for twice
 pub none_asked : (again : Bool) (places : List Place) → places ≡ [] → [] ≡ (if again then [] else places)
@@ -210,6 +238,11 @@ mapped_part (p ∷ parts) (b ∷ before) after key e =
     let rest : map (map to_ascii_lowercase) parts ≡ before ++ key ∷ after = cc in
     let h = mapped_part parts before after key rest in
     record { before = p ∷ h.before; part = h.part; after = h.after; joined = ap (λ z. p ∷ z) h.joined; small = h.small }
+
+-- the first of the small letters are those of the first
+first_mapped : (n : ℕ) (part key rest : List ℕ) → map to_ascii_lowercase part ≡ key ++ rest → HaveSize n key rest → map to_ascii_lowercase (first_letters n part) ≡ key
+first_mapped zero part key rest e size = e ∙ ap (λ z. key ++ z) size ∙ append-nil key
+first_mapped (suc n) part key rest e size = sym (take-map to_ascii_lowercase (suc n) part) ∙ ap (take (suc n)) e ∙ take_at key rest (suc n) size
 
 -- an end whose small letters are the key
 record MappedEnd (name key : List ℕ) : Type 0 where
@@ -261,12 +294,19 @@ module _ {A : Type 0} (formed : List ℕ → Type 0) (letters : List ℕ → Lis
       let each = subst (AllByRecursion formed) parts reading.formed_each in
       last_read formed letters laws o.separators front before name last each (ap (map letters) (sym parts) ∙ sym reading.are ∙ e)
 
-  abbrev parts : List (List ℕ)
-  parts = components q.separators q.path.now
+  -- the key of a name, and of its end, among all keys
+  of_names : (key : List ℕ) → Has (name_keys q q.filter.now.names.items) key → Has (path_keys q) key
+  of_names key h = after_key q.filter.now.paths q.path.now key (component_keys q q.filter.now.components.items q.path.now) (or_component q q.filter.now.components.items q.path.now key h)
 
-  -- the key of a name, among all keys
-  of_names : (key : List ℕ) → Has (if q.filter.now.components then parts ++ end_keys q else end_keys q) key → Has (path_keys q) key
-  of_names key h = after_key q.filter.now.paths q.path.now key (name_keys q) (after_key q.filter.now.names q.name.now key (if q.filter.now.components then parts ++ end_keys q else end_keys q) h)
+  of_ends : (key : List ℕ) → Has (extension_keys q) key → Has (path_keys q) key
+  of_ends key h = of_names key (or_name q q.filter.now.names.items key h)
+
+  -- the first letters of a component, among all keys
+  of_part : (n : ℕ) (part : List ℕ) → Has q.filter.now.components.items n → HasPart (components (key_separators o.separators) path) part → Has (path_keys q) (first_letters n part)
+  of_part n part has at =
+      let here = ap (λ z. components z q.path.now) is.separators_are ∙ ap (components (key_separators o.separators)) is.path_is in
+      after_key q.filter.now.paths q.path.now (first_letters n part) (component_keys q q.filter.now.components.items q.path.now)
+      (of_component q q.filter.now.components.items n part has (at.0, (at.1.0, here ∙ at.1.1)))
 
   -- a name that ends so has this suffix
   suffix : (front : List (List ℕ)) (name : List ℕ) → components o.separators path ≡ front ++ name ∷ [] → (start end : List ℕ) → AllByRecursion (λ b. b < 0x80) end → (before : List (List ℕ)) → components o.separators (letters path) ≡ before ++ (start ++ end) ∷ [] → (first : List ℕ) × (name ≡ first ++ end)
@@ -286,56 +326,59 @@ module _ {A : Type 0} (formed : List ℕ → Type 0) (letters : List ℕ → Lis
       sym (one_extension m.start ends.0 text.now key ends.1 m.lacks lacks)
 
   -- the key is among them
-  of_key : (k : Kind) (key : List ℕ) → AllByRecursion (λ b. b < 0x80) key → Asks filter k (length key) → Asks q.filter.now k (length key) → HasKey o k (letters path) key → Has (path_keys q) key
-  of_key kind.Path key ascii asks a e =
+  of_key : (k : Kind) (n : ℕ) (key : List ℕ) → AllByRecursion (λ b. b < 0x80) key → Asks filter k n → Asks q.filter.now k n → HasKey o k n (letters path) key → Has (path_keys q) key
+  of_key kind.Path n key ascii asks a e =
       let same : q.path.now ≡ key = is.path_is ∙ itself formed letters laws o.separators path key f ascii e in
-      subst (Has (path_keys q)) same (key_asked q.filter.now.paths q.path.now (name_keys q) a)
-  of_key kind.Name key ascii asks a e =
-      let last = is.name_is (inl asks) in
-      let n = name_read last.0 q.name.now last.1 e.0 key e.1 in
-      let same : q.name.now ≡ key = itself formed letters laws o.separators q.name.now key n.0 ascii n.1 in
-      subst (Has (path_keys q)) same (after_key q.filter.now.paths q.path.now q.name.now (name_keys q) (key_asked q.filter.now.names q.name.now (if q.filter.now.components then parts ++ end_keys q else end_keys q) a))
-  of_key kind.Component key ascii asks a e =
+      subst (Has (path_keys q)) same (key_asked q.filter.now.paths q.path.now (component_keys q q.filter.now.components.items q.path.now) a)
+  of_key kind.Component n key ascii asks a e =
       let s = key_separators o.separators in
       let read = read_parts formed letters laws s (length path + 1) path (omega arith) f in
-      let h = part_itself formed letters laws s (components s path) e.0 e.1.0 key read.formed_each ascii (sym read.are ∙ e.1.1) in
-      let here : parts ≡ h.0 ++ key ∷ h.1.0 = ap (λ z. components z q.path.now) is.separators_are ∙ ap (components s) is.path_is ∙ h.1.1 in
-      of_names key (parts_asked q.filter.now.components key (parts ++ end_keys q) (end_keys q) a (of_part q parts h.0 h.1.0 (end_keys q) key here))
-  of_key kind.Extension key ascii asks a e =
-      of_names key (after_parts q.filter.now.components key parts (end_keys q) (of_extension q key q.extension (suffix_keys q q.filter.now.lengths.items) (its_extension key ascii e.1.0 e.1.1.0 e.1.1.1 e.0 asks q.extension is.extension_is)))
-  of_key kind.Suffix key ascii asks a e =
-      let last = is.name_is (inr (length key, asks)) in
-      let ends = suffix last.0 q.name.now last.1 e.0 key ascii e.1.0 e.1.1 in
-      of_names key (after_parts q.filter.now.components key parts (end_keys q) (after_extension q key q.extension (suffix_keys q q.filter.now.lengths.items) (of_suffix q q.filter.now.lengths.items (length key) ends.0 key ends.1 refl a)))
+      let at = e.1.0 in
+      let h = part_read formed letters laws s (components s path) at.0 at.1.0 (key ++ e.0) read.formed_each (sym read.are ∙ at.1.1) in
+      let same = sized_itself formed letters laws s n h.0 key e.0 h.1.1.0 ascii h.1.1.1 e.1.1 in
+      subst (Has (path_keys q)) same (of_part n h.0 a h.1.0)
+  of_key kind.Name n key ascii asks a e =
+      let last = is.name_is (inl (n, asks)) in
+      let read = name_read last.0 q.name.now last.1 e.1.0.0 (key ++ e.0) e.1.0.1 in
+      let same = sized_itself formed letters laws o.separators n q.name.now key e.0 read.0 ascii read.1 e.1.1 in
+      subst (Has (path_keys q)) same (of_names (first_letters n q.name.now) (of_name q q.filter.now.names.items n a))
+  of_key kind.Extension n key ascii asks a e =
+      of_ends key (of_extension q key q.extension (end_keys q q.filter.now.ends.items) (its_extension key ascii e.1.0 e.1.1.0 e.1.1.1 e.0 asks q.extension is.extension_is))
+  of_key kind.End n key ascii asks a e =
+      let last = is.name_is (inr (n, asks)) in
+      let ends = suffix last.0 q.name.now last.1 e.1.0 key ascii e.1.1.0 e.1.1.1 in
+      of_ends key (or_extension q key q.extension (end_keys q q.filter.now.ends.items) (of_end q q.filter.now.ends.items n ends.0 key ends.1 (sym e.0) a))
 
   -- a key of the path, or one that differs from it in case alone if the set folds: it has the same bucket
   abbrev Found : List ℕ → Type 0
   Found key = (raw : List ℕ) × (Has (path_keys q) raw × (digest_of filter.folds raw ≡ digest_of filter.folds key))
 
   -- the key of small letters is that of a key of the path, which is ASCII
-  small_key : AreAscii path → (k : Kind) (key : List ℕ) → Asks filter k (length key) → Asks q.filter.now k (length key) → HasKey o k (map to_ascii_lowercase path) key → (raw : List ℕ) × (Has (path_keys q) raw × (map to_ascii_lowercase raw ≡ key))
-  small_key ascii kind.Path key asks a e = (q.path.now, (key_asked q.filter.now.paths q.path.now (name_keys q) a, ap (map to_ascii_lowercase) is.path_is ∙ e))
-  small_key ascii kind.Name key asks a e =
-      let last = is.name_is (inl asks) in
-      (q.name.now, (after_key q.filter.now.paths q.path.now q.name.now (name_keys q) (key_asked q.filter.now.names q.name.now (if q.filter.now.components then parts ++ end_keys q else end_keys q) a), small_last o.separators path last.0 q.name.now e.0 key last.1 e.1))
-  small_key ascii kind.Component key asks a e =
+  small_key : AreAscii path → (k : Kind) (n : ℕ) (key : List ℕ) → Asks filter k n → Asks q.filter.now k n → HasKey o k n (map to_ascii_lowercase path) key → (raw : List ℕ) × (Has (path_keys q) raw × (map to_ascii_lowercase raw ≡ key))
+  small_key ascii kind.Path n key asks a e = (q.path.now, (key_asked q.filter.now.paths q.path.now (component_keys q q.filter.now.components.items q.path.now) a, ap (map to_ascii_lowercase) is.path_is ∙ e))
+  small_key ascii kind.Component n key asks a e =
       let s = key_separators o.separators in
-      let h = mapped_part (components s path) e.0 e.1.0 key (sym (small_components s path) ∙ e.1.1) in
-      let here : parts ≡ h.before ++ h.part ∷ h.after = ap (λ z. components z q.path.now) is.separators_are ∙ ap (components s) is.path_is ∙ h.joined in
-      (h.part, (of_names h.part (parts_asked q.filter.now.components h.part (parts ++ end_keys q) (end_keys q) a (of_part q parts h.before h.after (end_keys q) h.part here)), h.small))
-  small_key ascii kind.Extension key asks a e =
+      let at = e.1.0 in
+      let h = mapped_part (components s path) at.0 at.1.0 (key ++ e.0) (sym (small_components s path) ∙ at.1.1) in
+      (first_letters n h.part, (of_part n h.part a (h.before, (h.after, h.joined)), first_mapped n h.part key e.0 h.small e.1.1))
+  small_key ascii kind.Name n key asks a e =
+      let last = is.name_is (inl (n, asks)) in
+      let small = small_last o.separators path last.0 q.name.now e.1.0.0 (key ++ e.0) last.1 e.1.0.1 in
+      (first_letters n q.name.now, (of_names (first_letters n q.name.now) (of_name q q.filter.now.names.items n a), first_mapped n q.name.now key e.0 small e.1.1))
+  small_key ascii kind.Extension n key asks a e =
       let h = small_extension o.separators path e.1.0 key e.1.1.0 e.1.1.1 e.0 asks q.extension is.extension_is in
-      (h.0, (of_names h.0 (after_parts q.filter.now.components h.0 parts (end_keys q) (of_extension q h.0 q.extension (suffix_keys q q.filter.now.lengths.items) h.1.0)), h.1.1))
-  small_key ascii kind.Suffix key asks a e =
-      let last = is.name_is (inr (length key, asks)) in
-      let ends = mapped_end q.name.now e.0 key (small_last o.separators path last.0 q.name.now e.1.0 (e.0 ++ key) last.1 e.1.1) in
-      let size : length key ≡ length ends.end = ap length (sym ends.small) ∙ length-map ends.end to_ascii_lowercase in
-      (ends.end, (of_names ends.end (after_parts q.filter.now.components ends.end parts (end_keys q) (after_extension q ends.end q.extension (suffix_keys q q.filter.now.lengths.items) (of_suffix q q.filter.now.lengths.items (length key) ends.start ends.end ends.joined size a))), ends.small))
+      (h.0, (of_ends h.0 (of_extension q h.0 q.extension (end_keys q q.filter.now.ends.items) h.1.0), h.1.1))
+  small_key ascii kind.End n key asks a e =
+      let last = is.name_is (inr (n, asks)) in
+      let start = e.1.0 in
+      let ends = mapped_end q.name.now start key (small_last o.separators path last.0 q.name.now e.1.1.0 (start ++ key) last.1 e.1.1.1) in
+      let size : n ≡ length ends.end = sym e.0 ∙ ap length (sym ends.small) ∙ length-map ends.end to_ascii_lowercase in
+      (ends.end, (of_ends ends.end (or_extension q ends.end q.extension (end_keys q q.filter.now.ends.items) (of_end q q.filter.now.ends.items n ends.start ends.end ends.joined size a)), ends.small))
 
-  found_key : (v : Bool) → filter.folds ≡ v → IsLookedUp v path → (k : Kind) (key : List ℕ) → AreAscii key → Asks filter k (length key) → Asks q.filter.now k (length key) → HasKey o k (folded v (letters path)) key → Found key
-  found_key false v looked k key ascii asks a e = (key, (of_key k key ascii asks a e, refl))
-  found_key true v looked k key ascii asks a e =
-      let h = small_key looked k key asks a (subst (λ z. HasKey o k (map to_ascii_lowercase z) key) (laws.ascii path looked).1 e) in
+  found_key : (v : Bool) → filter.folds ≡ v → IsLookedUp v path → (k : Kind) (n : ℕ) (key : List ℕ) → AreAscii key → Asks filter k n → Asks q.filter.now k n → HasKey o k n (folded v (letters path)) key → Found key
+  found_key false v looked k n key ascii asks a e = (key, (of_key k n key ascii asks a e, refl))
+  found_key true v looked k n key ascii asks a e =
+      let h = small_key looked k n key asks a (subst (λ z. HasKey o k n (map to_ascii_lowercase z) key) (laws.ascii path looked).1 e) in
       (h.0, (h.1.0, ap (λ z. digest_of z h.0) v ∙ same_digest h.0 key h.1.1 ∙ ap (λ z. digest_of z key) (sym v)))
 
   module _ (looked : IsLookedUp filter.folds path) where
@@ -346,7 +389,7 @@ module _ {A : Type 0} (formed : List ℕ → Type 0) (letters : List ℕ → Lis
     of_choice : (place : Place) (pieces : List (Piece (Part A))) → IsCovered o filter place pieces → Matches o pieces (letters path) → OneHas (all_lists q) place
     of_choice place pieces (inl h) m = inl (subst (λ z. Has z.others.items place) (sym is.filter_is) h)
     of_choice place pieces (inr h) m =
-        let found = found_key filter.folds refl looked h.kind h.key h.needed.ascii h.asked (subst (λ z. Asks z h.kind (length h.key)) (sym is.filter_is) h.asked) (h.needed.needed (letters path) (looked_letters filter.folds looked) m) in
+        let found = found_key filter.folds refl looked h.kind h.size h.key h.needed.ascii h.asked (subst (λ z. Asks z h.kind h.size) (sym is.filter_is) h.asked) (h.needed.needed (letters path) (looked_letters filter.folds looked) m) in
         let buckets = filter.buckets.items in
         let listed : Has (bucket filter.folds buckets found.0) place = subst (λ z. Has (places_at buckets (if nat_eq (length buckets) 0 then 0 else bit_and z (length buckets - 1))) place) (sym found.1.1) h.listed in
         inr (key_listed q place (path_keys q) found.0 found.1.0 (subst (λ z. Has (bucket z.folds z.buckets.items found.0) place) (sym is.filter_is) listed))

@@ -181,11 +181,11 @@ module _ {A : Type 0} where
       pieces small (components o.separators path) h (split_all (λ b. b < 0x80) (separates o.separators) path ascii) m)
 
   -- the keys of the small form
-  pub needed_small : (o : Options) (pieces small : List (Piece (Part A))) (k : Kind) (key : List ℕ) → ArePaired IsSmallPart pieces small → IsNeeded o small k key → IsNeededBy true o pieces k key
-  needed_small o pieces small k key h n = record { ascii = n.ascii; needed = λ path ascii m. n.needed (map to_ascii_lowercase path) (small_matches o pieces small path h ascii m) }
+  pub needed_small : (o : Options) (pieces small : List (Piece (Part A))) (k : Kind) (size : ℕ) (key : List ℕ) → ArePaired IsSmallPart pieces small → IsNeeded o small k size key → IsNeededBy true o pieces k size key
+  needed_small o pieces small k size key h n = record { ascii = n.ascii; needed = λ path ascii m. n.needed (map to_ascii_lowercase path) (small_matches o pieces small path h ascii m) }
 
-  pub needed_exact : (o : Options) (pieces : List (Piece (Part A))) (k : Kind) (key : List ℕ) → IsNeeded o pieces k key → IsNeededBy false o pieces k key
-  needed_exact o pieces k key n = record { ascii = n.ascii; needed = λ path looked m. n.needed path m }
+  pub needed_exact : (o : Options) (pieces : List (Piece (Part A))) (k : Kind) (size : ℕ) (key : List ℕ) → IsNeeded o pieces k size key → IsNeededBy false o pieces k size key
+  needed_exact o pieces k size key n = record { ascii = n.ascii; needed = λ path looked m. n.needed path m }
 
 pub ok_weaker : {T E : Type 0} (P Q : T → Type 0) (made : Result T E) → ((x : T) → P x → Q x) → IfOk made P → IfOk made Q
 ok_weaker P Q (Ok x) f h = f x h

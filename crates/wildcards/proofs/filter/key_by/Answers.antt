@@ -11,8 +11,8 @@ returns-then-folds g c =
     let pieces = c.args.pieces.now in
     ok_weaker _ _ c.key_of.result
     (λ key h. some_weaker _ _ key
-    (λ k n. subst (λ v. IsNeededBy v o pieces k.kind k.text.items) (sym c.if-folds.true)
-    (needed_small o pieces c.in_ok-small.small.items k.kind k.text.items c.in_ok-small.ensures (subst (λ z. IsNeeded o z k.kind k.text.items) c.deref.ensures.value n)))
+    (λ k n. subst (λ v. IsNeededBy v o pieces k.kind k.size k.text.items) (sym c.if-folds.true)
+    (needed_small o pieces c.in_ok-small.small.items k.kind k.size k.text.items c.in_ok-small.ensures (subst (λ z. IsNeeded o z k.kind k.size k.text.items) c.deref.ensures.value n)))
     h)
     c.key_of.ensures
 
@@ -22,6 +22,6 @@ returns g c =
     let pieces = c.args.pieces.now in
     ok_weaker _ _ c.key_of-2.result
     (λ key h. some_weaker _ _ key
-    (λ k n. subst (λ v. IsNeededBy v o pieces k.kind k.text.items) (sym c.if-folds.false) (needed_exact o pieces k.kind k.text.items n))
+    (λ k n. subst (λ v. IsNeededBy v o pieces k.kind k.size k.text.items) (sym c.if-folds.false) (needed_exact o pieces k.kind k.size k.text.items n))
     h)
     c.key_of-2.ensures

@@ -13,8 +13,8 @@ overflow_sub-choice g c = c.loop-first.invariant.1.0
 pub loop-first-preserved : goal.loop-first-preserved
 loop-first-preserved g c =
     covers_one c.args.options c.args.filter.now c.args.pattern c.args.choices.now c.loop-first.filter _ c.loop-first.left.now c.in-Some.rest.now c.in-Some.first.now
-    c.in-Some.ensures.cases.0 c.loop-first.invariant c.in_ok-extension.ensures.grows
-    (subst (IsCovered c.args.options _ (record { pattern = c.args.pattern; choice = length c.args.choices.now - length c.loop-first.left.now })) c.deref.ensures.value c.in_ok-extension.ensures.covered)
+    c.in-Some.ensures.cases.0 c.loop-first.invariant c.in_ok-add.ensures.grows
+    (subst (IsCovered c.args.options _ (record { pattern = c.args.pattern; choice = length c.args.choices.now - length c.loop-first.left.now })) c.deref.ensures.value c.in_ok-add.ensures.covered)
 
 pub returns-clause-covered : goal.returns-clause-covered
 returns-clause-covered g c = covers_each c.args.options c.args.filter.now c.args.pattern c.args.choices.now c.loop-first.filter c.loop-first.left.now (nil_from_length _ c.in_default.ensures.cases) c.loop-first.invariant

@@ -1,5 +1,4 @@
-use Rattle.std.proofs.Common.{◌⊎◌, IfSome, inl, length, ap, sym, subst}
-use Rattle.wildcards.specs.Filters.{Asks}
+use Rattle.std.proofs.Common.{◌⊎◌, IfSome, inl, sym, subst}
 use Rattle.wildcards.specs.Small.{IsNeededBy}
 use Rattle.wildcards.specs.Sets.{Has}
 use Rattle.wildcards.specs.Tables.{bucket}
@@ -17,10 +16,10 @@ pub returns-clause-covered : goal.returns-clause-covered
 returns-clause-covered g c =
     let key = c.in-Some.key in
     let text = c.as_slice-text.ensures.value in
-    listed_covered c.args.options c.note.new.self c.list.new.self c.args.place c.args.pieces.now key.kind key.text.items
-    (subst (λ z. IfSome z (λ k. IsNeededBy c.note.new.self.folds c.args.options c.args.pieces.now k.kind k.text.items)) c.in-Some.is
-    (subst (λ v. IfSome c.in_ok-key.field-0 (λ k. IsNeededBy v c.args.options c.args.pieces.now k.kind k.text.items)) c.in_ok-note.ensures.grows.same c.in_ok-key.ensures))
-    (subst (Asks c.note.new.self key.kind) (ap length text) c.in_ok-note.ensures.asked)
+    listed_covered c.args.options c.note.new.self c.list.new.self c.args.place c.args.pieces.now key.kind key.size key.text.items
+    (subst (λ z. IfSome z (λ k. IsNeededBy c.note.new.self.folds c.args.options c.args.pieces.now k.kind k.size k.text.items)) c.in-Some.is
+    (subst (λ v. IfSome c.in_ok-key.field-0 (λ k. IsNeededBy v c.args.options c.args.pieces.now k.kind k.size k.text.items)) c.in_ok-note.ensures.grows.same c.in_ok-key.ensures))
+    c.in_ok-note.ensures.asked
     c.in_ok-list.ensures.grows
     (subst (λ z. Has c.list.new.self.others.items c.args.place ⊎ Has (bucket c.list.new.self.folds c.list.new.self.buckets.items z) c.args.place) text c.in_ok-list.ensures.listed)
 
