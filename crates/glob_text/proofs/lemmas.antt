@@ -11,5 +11,7 @@ pub mod Names
 pub mod Pieces
 pub mod Sizes
 pub mod Nodes
+pub mod OneFault
 pub mod OneMeaning
+pub mod OneReading
 pub mod Written

@@ -3,13 +3,14 @@ ghost use Rattle.std.specs.Prelude.{◌≡◌, ◌↔◌, ◌<◌, ◌∷◌, �
 ghost use Rattle.wildcards.specs.declared.options.Options.{Options};
 ghost use Rattle.wildcards.specs.declared.pattern.Choice.{Choice};
 ghost use Rattle.wildcards.specs.Sets.{MatchesChoice};
+ghost use Rattle.glob_text.specs.declared.fault.PatternFault.{PatternFault};
 ghost use Rattle.glob_text.specs.declared.syntax.Syntax.{Syntax};
 ghost use Rattle.glob_text.specs.Alternatives.{AreChoices};
 ghost use Rattle.glob_text.specs.Escape.{escaped, IsPatternOf};
 ghost use Rattle.glob_text.specs.Marks.{Mark, is_quoting};
 ghost use Rattle.glob_text.specs.Meaning.{MatchesWrittenOut};
 ghost use Rattle.glob_text.specs.Parts.{AreCompiled};
-ghost use Rattle.glob_text.specs.Texts.{AreWrittenOut};
+ghost use Rattle.glob_text.specs.Texts.{IsMeaning, IsFault, AreWrittenOut};
 
 use std::alloc::Allocator;
 use wildcards::Letters;
@@ -45,4 +46,18 @@ pub fn one_meaning<L: Letters>()
         → AreWrittenOut L.formed L.letters o text others
         → ((p : Options) → (path : List ℕ) → MatchesWrittenOut p choices path
         ↔ MatchesWrittenOut p others path) × (o.case_insensitive ≡ false → choices ≡ others) }
+{}
+
+/// A text has at most one fault, the one that [`compile`](crate::compile) returns.
+pub fn one_fault<L: Letters>()
+    ensures { (o : Syntax) → (text : List ℕ) → (fault : PatternFault) → (other : PatternFault)
+        → IsFault L.formed L.letters o text fault → IsFault L.formed L.letters o text other
+        → fault ≡ other }
+{}
+
+/// A text with a meaning has no fault.
+pub fn never_both<L: Letters, A: Allocator>()
+    ensures { (o : Syntax) → (text : List ℕ) → (choices : List (Choice A))
+        → (fault : PatternFault) → IsMeaning L.formed L.letters o text choices
+        → IsFault L.formed L.letters o text fault → ⊥ }
 {}

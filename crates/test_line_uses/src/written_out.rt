@@ -1,13 +1,15 @@
 //! Texts of patterns that stand for one name, and choices that are compiled.
-ghost use Rattle.std.specs.Prelude.{◌≡◌, ◌↔◌, ◌<◌, ◌++◌, ◌∷◌, ℕ, List, false, IsTrue, IfOk};
+ghost use Rattle.std.specs.Prelude.{◌≡◌, ◌↔◌, ◌<◌, ◌++◌, ◌∷◌, ℕ, List, false, IsTrue, IfOk, MatchResult};
 ghost use Rattle.wildcards.specs.declared.options.Options.{Options};
+ghost use Rattle.wildcards.specs.declared.pattern.Choice as compiled;
+ghost use Rattle.glob_text.specs.declared.fault.PatternFault as declared;
 ghost use Rattle.glob_text.specs.declared.syntax.Syntax.{Syntax};
 ghost use Rattle.glob_text.specs.Alternatives.{AreChoices, AreTooMany, AreWithinLimits};
 ghost use Rattle.glob_text.specs.Escape.{IsPatternOf};
 ghost use Rattle.glob_text.specs.Marks.{Mark};
 ghost use Rattle.glob_text.specs.Meaning.{MatchesWrittenOut};
 ghost use Rattle.glob_text.specs.Parts.{AreCompiled};
-ghost use Rattle.glob_text.specs.Texts.{AreWrittenOut};
+ghost use Rattle.glob_text.specs.Texts.{IsMeaning, IsFault, AreWrittenOut};
 
 use glob_text::{PatternFault, Syntax, compile, escape, laws};
 use std::alloc::{AllocError, Allocator};
@@ -77,4 +79,25 @@ pub fn one_meaning_of_text<L: Letters>()
         → AreWrittenOut L.formed L.letters o text others → choices ≡ others }
 {
     laws::one_meaning::<L>();
+}
+
+/// The choices that a text is compiled to, or its fault: nothing else can be returned. A text that is
+/// compiled has no fault, and one with a fault has no other and no meaning.
+pub fn compile_or_fault<L: Letters, A: Allocator + Copy>(
+    alloc: A,
+    syntax: Syntax,
+    text: &[u8],
+) -> Result<Result<Vec<Choice<A>, A>, PatternFault>, AllocError>
+    requires { L.formed text.now }
+    ensures { IfOk result (λ read. MatchResult read
+        (λ _. (fault : declared.PatternFault)
+        → IsFault L.formed L.letters syntax text.now fault → ⊥)
+        (λ fault. ((other : declared.PatternFault)
+        → IsFault L.formed L.letters syntax text.now other → other ≡ fault)
+        × ((choices : List (compiled.Choice A))
+        → IsMeaning L.formed L.letters syntax text.now choices → ⊥))) }
+{
+    laws::one_fault::<L>();
+    laws::never_both::<L, A>();
+    compile::<L, A>(alloc, syntax, text)
 }

@@ -1,5 +1,5 @@
 -- A text has one meaning: the lists of choices that it is written out as match the same paths, and where case matters they are one list.
-use Rattle.std.proofs.Common.{◌≡◌, ◌⊎◌, ◌↔◌, inl, inr, ⊎_elim, ℕ, Bool, true, false, cond, ◌&&◌, List, [], ◌∷◌, ◌++◌, map, length, refl, sym, ap, ◌∙◌, subst, arith, IsTrue}
+use Rattle.std.proofs.Common.{◌≡◌, ◌⊎◌, ◌↔◌, inl, inr, ⊎_elim, ℕ, Bool, true, false, cond, ◌&&◌, List, [], ◌∷◌, ◌++◌, map, refl, sym, ap, ◌∙◌, subst, IsTrue}
 use Rattle.std.specs.Prelude.{not}
 use Rattle.std.specs.List.{slice_split, onto_first}
 use Rattle.wildcards.specs.declared.options.Options.{Options}
@@ -10,27 +10,21 @@ use Rattle.wildcards.specs.Components.{components}
 use Rattle.wildcards.specs.Match.{TakesComponent, TakesLetter}
 use Rattle.wildcards.specs.Ranges.{is_in, permits}
 use Rattle.wildcards.specs.Reading.{LetterLaws}
-use Rattle.glob_text.specs.declared.class_text.Before.{Before}
-use Rattle.glob_text.specs.declared.mark.Kind.{Kind}
-use Rattle.glob_text.specs.declared.mark.Kind.TheVariants.{Quote, Star, Question, Bracket, Open, Comma, Close, Literal}
-use Rattle.glob_text.specs.declared.symbol.Symbol.{Symbol}
 use Rattle.glob_text.specs.declared.syntax.Syntax.{Syntax}
 use Rattle.glob_text.specs.Alternatives.{each, product, Level, sequence, alternatives, is_itself, StandFor, nothing, one, group, first, next}
-use Rattle.glob_text.specs.ClassText.{IsClass, IsMember, closed, member, member_at}
 use Rattle.glob_text.specs.Folded.{AreCased, AreFolded, IsFolded, IsFoldedLetter}
-use Rattle.glob_text.specs.Marks.{Mark, literal, any, star, one_of, opens, comma, closes, is_quoting, kind_of, AreMarks, IsMark, MarkAt}
+use Rattle.glob_text.specs.Marks.{Mark, literal, any, star, one_of, opens, comma, closes, AreMarks}
 use Rattle.glob_text.specs.Meaning.{FitsMark, FitsMarks, MatchesMarks, MatchesWrittenOut, are_some, begins_dotted, mark_piece, part_pieces}
 use Rattle.glob_text.specs.Parts.{ends_deep, ends_part, is_deep, is_doubled, is_separator, is_star}
 use Rattle.wildcards.specs.Groups.{group as grouped}
-use Rattle.wildcards.specs.Items.{Reads, concat_of}
-use Rattle.glob_text.specs.Symbols.{IsSymbol}
 use Rattle.glob_text.specs.Texts.{AreWrittenOut}
 use Rattle.glob_text.proofs.lemmas.Backwards.{one_list}
 use Rattle.glob_text.proofs.lemmas.Meanings.{AreAlike, alike, both_alike}
+use Rattle.glob_text.proofs.lemmas.OneReading.{marks_once, symbols_once}
 
 -- elements are the same in some way, one by one
 module _ {X : Type 0} (R : X → X → Type 0) where
-  abbrev Pairwise : List X → List X → Type 0
+  abbrev pub Pairwise : List X → List X → Type 0
   Pairwise [] [] = Unit {0}
   Pairwise [] (y ∷ ys) = ⊥
   Pairwise (x ∷ xs) [] = ⊥
@@ -58,22 +52,22 @@ module _ {X : Type 0} (R : X → X → Type 0) where
       record { front = n ∷ k.front; back = k.back; joined = ap (λ z. n ∷ z) k.joined; front_same = (h.0, k.front_same); back_same = k.back_same }
 
 -- two classes of the same letters
-record IsSameClass (m n : Mark) : Type 0 where
-  negated : Bool
-  own : List Range
-  other : List Range
-  is_own : m ≡ one_of negated own
-  is_other : n ≡ one_of negated other
-  letters_same : (letter : ℕ) → is_in own letter ≡ is_in other letter
+pub record IsSameClass (m n : Mark) : Type 0 where
+  pub negated : Bool
+  pub own : List Range
+  pub other : List Range
+  pub is_own : m ≡ one_of negated own
+  pub is_other : n ≡ one_of negated other
+  pub letters_same : (letter : ℕ) → is_in own letter ≡ is_in other letter
 
 -- the marks are one, or classes of the same letters
-abbrev IsSame : Mark → Mark → Type 0
+abbrev pub IsSame : Mark → Mark → Type 0
 IsSame m n = (m ≡ n) ⊎ IsSameClass m n
 
-abbrev AreSame : List Mark → List Mark → Type 0
+abbrev pub AreSame : List Mark → List Mark → Type 0
 AreSame ms ns = Pairwise IsSame ms ns
 
-abbrev ChoicesSame : List (List Mark) → List (List Mark) → Type 0
+abbrev pub ChoicesSame : List (List Mark) → List (List Mark) → Type 0
 ChoicesSame cs ds = Pairwise AreSame cs ds
 
 themselves : (ms : List Mark) → AreSame ms ms
@@ -130,19 +124,19 @@ after_comma : (ms ns : List Mark) → AreSame (comma ∷ ms) ns → (rest : List
 after_comma ms [] h = absurd h
 after_comma ms (n ∷ ns) h = (ns, ap (λ z. z ∷ ns) (same_comma n h.0), h.1)
 
-record IsWrittenAlike (level : Level) (ns : List Mark) (cs : List (List Mark)) : Type 0 where
-  choices : List (List Mark)
-  are : StandFor level ns choices
-  same : ChoicesSame cs choices
+pub record IsWrittenAlike (level : Level) (ns : List Mark) (cs : List (List Mark)) : Type 0 where
+  pub choices : List (List Mark)
+  pub are : StandFor level ns choices
+  pub same : ChoicesSame cs choices
 
-abbrev GoesOver : Level → List Mark → List (List Mark) → Type 0
+abbrev pub GoesOver : Level → List Mark → List (List Mark) → Type 0
 GoesOver level ms cs = (ns : List Mark) → AreSame ms ns → IsWrittenAlike level ns cs
 
 nothing_over : (inside : Bool) (ns : List Mark) → AreSame [] ns → IsWrittenAlike (sequence inside) ns ([] ∷ [])
 nothing_over inside [] h = record { choices = [] ∷ []; are = nothing; same = (tt, tt) }
 nothing_over inside (n ∷ ns) h = absurd h
 
-over : {level : Level} {ms : List Mark} {cs : List (List Mark)} → StandFor level ms cs → GoesOver level ms cs
+pub over : {level : Level} {ms : List Mark} {cs : List (List Mark)} → StandFor level ms cs → GoesOver level ms cs
 over (nothing {inside = inside}) = λ ns h. nothing_over inside ns h
 over (one {inside = inside} {ms = ms} {cs = cs} m e r) = λ all h.
     let k = cut IsSame ms (m ∷ []) all h in
@@ -345,7 +339,7 @@ folded_same (opens index) c d f g = inl (f ∙ sym g)
 folded_same comma c d f g = inl (f ∙ sym g)
 folded_same (closes index) c d f g = inl (f ∙ sym g)
 
-cased_same : (b : Bool) (ms cs ds : List Mark) → AreCased b ms cs → AreCased b ms ds → AreSame cs ds
+pub cased_same : (b : Bool) (ms cs ds : List Mark) → AreCased b ms cs → AreCased b ms ds → AreSame cs ds
 cased_same false ms cs ds f g = subst (AreSame cs) (f ∙ sym g) (themselves cs)
 cased_same true [] [] [] f g = tt
 cased_same true [] [] (d ∷ ds) f g = absurd g
@@ -358,109 +352,10 @@ one_case : (b : Bool) (ms cs ds : List Mark) → b ≡ false → AreCased b ms c
 one_case false ms cs ds e f g = f ∙ sym g
 one_case true ms cs ds e f g = absurd cc
 
--- a text is read as one list of marks
-same_head : {X : Type 0} {x y : X} {xs ys : List X} → x ∷ xs ≡ y ∷ ys → x ≡ y
-same_head e = cc
-
-same_tail : {X : Type 0} {x y : X} {xs ys : List X} → x ∷ xs ≡ y ∷ ys → xs ≡ ys
-same_tail e = cc
-
-same_ranges : {rs ss : List Range} {b c : Before} {xs ys : List Symbol} → member rs b xs ≡ member ss c ys → rs ≡ ss
-same_ranges e = cc
-
-same_before : {rs ss : List Range} {b c : Before} {xs ys : List Symbol} → member rs b xs ≡ member ss c ys → b ≡ c
-same_before e = cc
-
-same_left : {rs ss : List Range} {b c : Before} {xs ys : List Symbol} → member rs b xs ≡ member ss c ys → xs ≡ ys
-same_left e = cc
-
-not_closed : {rs : List Range} {b : Before} {xs ys : List Symbol} → member rs b xs ≡ closed ys → ⊥
-not_closed e = cc
-
-same_rest : {xs ys : List Symbol} → closed xs ≡ closed ys → xs ≡ ys
-same_rest e = cc
-
-same_pair : (p q : Before × List Symbol) → p.0 ≡ q.0 → p.1 ≡ q.1 → p ≡ q
-same_pair p q e f = ap (λ z. (z, p.1)) e ∙ ap (λ z. (q.0, z)) f
-
-module _ (quotes : Bool) (index : ℕ) where
-  members_once : (start : Before × List Symbol) (rss sss : List (List Range)) (p q : Before × List Symbol) (xs ys : List Symbol) → Reads (IsMember quotes index) start rss p → member_at quotes index p.0 p.1 ≡ closed xs
-      → Reads (IsMember quotes index) start sss q → member_at quotes index q.0 q.1 ≡ closed ys → (rss ≡ sss) × (p ≡ q)
-  members_once start [] [] p q xs ys f e g d = (refl, sym f ∙ g)
-  members_once start [] (ss ∷ sss) p q xs ys f e g d = absurd (not_closed (sym g.1 ∙ ap (λ z. member_at quotes index z.0 z.1) f ∙ e))
-  members_once start (rs ∷ rss) [] p q xs ys f e g d = absurd (not_closed (sym f.1 ∙ ap (λ z. member_at quotes index z.0 z.1) g ∙ d))
-  members_once start (rs ∷ rss) (ss ∷ sss) p q xs ys f e g d =
-      let both = sym f.1 ∙ g.1 in
-      let left = same_pair f.0 g.0 (same_before both) (same_left both) in
-      let more = members_once g.0 rss sss p q xs ys (subst (λ z. Reads (IsMember quotes index) z rss p) left f.2) e g.2 d in
-      (ap (λ z. z ∷ rss) (same_ranges both) ∙ ap (λ z. ss ∷ z) more.0, more.1)
-
-  class_once : (text : List Symbol) (negated other : Bool) (rs ss : List Range) (xs ys : List Symbol) → IsClass quotes index text negated rs xs → IsClass quotes index text other ss ys → (negated ≡ other) × (rs ≡ ss) × (xs ≡ ys)
-  class_once text negated other rs ss xs ys f g =
-      let same = members_once _ f.read.lists g.read.lists f.left g.left xs ys f.read.read f.ends g.read.read g.ends in (
-        f.sign ∙ sym g.sign,
-        f.read.joined ∙ ap concat_of same.0 ∙ sym g.read.joined,
-        same_rest (sym f.ends ∙ ap (λ z. member_at quotes index z.0 z.1) same.1 ∙ g.ends),
-      )
-
-module _ (o : Syntax) where
-  at_once : (k : Kind) (x : Symbol) (xs : List Symbol) (m n : Mark) (rest left : List Symbol) → MarkAt o k x xs m rest → MarkAt o k x xs n left → (m ≡ n) × (rest ≡ left)
-  at_once Quote x xs m n rest left f g =
-      let both = sym f.2 ∙ g.2 in
-      (f.1 ∙ ap (λ z. literal z.letter) (same_head both) ∙ sym g.1, same_tail both)
-  at_once Star x xs m n rest left f g = (f.0 ∙ sym g.0, f.1 ∙ sym g.1)
-  at_once Question x xs m n rest left f g = (f.0 ∙ sym g.0, f.1 ∙ sym g.1)
-  at_once Bracket x xs m n rest left f g =
-      let same = class_once o.class_escapes x.index xs f.0 g.0 f.1 g.1 rest left f.3 g.3 in
-      (f.2 ∙ ap (λ z. one_of z f.1) same.0 ∙ ap (one_of g.0) same.1 ∙ sym g.2, same.2)
-  at_once Open x xs m n rest left f g = (f.0 ∙ sym g.0, f.1 ∙ sym g.1)
-  at_once Comma x xs m n rest left f g = (f.0 ∙ sym g.0, f.1 ∙ sym g.1)
-  at_once Close x xs m n rest left f g = (f.0 ∙ sym g.0, f.1 ∙ sym g.1)
-  at_once Literal x xs m n rest left f g = (f.0 ∙ sym g.0, f.1 ∙ sym g.1)
-
-  mark_once : (text : List Symbol) (m n : Mark) (rest left : List Symbol) → IsMark o text m rest → IsMark o text n left → (m ≡ n) × (rest ≡ left)
-  mark_once [] m n rest left f g = absurd f
-  mark_once (x ∷ xs) m n rest left f g = at_once (kind_of (is_quoting o) x.letter) x xs m n rest left f g
-
-  no_mark : (text : List Symbol) (m : Mark) (rest : List Symbol) → text ≡ [] → IsMark o text m rest → ⊥
-  no_mark [] m rest e f = f
-  no_mark (x ∷ xs) m rest e f = cc
-
-  marks_once : (text : List Symbol) (ms ns : List Mark) → AreMarks o text ms → AreMarks o text ns → ms ≡ ns
-  marks_once text [] [] f g = refl
-  marks_once text [] (n ∷ ns) f g = absurd (no_mark text n g.0 f g.1)
-  marks_once text (m ∷ ms) [] f g = absurd (no_mark text m f.0 g f.1)
-  marks_once text (m ∷ ms) (n ∷ ns) f g =
-      let same = mark_once text m n f.0 g.0 f.1 g.1 in
-      ap (λ z. z ∷ ms) same.0 ∙ ap (λ z. n ∷ z) (marks_once g.0 ms ns (subst (λ z. AreMarks o z ms) same.1 f.2) g.2)
-
-abbrev symbol_with : ℕ → ℕ → Symbol
-symbol_with letter index = record { letter = letter; index = index }
-
 module _ (formed : List ℕ → Type 0) (letters : List ℕ → List ℕ) (laws : LetterLaws formed letters) where
-  module _ (text : List ℕ) where
-    symbol_once : (left : List ℕ) (x y : Symbol) (xs ys : List ℕ) → IsSymbol formed letters text left x xs → IsSymbol formed letters text left y ys → (x ≡ y) × (xs ≡ ys)
-    symbol_once left x y xs ys f g =
-        let both = sym f.letter.letters_are ∙ g.letter.letters_are in
-        let index : x.index ≡ y.index = omega (arith, f.index, g.index) in (
-          ap (λ z. symbol_with z x.index) (same_head both) ∙ ap (symbol_with y.letter) index,
-          laws.once xs ys f.letter.formed_after g.letter.formed_after (same_tail both),
-        )
-
-    no_symbol : (left : List ℕ) (x : Symbol) (xs : List ℕ) → left ≡ [] → IsSymbol formed letters text left x xs → ⊥
-    no_symbol left x xs e f = let l = f.letter.shorter in omega (arith, l, ap length e)
-
-    symbols_once : (left : List ℕ) (xs ys : List Symbol) → Reads (IsSymbol formed letters text) left xs [] → Reads (IsSymbol formed letters text) left ys [] → xs ≡ ys
-    symbols_once left [] [] f g = refl
-    symbols_once left [] (y ∷ ys) f g = absurd (no_symbol left y g.0 f g.1)
-    symbols_once left (x ∷ xs) [] f g = absurd (no_symbol left x f.0 g f.1)
-    symbols_once left (x ∷ xs) (y ∷ ys) f g =
-        let same = symbol_once left x y f.0 g.0 f.1 g.1 in
-        ap (λ z. z ∷ xs) same.0 ∙ ap (λ z. y ∷ z) (symbols_once g.0 xs ys (subst (λ z. Reads (IsSymbol formed letters text) z xs []) same.1 f.2) g.2)
-
   module _ (o : Syntax) (text : List ℕ) (cs ds : List (List Mark)) (f : AreWrittenOut formed letters o text cs) (g : AreWrittenOut formed letters o text ds) where
     one_reading : f.marks ≡ g.marks
-    one_reading = marks_once o g.symbols f.marks g.marks (subst (λ z. AreMarks o z f.marks) (symbols_once text text f.symbols g.symbols f.read g.read) f.marks_are) g.marks_are
+    one_reading = marks_once o g.symbols f.marks g.marks (subst (λ z. AreMarks o z f.marks) (symbols_once formed letters laws text f.symbols g.symbols f.read g.read) f.marks_are) g.marks_are
 
     pub one_meaning : (p : Options) (path : List ℕ) → MatchesWrittenOut p cs path ↔ MatchesWrittenOut p ds path
     one_meaning p path =
