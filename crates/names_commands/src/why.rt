@@ -38,12 +38,12 @@ pub struct Reasons<'g, E, A: Allocator = Global> {
 impl<'g, E: Platform, B: Allocator + Copy> ListTask for Reasons<'g, E, B> {
     type Rejection = Rejection;
 
-    type Memory = ();
+    ghost Planned = { Self };
+
+    ghost plan = { λ r. r };
 
     ghost rules = { λ r. deciding ⟦<E as Platform>⟧ r.list (map text_of r.values.now)
         (files_of r.ignore.now) };
-
-    ghost remembers = { λ _ _. Unit {0} };
 
     fn end(&self) -> ItemEnd {
         self.list.end
@@ -61,12 +61,9 @@ impl<'g, E: Platform, B: Allocator + Copy> ListTask for Reasons<'g, E, B> {
         self.list.max
     }
 
-    fn memory(&self) {}
-
     fn write_item<A: Allocator + Copy>(
-        &self,
+        &mut self,
         alloc: A,
-        _memory: &mut (),
         item: &[u8],
         output: &mut Vec<u8, A>,
     ) -> Result<(), ItemFault<Rejection>> {
