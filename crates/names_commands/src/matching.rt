@@ -174,20 +174,14 @@ fn write_matching<E: Platform, A: Allocator, B: Allocator + Copy>(
     ensures unchanged { OnErr result (output.new.items ≡ output.old.items) }
     ensures files { files_of_walk walk.new ≡ files_of_walk walk.old }
 {
-    match named::<E>(item) {
-        Ok(name) => match names.picks(walk, name) {
-            Ok(picks) => {
-                if !picks {
-                    return Ok(());
-                }
-                match names.form {
-                    Form::Line => write_line::<E, A>(alloc, name, output),
-                    Form::Name => push_name(item, names.list.end, output),
-                    Form::Word(form) => write_word(alloc, form, item, output),
-                }
-            }
-            Err(_) => Err(ItemFault::Memory),
-        },
-        Err(fault) => Err(fault),
+    let name = named::<E>(item)?;
+    let picks = names.picks(walk, name)?;
+    if !picks {
+        return Ok(());
+    }
+    match names.form {
+        Form::Line => write_line::<E, A>(alloc, name, output),
+        Form::Name => push_name(item, names.list.end, output),
+        Form::Word(form) => write_word(alloc, form, item, output),
     }
 }

@@ -87,13 +87,8 @@ fn write_decided<E: Platform, A: Allocator + Copy, B: Allocator + Copy>(
     ensures unchanged { OnErr result (output.new.items ≡ output.old.items) }
 {
     let name = named::<E>(item)?;
-    let Ok(text) = text_of_decided::<E, A, B>(alloc, values, ignore, name) else {
-        return Err(ItemFault::Memory);
-    };
-    match output.extend_from_slice(&text) {
-        Ok(()) => Ok(()),
-        Err(_) => Err(ItemFault::Memory),
-    }
+    let text = text_of_decided::<E, A, B>(alloc, values, ignore, name)?;
+    Ok(output.extend_from_slice(&text)?)
 }
 
 /// What is written for a name: the line that decides it, and its escape, or nothing where none does.
