@@ -37,20 +37,20 @@ use std::io::{Read, Write};
 ///
 /// let mut taken = Vec::new(alloc);
 /// let (mut reader, mut writer) = (Marked::new(b"a\0".as_slice()), Marked::new(&mut taken));
-/// let listing = OnPlatform::<Unix>::new(Settings::new(Task::ListAll, 255));
-/// let ended: Result<(), Fault> = run_list(alloc, &listing, &mut reader, &mut writer);
+/// let mut listing = OnPlatform::<Unix>::new(Settings::new(Task::ListAll, 255));
+/// let ended: Result<(), Fault> = run_list(alloc, &mut listing, &mut reader, &mut writer);
 /// assert!(rt; ended.is_ok());
 /// assert_eq!(rt; taken.as_slice(), b"a\n".as_slice());
 /// ```
 pub fn run_list<T: ListTask, U, A: Allocator, R: Read, W: Write>(
     alloc: A,
-    task: &T,
+    task: &mut T,
     reader: &mut Marked<R>,
     writer: &mut Marked<W>,
 ) -> Result<(), Fault<T::Rejection, U>>
     requires reader_unmarked { has_failed reader.old ≡ false }
     requires writer_unmarked { has_failed writer.old ≡ false }
-    ensures run { Runs (T.rules task.now) OfList (R.remaining (marked_inner reader.old))
+    ensures run { Runs (T.rules (T.plan task.old)) OfList (R.remaining (marked_inner reader.old))
         (R.remaining (marked_inner reader.new)) (W.contents (marked_inner writer.old))
         (W.contents (marked_inner writer.new)) result }
     ensures read { (result ≡ Err (Fault.List (ListFault.Run Failure.Read)))
@@ -82,23 +82,23 @@ pub fn run_list<T: ListTask, U, A: Allocator, R: Read, W: Write>(
 ///
 /// let mut taken = Vec::new(alloc);
 /// let (mut reader, mut writer) = (Marked::new(b"..\0a\0".as_slice()), Marked::new(&mut taken));
-/// let task = OnPlatform::<Unix>::new(Task::Normalize, ListOptions::new(255));
+/// let mut task = OnPlatform::<Unix>::new(Task::Normalize, ListOptions::new(255));
 /// let mut rejections = KeepGoing::new("paths", &rt);
 /// let ended: Result<(), Fault> =
-///     run_list_with(alloc, &task, &mut rejections, &mut reader, &mut writer);
+///     run_list_with(alloc, &mut task, &mut rejections, &mut reader, &mut writer);
 /// assert!(rt; ended.is_ok() && rejections.count() == 1);
 /// assert_eq!(rt; taken.as_slice(), b"a\0".as_slice());
 /// ```
 pub fn run_list_with<T: ListTask, N: Rejections<T::Rejection>, U, A: Allocator, R: Read, W: Write>(
     alloc: A,
-    task: &T,
+    task: &mut T,
     rejections: &mut N,
     reader: &mut Marked<R>,
     writer: &mut Marked<W>,
 ) -> Result<(), Fault<T::Rejection, U>>
     requires reader_unmarked { has_failed reader.old ≡ false }
     requires writer_unmarked { has_failed writer.old ≡ false }
-    ensures run { Runs (passing (N.passed rejections.new) (T.rules task.now)) OfList
+    ensures run { Runs (passing (N.passed rejections.new) (T.rules (T.plan task.old))) OfList
         (R.remaining (marked_inner reader.old)) (R.remaining (marked_inner reader.new))
         (W.contents (marked_inner writer.old)) (W.contents (marked_inner writer.new)) result }
     ensures ends { IfErr result (λ fault. EndsRunOf N.stops fault) }

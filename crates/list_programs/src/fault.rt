@@ -7,6 +7,7 @@ use crate::options::ItemEnd;
 use os_str_bytes::write_number;
 use program_frame::ended::ProgramFault;
 use program_frame::fault::Failure;
+use std::alloc::AllocError;
 use std::fmt;
 use std::fmt::Display as _;
 
@@ -51,6 +52,16 @@ pub enum ItemFault<F> {
     TooLong,
     /// An allocation failed.
     Memory,
+}
+
+impl<F> From<AllocError> for ItemFault<F> {
+    ghost use Rattle.list_programs.specs.declared.fault.ItemFault.TheVariants.{Memory};
+
+    ghost from_gives = { λ _ fault. fault ≡ Memory };
+
+    fn from(_error: AllocError) -> ItemFault<F> {
+        ItemFault::Memory
+    }
 }
 
 /// Why a run over a list ended before the list did. Items are counted from 1.

@@ -15,42 +15,32 @@ use std::alloc::Allocator;
 /// that begins last. It returns the number of items that have ended.
 pub fn read_block<T: ListTask, N: Rejections<T::Rejection>, A: Allocator + Copy>(
     alloc: A,
-    task: &T,
-    memory: &mut T::Memory,
+    task: &mut T,
     count: u64,
     block: &[u8],
     begun: &mut Vec<u8, A>,
     rejections: &mut N,
     output: &mut Vec<u8, A>,
 ) -> Result<u64, ListFault<T::Rejection>>
-    requires memory { T.remembers task.now memory.old }
     requires counted { count + length begun.old.items + length block.now + 1 < 2 ^ 64 }
-    requires begun { HasBegun (passing (N.passed rejections.old) (T.rules task.now)) begun.old.items }
+    requires begun { HasBegun (passing (N.passed rejections.old) (T.rules (T.plan task.old)))
+        begun.old.items }
     ensures ok { IfOk result
-        (λ ended. Reads (passing (N.passed rejections.new) (T.rules task.now))
+        (λ ended. Reads (passing (N.passed rejections.new) (T.rules (T.plan task.old)))
         (record { begun = begun.old.items; count = count; output = output.old.items }) block.now
         (record { begun = begun.new.items; count = ended; output = output.new.items })) }
     ensures fault { IfErr result (λ fault. (more : List ℕ)
-        → Stops (passing (N.passed rejections.new) (T.rules task.now))
+        → Stops (passing (N.passed rejections.new) (T.rules (T.plan task.old)))
         (record { begun = begun.old.items; count = count; output = output.old.items })
         (block.now ++ more) output.new.items fault) }
     ensures more { N.passed rejections.old ≤ N.passed rejections.new }
     ensures ends { IfErr result (λ fault. EndsRun N.stops fault) }
-    ensures memory { T.remembers task.now memory.new }
+    ensures plan { T.plan task.new ≡ T.plan task.old }
 {
     let mut ended = count;
     let mut rest = block;
     while let Some((last, after)) = split_at_end(task.end().byte(), rest) {
-        match end_item::<T, N, A>(
-            alloc,
-            task,
-            memory,
-            ended + 1,
-            last,
-            begun,
-            rejections,
-            output,
-        ) {
+        match end_item::<T, N, A>(alloc, task, ended + 1, last, begun, rejections, output) {
             Ok(()) => {}
             Err(fault) => return Err(fault),
         }
@@ -66,37 +56,36 @@ pub fn read_block<T: ListTask, N: Rejections<T::Rejection>, A: Allocator + Copy>
 /// Appends the output for the item that has begun. These are its last bytes.
 fn end_item<T: ListTask, N: Rejections<T::Rejection>, A: Allocator + Copy>(
     alloc: A,
-    task: &T,
-    memory: &mut T::Memory,
+    task: &mut T,
     number: u64,
     last: &[u8],
     begun: &mut Vec<u8, A>,
     rejections: &mut N,
     output: &mut Vec<u8, A>,
 ) -> Result<(), ListFault<T::Rejection>>
-    requires memory { T.remembers task.now memory.old }
-    requires begun { HasBegun (passing (N.passed rejections.old) (T.rules task.now)) begun.old.items }
-    requires whole { Lacks (T.rules task.now).end last.now }
+    requires begun { HasBegun (passing (N.passed rejections.old) (T.rules (T.plan task.old)))
+        begun.old.items }
+    requires whole { Lacks (T.rules (T.plan task.old)).end last.now }
     ensures ok { OnOk result ((text : List ℕ)
-        × IsEntry (passing (N.passed rejections.new) (T.rules task.now))
+        × IsEntry (passing (N.passed rejections.new) (T.rules (T.plan task.old)))
         (begun.old.items ++ last.now, text)
         × (output.new.items ≡ output.old.items ++ text)) }
     ensures none { OnOk result (begun.new.items ≡ []) }
     ensures fault { IfErr result (λ fault.
-        IsFaultAt (T.rules task.now) number (begun.old.items ++ last.now) fault) }
+        IsFaultAt (T.rules (T.plan task.old)) number (begun.old.items ++ last.now) fault) }
     ensures unchanged { OnErr result (output.new.items ≡ output.old.items) }
     ensures more { N.passed rejections.old ≤ N.passed rejections.new }
     ensures ends { IfErr result (λ fault. EndsRun N.stops fault) }
-    ensures memory { T.remembers task.now memory.new }
+    ensures plan { T.plan task.new ≡ T.plan task.old }
 {
     if begun.is_empty() && last.len() <= task.longest_item() {
-        return write_at::<T, N, A>(alloc, task, memory, number, last, rejections, output);
+        return write_at::<T, N, A>(alloc, task, number, last, rejections, output);
     }
     match keep(task, number, last, begun) {
         Ok(()) => {}
         Err(fault) => return Err(fault),
     }
-    match write_at::<T, N, A>(alloc, task, memory, number, begun, rejections, output) {
+    match write_at::<T, N, A>(alloc, task, number, begun, rejections, output) {
         Ok(()) => {}
         Err(fault) => return Err(fault),
     }
@@ -107,25 +96,24 @@ fn end_item<T: ListTask, N: Rejections<T::Rejection>, A: Allocator + Copy>(
 /// Appends what is written for the item with this number: nothing where it is passed over.
 pub fn write_at<T: ListTask, N: Rejections<T::Rejection>, A: Allocator + Copy>(
     alloc: A,
-    task: &T,
-    memory: &mut T::Memory,
+    task: &mut T,
     number: u64,
     item: &[u8],
     rejections: &mut N,
     output: &mut Vec<u8, A>,
 ) -> Result<(), ListFault<T::Rejection>>
-    requires memory { T.remembers task.now memory.old }
-    requires short { length item.now ≤ (T.rules task.now).longest }
+    requires short { length item.now ≤ (T.rules (T.plan task.old)).longest }
     ensures ok { OnOk result ((text : List ℕ)
-        × ((passing (N.passed rejections.new) (T.rules task.now)).is_text item.now text
+        × ((passing (N.passed rejections.new) (T.rules (T.plan task.old))).is_text item.now text
         × (output.new.items ≡ output.old.items ++ text))) }
-    ensures fault { IfErr result (λ fault. IsFaultAt (T.rules task.now) number item.now fault) }
+    ensures fault { IfErr result (λ fault.
+        IsFaultAt (T.rules (T.plan task.old)) number item.now fault) }
     ensures unchanged { OnErr result (output.new.items ≡ output.old.items) }
     ensures more { N.passed rejections.old ≤ N.passed rejections.new }
     ensures ends { IfErr result (λ fault. EndsRun N.stops fault) }
-    ensures memory { T.remembers task.now memory.new }
+    ensures plan { T.plan task.new ≡ T.plan task.old }
 {
-    match task.write_item(alloc, memory, item, output) {
+    match task.write_item(alloc, item, output) {
         Ok(()) => Ok(()),
         Err(ItemFault::Rejected(why)) => {
             if rejections.passes(number, item, why) {
@@ -145,11 +133,11 @@ fn keep<T: ListTask, A: Allocator>(
     more: &[u8],
     begun: &mut Vec<u8, A>,
 ) -> Result<(), ListFault<T::Rejection>>
-    requires { length begun.old.items ≤ (T.rules task.now).longest }
+    requires { length begun.old.items ≤ (T.rules (T.plan task.now)).longest }
     ensures kept { OnOk result (begun.new.items ≡ begun.old.items ++ more.now) }
-    ensures short { OnOk result (length begun.new.items ≤ (T.rules task.now).longest) }
+    ensures short { OnOk result (length begun.new.items ≤ (T.rules (T.plan task.now)).longest) }
     ensures fault { IfErr result (λ fault.
-        IsKeepFault (T.rules task.now) number (begun.old.items ++ more.now) fault) }
+        IsKeepFault (T.rules (T.plan task.now)) number (begun.old.items ++ more.now) fault) }
     ensures ends { IfErr result (λ fault. EndsRun ⊥ fault) }
 {
     if more.len() > task.longest_item() - begun.len() {

@@ -49,13 +49,13 @@ const BLOCK: usize = 16384;
 /// let names: &[u8] = b"a\nb\0\xFF\0c\0";
 /// let mut taken = Vec::new(alloc);
 /// let (mut reader, mut writer) = (Marked::new(names), Marked::new(&mut taken));
-/// let listing = OnPlatform::<Unix>::new(Settings::new(Task::ListAll, 255));
-/// assert!(rt; run(alloc, &listing, &mut reader, &mut writer) == Ok(()));
+/// let mut listing = OnPlatform::<Unix>::new(Settings::new(Task::ListAll, 255));
+/// assert!(rt; run(alloc, &mut listing, &mut reader, &mut writer) == Ok(()));
 /// assert_eq!(rt; taken.as_slice(), b"a\\u000Ab\n\\xFF\nc\n".as_slice());
 /// ```
 pub fn run<T: ListTask, A: Allocator, R: Read, W: Write>(
     alloc: A,
-    task: &T,
+    task: &mut T,
     reader: &mut Marked<R>,
     writer: &mut Marked<W>,
 ) -> Result<(), ListFault<T::Rejection>>
@@ -64,17 +64,17 @@ pub fn run<T: ListTask, A: Allocator, R: Read, W: Write>(
 
     // The output.
     ensures all_read { OnOk result (IsAtEnd (R.remaining (marked_inner reader.new))) }
-    ensures written { OnOk result (WritesOutput (T.rules task.now)
+    ensures written { OnOk result (WritesOutput (T.rules (T.plan task.old))
         (R.remaining (marked_inner reader.old)) (W.contents (marked_inner writer.old))
         (W.contents (marked_inner writer.new))) }
 
     // What was written before a fault.
     ensures stopped { IfErr result (λ fault. fault ≢ ListFault.Run Failure.Write
-        → WritesUpTo (T.rules task.now) fault
+        → WritesUpTo (T.rules (T.plan task.old)) fault
         (R.remaining (marked_inner reader.old)) (W.contents (marked_inner writer.old))
         (W.contents (marked_inner writer.new))) }
     ensures beginning { result ≡ Err (ListFault.Run Failure.Write)
-        → WritesBeginning (T.rules task.now)
+        → WritesBeginning (T.rules (T.plan task.old))
         (R.remaining (marked_inner reader.old)) (W.contents (marked_inner writer.old))
         (W.contents (marked_inner writer.new)) }
 
@@ -105,15 +105,15 @@ pub fn run<T: ListTask, A: Allocator, R: Read, W: Write>(
 /// let paths: &[u8] = b"a/../b\0../c\0d/./e\0";
 /// let mut taken = Vec::new(alloc);
 /// let (mut reader, mut writer) = (Marked::new(paths), Marked::new(&mut taken));
-/// let task = OnPlatform::<Unix>::new(Task::Normalize, ListOptions::new(255));
+/// let mut task = OnPlatform::<Unix>::new(Task::Normalize, ListOptions::new(255));
 /// let mut rejections = KeepGoing::new("paths", &rt);
-/// assert!(rt; run_with(alloc, &task, &mut rejections, &mut reader, &mut writer).is_ok());
+/// assert!(rt; run_with(alloc, &mut task, &mut rejections, &mut reader, &mut writer).is_ok());
 /// assert_eq!(rt; rejections.count(), 1);
 /// assert_eq!(rt; taken.as_slice(), b"b\0d/e\0".as_slice());
 /// ```
 pub fn run_with<T: ListTask, N: Rejections<T::Rejection>, A: Allocator, R: Read, W: Write>(
     alloc: A,
-    task: &T,
+    task: &mut T,
     rejections: &mut N,
     reader: &mut Marked<R>,
     writer: &mut Marked<W>,
@@ -124,17 +124,17 @@ pub fn run_with<T: ListTask, N: Rejections<T::Rejection>, A: Allocator, R: Read,
     // The output.
     ensures all_read { OnOk result (IsAtEnd (R.remaining (marked_inner reader.new))) }
     ensures written { OnOk result
-        (WritesOutput (passing (N.passed rejections.new) (T.rules task.now))
+        (WritesOutput (passing (N.passed rejections.new) (T.rules (T.plan task.old)))
         (R.remaining (marked_inner reader.old)) (W.contents (marked_inner writer.old))
         (W.contents (marked_inner writer.new))) }
 
     // What was written before a fault.
     ensures stopped { IfErr result (λ fault. fault ≢ ListFault.Run Failure.Write
-        → WritesUpTo (passing (N.passed rejections.new) (T.rules task.now)) fault
+        → WritesUpTo (passing (N.passed rejections.new) (T.rules (T.plan task.old))) fault
         (R.remaining (marked_inner reader.old)) (W.contents (marked_inner writer.old))
         (W.contents (marked_inner writer.new))) }
     ensures beginning { result ≡ Err (ListFault.Run Failure.Write)
-        → WritesBeginning (passing (N.passed rejections.new) (T.rules task.now))
+        → WritesBeginning (passing (N.passed rejections.new) (T.rules (T.plan task.old)))
         (R.remaining (marked_inner reader.old)) (W.contents (marked_inner writer.old))
         (W.contents (marked_inner writer.new)) }
     ensures ends { IfErr result (λ fault. EndsRun N.stops fault) }
@@ -143,22 +143,13 @@ pub fn run_with<T: ListTask, N: Rejections<T::Rejection>, A: Allocator, R: Read,
     ensures read { (result ≡ Err (ListFault.Run Failure.Read)) ↔ (has_failed reader.new ≡ true) }
     ensures write { (result ≡ Err (ListFault.Run Failure.Write)) ↔ (has_failed writer.new ≡ true) }
 {
-    let mut memory = task.memory();
     let mut begun = Vec::new(&alloc);
     let mut count = 0;
     let mut total = 0;
     let mut piece = [0u8; BLOCK];
     loop {
         let size = match reader.read(&mut piece) {
-            Ok(0) => return finish::<T, N, &A, W>(
-                &alloc,
-                task,
-                &mut memory,
-                count,
-                &begun,
-                rejections,
-                writer,
-            ),
+            Ok(0) => return finish::<T, N, &A, W>(&alloc, task, count, &begun, rejections, writer),
             Ok(size) => size,
             Err(_) => return Err(ListFault::Run(Failure::Read)),
         };
@@ -168,14 +159,7 @@ pub fn run_with<T: ListTask, N: Rejections<T::Rejection>, A: Allocator, R: Read,
         total += size as u64;
         let block = &piece[..size];
         match write_block::<T, N, &A, W>(
-            &alloc,
-            task,
-            &mut memory,
-            count,
-            block,
-            &mut begun,
-            rejections,
-            writer,
+            &alloc, task, count, block, &mut begun, rejections, writer,
         ) {
             Ok(ended) => count = ended,
             Err(fault) => return Err(fault),
@@ -187,32 +171,31 @@ pub fn run_with<T: ListTask, N: Rejections<T::Rejection>, A: Allocator, R: Read,
 /// items that have ended.
 fn write_block<T: ListTask, N: Rejections<T::Rejection>, A: Allocator + Copy, W: Write>(
     alloc: A,
-    task: &T,
-    memory: &mut T::Memory,
+    task: &mut T,
     count: u64,
     block: &[u8],
     begun: &mut Vec<u8, A>,
     rejections: &mut N,
     writer: &mut Marked<W>,
 ) -> Result<u64, ListFault<T::Rejection>>
-    requires memory { T.remembers task.now memory.old }
     requires counted { count + length begun.old.items + length block.now + 1 < 2 ^ 64 }
-    requires begun { HasBegun (passing (N.passed rejections.old) (T.rules task.now)) begun.old.items }
+    requires begun { HasBegun (passing (N.passed rejections.old) (T.rules (T.plan task.old)))
+        begun.old.items }
     requires unmarked { has_failed writer.old ≡ false }
     ensures ok { IfOk result (λ ended. (text : List ℕ)
-        × (Reads (passing (N.passed rejections.new) (T.rules task.now))
+        × (Reads (passing (N.passed rejections.new) (T.rules (T.plan task.old)))
         (record { begun = begun.old.items; count = count; output = [] }) block.now
         (record { begun = begun.new.items; count = ended; output = text })
         × Appends (W.contents (marked_inner writer.old)) (W.contents (marked_inner writer.new))
         text)) }
     ensures stopped { IfErr result (λ fault. fault ≢ ListFault.Run Failure.Write → (text : List ℕ)
-        × (((more : List ℕ) → Stops (passing (N.passed rejections.new) (T.rules task.now))
+        × (((more : List ℕ) → Stops (passing (N.passed rejections.new) (T.rules (T.plan task.old)))
         (record { begun = begun.old.items; count = count; output = [] }) (block.now ++ more) text
         fault)
         × Appends (W.contents (marked_inner writer.old)) (W.contents (marked_inner writer.new))
         text)) }
     ensures beginning { result ≡ Err (ListFault.Run Failure.Write) → (text : List ℕ)
-        × (((more : List ℕ) → Begins (passing (N.passed rejections.new) (T.rules task.now))
+        × (((more : List ℕ) → Begins (passing (N.passed rejections.new) (T.rules (T.plan task.old)))
         (record { begun = begun.old.items; count = count; output = [] }) (block.now ++ more) text)
         × AppendsBeginning (W.contents (marked_inner writer.old))
         (W.contents (marked_inner writer.new)) text) }
@@ -220,19 +203,10 @@ fn write_block<T: ListTask, N: Rejections<T::Rejection>, A: Allocator + Copy, W:
     ensures marked { (result ≡ Err (ListFault.Run Failure.Write)) ↔ (has_failed writer.new ≡ true) }
     ensures more { N.passed rejections.old ≤ N.passed rejections.new }
     ensures ends { IfErr result (λ fault. EndsRun N.stops fault) }
-    ensures memory { T.remembers task.now memory.new }
+    ensures plan { T.plan task.new ≡ T.plan task.old }
 {
     let mut output = Vec::new(alloc);
-    let ended = read_block::<T, N, A>(
-        alloc,
-        task,
-        memory,
-        count,
-        block,
-        begun,
-        rejections,
-        &mut output,
-    );
+    let ended = read_block::<T, N, A>(alloc, task, count, block, begun, rejections, &mut output);
     match write_output(writer, &output) {
         Ok(()) => ended,
         Err(fault) => Err(fault),
@@ -242,35 +216,33 @@ fn write_block<T: ListTask, N: Rejections<T::Rejection>, A: Allocator + Copy, W:
 /// Writes what is to be written for the item that has begun where the input ends.
 fn finish<T: ListTask, N: Rejections<T::Rejection>, A: Allocator + Copy, W: Write>(
     alloc: A,
-    task: &T,
-    memory: &mut T::Memory,
+    task: &mut T,
     count: u64,
     begun: &[u8],
     rejections: &mut N,
     writer: &mut Marked<W>,
 ) -> Result<(), ListFault<T::Rejection>>
-    requires memory { T.remembers task.now memory.old }
     requires counted { count + 1 < 2 ^ 64 }
-    requires begun { HasBegun (passing (N.passed rejections.old) (T.rules task.now)) begun.now }
+    requires begun { HasBegun (passing (N.passed rejections.old) (T.rules (T.plan task.old)))
+        begun.now }
     requires unmarked { has_failed writer.old ≡ false }
     ensures ok { OnOk result ((text : List ℕ)
-        × (Finishes (passing (N.passed rejections.new) (T.rules task.now)) begun.now text
+        × (Finishes (passing (N.passed rejections.new) (T.rules (T.plan task.old))) begun.now text
         × Appends (W.contents (marked_inner writer.old)) (W.contents (marked_inner writer.new))
         text)) }
     ensures stopped { IfErr result (λ fault. fault ≢ ListFault.Run Failure.Write
-        → IsRejected (T.rules task.now) (count + 1) begun.now fault) }
-    ensures ended { IfErr result (λ fault. IsEnded (T.rules task.now) fault []) }
+        → IsRejected (T.rules (T.plan task.old)) (count + 1) begun.now fault) }
+    ensures ended { IfErr result (λ fault. IsEnded (T.rules (T.plan task.old)) fault []) }
     ensures unchanged { IfErr result (λ fault. fault ≢ ListFault.Run Failure.Write
         → writer.new ≡ writer.old) }
     ensures beginning { result ≡ Err (ListFault.Run Failure.Write) → (text : List ℕ)
-        × (IsLast (passing (N.passed rejections.new) (T.rules task.now)) begun.now text
+        × (IsLast (passing (N.passed rejections.new) (T.rules (T.plan task.old))) begun.now text
         × AppendsBeginning (W.contents (marked_inner writer.old))
         (W.contents (marked_inner writer.new)) text) }
     ensures no_read { result ≢ Err (ListFault.Run Failure.Read) }
     ensures marked { (result ≡ Err (ListFault.Run Failure.Write)) ↔ (has_failed writer.new ≡ true) }
     ensures more { N.passed rejections.old ≤ N.passed rejections.new }
     ensures ends { IfErr result (λ fault. EndsRun N.stops fault) }
-    ensures memory { T.remembers task.now memory.new }
 {
     if begun.is_empty() {
         return Ok(());
@@ -279,15 +251,7 @@ fn finish<T: ListTask, N: Rejections<T::Rejection>, A: Allocator + Copy, W: Writ
         return Err(ListFault::Unended(count + 1, task.end()));
     }
     let mut output = Vec::new(alloc);
-    match write_at::<T, N, A>(
-        alloc,
-        task,
-        memory,
-        count + 1,
-        begun,
-        rejections,
-        &mut output,
-    ) {
+    match write_at::<T, N, A>(alloc, task, count + 1, begun, rejections, &mut output) {
         Ok(()) => write_output(writer, &output),
         Err(fault) => Err(fault),
     }

@@ -12,13 +12,13 @@ pub trait ListTask {
     /// Why an item is rejected.
     type Rejection: Copy;
 
-    /// What is kept from one item to the next, so that less is to be done for that.
-    type Memory: Drop;
+    // what decides the rules
+    ghost Planned: { Type 0 };
 
-    ghost rules: { Self → ListRules Self.Rejection };
+    // that of the task: whatever else the task keeps from one item to the next, this stays
+    ghost plan: { Self → Planned };
 
-    // the memory is one of this task
-    ghost remembers: { Self → Self.Memory → Type 0 };
+    ghost rules: { Planned → ListRules Self.Rejection };
 
     /// The byte that ends an item.
     ///
@@ -32,7 +32,7 @@ pub trait ListTask {
     /// assert!(rt; OnPlatform::<Unix>::new(settings).end() == ItemEnd::Nul);
     /// ```
     fn end(&self) -> ItemEnd
-        ensures { byte_of result ≡ (rules self.now).end };
+        ensures { byte_of result ≡ (rules (plan self.now)).end };
 
     /// Whether the last item may lack the byte that ends it.
     ///
@@ -45,7 +45,7 @@ pub trait ListTask {
     /// assert!(rt; !OnPlatform::<Unix>::new(settings).takes_unended());
     /// ```
     fn takes_unended(&self) -> bool
-        ensures { IsTrue result ↔ (rules self.now).takes_unended };
+        ensures { IsTrue result ↔ (rules (plan self.now)).takes_unended };
 
     /// How many bytes a name may have.
     ///
@@ -58,7 +58,7 @@ pub trait ListTask {
     /// assert_eq!(rt; OnPlatform::<Unix>::new(settings).max(), 255);
     /// ```
     fn max(&self) -> usize
-        ensures { result ≡ (rules self.now).max };
+        ensures { result ≡ (rules (plan self.now)).max };
 
     /// How many bytes an item may have, or `usize::MAX` where that is less.
     ///
@@ -71,26 +71,9 @@ pub trait ListTask {
     /// assert_eq!(rt; OnPlatform::<Unix>::new(settings).longest_item(), 1530);
     /// ```
     fn longest_item(&self) -> usize
-        ensures { result ≡ min (rules self.now).longest (2 ^ 64 - 1) };
+        ensures { result ≡ min (rules (plan self.now)).longest (2 ^ 64 - 1) };
 
-    /// The memory before the first item.
-    ///
-    /// ```
-    /// use names_commands::task::{OnPlatform, Settings, Task};
-    /// use os_str_bytes::Unix;
-    /// use list_programs::task::ListTask;
-    ///
-    /// let settings = Settings::new(Task::Check, 255);
-    /// let checking = OnPlatform::<Unix>::new(settings);
-    /// let mut memory = checking.memory();
-    /// let mut output = Vec::new(alloc);
-    /// assert!(rt; checking.write_item(alloc, &mut memory, b"a", &mut output).is_ok());
-    /// ```
-    fn memory(&self) -> Self::Memory
-        ensures { remembers self.now result };
-
-    /// Appends what is written for an item. The memory must be one of this task
-    /// ([`ListTask::memory`]).
+    /// Appends what is written for an item.
     ///
     /// # Errors
     ///
@@ -103,23 +86,20 @@ pub trait ListTask {
     ///
     /// let settings = Settings::new(Task::ListAll, 255);
     /// let mut output = Vec::new(alloc);
-    /// let listing = OnPlatform::<Unix>::new(settings);
-    /// let mut memory = listing.memory();
-    /// assert!(rt; listing.write_item(alloc, &mut memory, b"a\nb", &mut output).is_ok());
+    /// let mut listing = OnPlatform::<Unix>::new(settings);
+    /// assert!(rt; listing.write_item(alloc, b"a\nb", &mut output).is_ok());
     /// assert_eq!(rt; output.as_slice(), b"a\\u000Ab\n".as_slice());
     /// ```
     fn write_item<A: Allocator + Copy>(
-        &self,
+        &mut self,
         alloc: A,
-        memory: &mut Self::Memory,
         item: &[u8],
         output: &mut Vec<u8, A>,
     ) -> Result<(), ItemFault<Self::Rejection>>
-        requires memory { remembers self.now memory.old }
-        requires short { length item.now ≤ (rules self.now).longest }
-        ensures memory { remembers self.now memory.new }
-        ensures ok { OnOk result ((text : List ℕ) × ((rules self.now).is_text item.now text
+        requires short { length item.now ≤ (rules (plan self.old)).longest }
+        ensures plan { plan self.new ≡ plan self.old }
+        ensures ok { OnOk result ((text : List ℕ) × ((rules (plan self.old)).is_text item.now text
             × (output.new.items ≡ output.old.items ++ text))) }
-        ensures fault { IfErr result (λ fault. IsItemFault (rules self.now) item.now fault) }
+        ensures fault { IfErr result (λ fault. IsItemFault (rules (plan self.old)) item.now fault) }
         ensures unchanged { OnErr result (output.new.items ≡ output.old.items) };
 }

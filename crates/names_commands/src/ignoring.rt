@@ -106,10 +106,7 @@ fn add_files<F: Files, A: Allocator + Copy>(
 {
     let mut added = 0;
     while let Some(value) = value_at(values, added) {
-        match add_file(alloc, files, options, added + 1, value, ignore) {
-            Ok(()) => {}
-            Err(fault) => return Err(fault),
-        }
+        add_file(alloc, files, options, added + 1, value, ignore)?;
         added += 1;
     }
     Ok(())
@@ -177,10 +174,7 @@ fn add_file<F: Files, A: Allocator + Copy>(
 {
     let (directory, name) = file_in(value.as_bytes());
     let bytes = read_file(alloc, files, number, name)?;
-    match ignore.add_with(alloc, options, directory, &bytes) {
-        Ok(()) => Ok(()),
-        Err(_) => Err(Fault::List(ListFault::Run(Failure::Memory))),
-    }
+    Ok(ignore.add_with(alloc, options, directory, &bytes)?)
 }
 
 /// Reads the ignore file of this name, which is UTF-8.

@@ -110,10 +110,7 @@ pub(crate) fn write_line<E: Platform, A: Allocator>(
     ensures fault { IfErr result (λ fault. fault ≡ Memory) }
     ensures unchanged { OnErr result (output.new.items ≡ output.old.items) }
 {
-    match push_line(alloc, name, output) {
-        Ok(()) => Ok(()),
-        Err(_) => Err(ItemFault::Memory),
-    }
+    Ok(push_line(alloc, name, output)?)
 }
 
 /// Appends a name and the byte that ends it.
@@ -127,10 +124,7 @@ pub(crate) fn push_name<A: Allocator>(
     ensures fault { IfErr result (λ fault. fault ≡ Memory) }
     ensures unchanged { OnErr result (output.new.items ≡ output.old.items) }
 {
-    match push_ended(name, end.byte(), output) {
-        Ok(()) => Ok(()),
-        Err(_) => Err(ItemFault::Memory),
-    }
+    Ok(push_ended(name, end.byte(), output)?)
 }
 
 /// Appends the name that a line is the escape of, and its end.

@@ -1,10 +1,11 @@
 //! Names that are picked.
 ghost use Rattle.std.specs.Prelude.{◌≡◌, ◌↔◌, ◌++◌, ℕ, List, cond, false, not, IfErr, IfOk, IsTrue, OnErr, OnOk};
-ghost use Rattle.os_ignore.specs.Ignores.{files_of};
 ghost use Rattle.os_ignore.specs.Walks.{files_of_walk};
+ghost use Rattle.os_ignore.specs.declared.file.File.{File};
 ghost use Rattle.os_str_bytes.specs.Strings.{bytes};
 ghost use Rattle.names_commands.specs.Names.{IsNoName};
 ghost use Rattle.names_commands.specs.Matching.{IsChosenBy, IsPickedBy, IsTextOfMatched, matching};
+ghost use Rattle.names_commands.specs.declared.matching.Matching.{Matching as MatchingOf};
 
 use crate::fault::Rejection;
 use crate::ignoring::is_shown;
@@ -15,7 +16,7 @@ use glob_patterns::GlobSet;
 use list_programs::fault::ItemFault;
 use list_programs::options::{ItemEnd, ListOptions};
 use list_programs::task::ListTask;
-use os_ignore::{Ignore, Walk};
+use os_ignore::Walk;
 use os_str_bytes::{OsStr, Platform};
 use std::alloc::{AllocError, Allocator, Global};
 
@@ -33,13 +34,9 @@ pub enum Form {
 /// Each name that is picked is written, and nothing for the others.
 #[derive(Clone, Copy)]
 pub struct Matching<'g, E: Platform, A: Allocator = Global> {
-    /// Memory for the directories above a name is of this allocator.
-    pub alloc: A,
-    /// Those are picked that a pattern of this set matches, or all where there is no set,
+    /// Those are picked that a pattern of this set matches, or all where there is no set, but for
+    /// those that the ignore files of a walk ignore.
     pub globs: Option<&'g GlobSet<E, A>>,
-    /// but for those that the lines of these files ignore. One `./` before a name is left out, and a `/`
-    /// at its end marks a directory.
-    pub ignore: &'g Ignore<A>,
     /// Whether the other names are picked.
     pub inverted: bool,
     /// How each name is written.
@@ -48,8 +45,18 @@ pub struct Matching<'g, E: Platform, A: Allocator = Global> {
     pub list: ListOptions,
 }
 
+/// The names that are picked, where the lines of these files ignore some. One `./` before a name is
+/// left out, and a `/` at its end marks a directory.
+#[derive(Drop)]
+pub struct Picker<'g, E: Platform, A: Allocator = Global> {
+    /// Which names are picked, and how they are written.
+    pub names: Matching<'g, E, A>,
+    /// The walk over the names, by the ignore files.
+    pub walk: Walk<'g, A>,
+}
+
 impl<'g, E: Platform, A: Allocator + Copy> Matching<'g, E, A> {
-    /// Whether the name is picked. The walk must be one of the same ignore files.
+    /// Whether the name is picked, by the ignore files of the walk.
     ///
     /// # Errors
     ///
@@ -57,15 +64,13 @@ impl<'g, E: Platform, A: Allocator + Copy> Matching<'g, E, A> {
     ///
     /// ```
     /// use names_commands::matching::{Form, Matching};
-    /// use os_ignore::{Ignore, Walk};
+    /// use os_ignore::Walk;
     /// use os_str_bytes::{OsStr, Unix};
     /// use list_programs::options::ListOptions;
     ///
     /// let ignore = Ignore::new(alloc, b"*.o\nout/\n")?;
     /// let names = Matching {
-    ///     alloc,
     ///     globs: None,
-    ///     ignore: &ignore,
     ///     inverted: false,
     ///     form: Form::Name,
     ///     list: ListOptions::new(255),
@@ -77,10 +82,9 @@ impl<'g, E: Platform, A: Allocator + Copy> Matching<'g, E, A> {
     /// assert!(rt; !names.picks(&mut walk, OsStr::new("out/"))?);
     /// ```
     pub fn picks(&self, walk: &mut Walk<'_, A>, name: OsStr<'_, E>) -> Result<bool, AllocError>
-        requires { files_of_walk walk.old ≡ files_of self.now.ignore.now }
         ensures picks { IfOk result (λ picks. IsTrue picks
             ↔ IsPickedBy ⟦<E as Platform>⟧ self.now.inverted self.now.globs
-            (files_of self.now.ignore.now) (bytes name.entry)) }
+            (files_of_walk walk.old) (bytes name.entry)) }
         ensures files { files_of_walk walk.new ≡ files_of_walk walk.old }
     {
         let matches = self.matches(walk, name)?;
@@ -89,10 +93,9 @@ impl<'g, E: Platform, A: Allocator + Copy> Matching<'g, E, A> {
 
     /// Whether the name is picked where the others aren't.
     fn matches(&self, walk: &mut Walk<'_, A>, name: OsStr<'_, E>) -> Result<bool, AllocError>
-        requires { files_of_walk walk.old ≡ files_of self.now.ignore.now }
         ensures matches { IfOk result (λ matches. IsTrue matches
             ↔ IsPickedBy ⟦<E as Platform>⟧ false self.now.globs
-            (files_of self.now.ignore.now) (bytes name.entry)) }
+            (files_of_walk walk.old) (bytes name.entry)) }
         ensures files { files_of_walk walk.new ≡ files_of_walk walk.old }
     {
         if is_chosen(self.globs, name) {
@@ -120,44 +123,38 @@ fn is_chosen<E: Platform, A: Allocator>(globs: Option<&GlobSet<E, A>>, name: OsS
     }
 }
 
-impl<'g, E: Platform, B: Allocator + Copy> ListTask for Matching<'g, E, B> {
+impl<'g, E: Platform, B: Allocator + Copy> ListTask for Picker<'g, E, B> {
     type Rejection = Rejection;
 
-    type Memory = Walk<'g, B>;
+    ghost Planned = { MatchingOf E B × List (File B) };
 
-    ghost rules = { λ m. matching ⟦<E as Platform>⟧ m.form m.list m.inverted m.globs
-        (files_of m.ignore.now) };
+    ghost plan = { λ p. (p.names, files_of_walk p.walk) };
 
-    ghost remembers = { λ m walk. files_of_walk walk ≡ files_of m.ignore.now };
+    ghost rules = { λ p. matching ⟦<E as Platform>⟧ p.0.form p.0.list p.0.inverted p.0.globs p.1 };
 
     fn end(&self) -> ItemEnd {
-        self.list.end
+        self.names.list.end
     }
 
     fn takes_unended(&self) -> bool {
-        self.list.last.may_lack_end()
+        self.names.list.last.may_lack_end()
     }
 
     fn max(&self) -> usize {
-        self.list.max
+        self.names.list.max
     }
 
     fn longest_item(&self) -> usize {
-        self.list.max
-    }
-
-    fn memory(&self) -> Walk<'g, B> {
-        Walk::new(self.alloc, self.ignore)
+        self.names.list.max
     }
 
     fn write_item<A: Allocator + Copy>(
-        &self,
+        &mut self,
         alloc: A,
-        memory: &mut Walk<'g, B>,
         item: &[u8],
         output: &mut Vec<u8, A>,
     ) -> Result<(), ItemFault<Rejection>> {
-        write_matching::<E, A, B>(alloc, self, memory, item, output)
+        write_matching::<E, A, B>(alloc, &self.names, &mut self.walk, item, output)
     }
 }
 
@@ -169,29 +166,22 @@ fn write_matching<E: Platform, A: Allocator, B: Allocator + Copy>(
     item: &[u8],
     output: &mut Vec<u8, A>,
 ) -> Result<(), ItemFault<Rejection>>
-    requires { files_of_walk walk.old ≡ files_of names.now.ignore.now }
     ensures ok { OnOk result ((text : List ℕ)
         × (IsTextOfMatched ⟦<E as Platform>⟧ names.now.form names.now.list.end names.now.inverted
-        names.now.globs (files_of names.now.ignore.now)
+        names.now.globs (files_of_walk walk.old)
         item.now text × (output.new.items ≡ output.old.items ++ text))) }
     ensures fault { IfErr result (λ fault. IsNoName ⟦<E as Platform>⟧ item.now fault) }
     ensures unchanged { OnErr result (output.new.items ≡ output.old.items) }
     ensures files { files_of_walk walk.new ≡ files_of_walk walk.old }
 {
-    match named::<E>(item) {
-        Ok(name) => match names.picks(walk, name) {
-            Ok(picks) => {
-                if !picks {
-                    return Ok(());
-                }
-                match names.form {
-                    Form::Line => write_line::<E, A>(alloc, name, output),
-                    Form::Name => push_name(item, names.list.end, output),
-                    Form::Word(form) => write_word(alloc, form, item, output),
-                }
-            }
-            Err(_) => Err(ItemFault::Memory),
-        },
-        Err(fault) => Err(fault),
+    let name = named::<E>(item)?;
+    let picks = names.picks(walk, name)?;
+    if !picks {
+        return Ok(());
+    }
+    match names.form {
+        Form::Line => write_line::<E, A>(alloc, name, output),
+        Form::Name => push_name(item, names.list.end, output),
+        Form::Word(form) => write_word(alloc, form, item, output),
     }
 }

@@ -14,12 +14,12 @@ use crate::command::Request;
 use crate::fault::{CommandFault, Fault};
 use crate::given::options_of;
 use crate::ignoring::read_ignore;
-use crate::matching::{Form, Matching};
+use crate::matching::{Form, Matching, Picker};
 use crate::pick::{added_before, strings_of, typed, typed_fault};
 use glob_patterns::{GlobOptions, GlobSet, GlobSetError, PatternFault};
 use list_programs::answers::run_list;
 use list_programs::fault::ListFault;
-use os_ignore::IgnoreOptions;
+use os_ignore::{IgnoreOptions, Walk};
 use os_str_bytes::Platform;
 use program_frame::fault::Failure;
 use program_frame::files::Files;
@@ -58,15 +58,14 @@ pub(crate) fn run_picked<E: Platform, F: Files, A: Allocator + Copy, R: Read, W:
         Ok(ignore) => ignore,
         Err(fault) => return Err(fault),
     };
-    let matching = Matching {
-        alloc,
+    let names = Matching {
         globs: set_of(patterns, &set),
-        ignore: &ignore,
         inverted: request.inverted,
         form,
         list: request.list,
     };
-    run_list(alloc, &matching, reader, writer)
+    let walk = Walk::new(alloc, &ignore);
+    run_list(alloc, &mut Picker { names, walk }, reader, writer)
 }
 
 /// The set of patterns.

@@ -176,8 +176,8 @@ fn run_on<E: Platform, F: Files, A: Allocator + Copy, R: Read, W: Write>(
     match work {
         Work::Each(task) => {
             let list = request.list;
-            let each = OnPlatform::<E>::new(Settings { task, list });
-            run_list(alloc, &each, reader, writer)
+            let mut each = OnPlatform::<E>::new(Settings { task, list });
+            run_list(alloc, &mut each, reader, writer)
         }
         Work::Picked(form) => {
             run_picked::<E, F, A, R, W>(alloc, files, os, form, request, reader, writer)

@@ -41,13 +41,13 @@ pub(crate) fn run_why<E: Platform, F: Files, A: Allocator + Copy, R: Read, W: Wr
     };
     match read_ignore(alloc, files, options, values) {
         Ok(ignore) => {
-            let reasons = Reasons {
+            let mut reasons = Reasons {
                 values,
                 ignore: &ignore,
                 list: request.list,
                 platform: PhantomData::<E>,
             };
-            run_list(alloc, &reasons, reader, writer)
+            run_list(alloc, &mut reasons, reader, writer)
         }
         Err(fault) => Err(fault),
     }

@@ -1,5 +1,6 @@
 //! What is done with the items of the input.
 ghost use Rattle.std.specs.Prelude.{◌≡◌, ◌-◌, ◌^◌, min};
+ghost use Rattle.names_commands.specs.declared.task.Settings.{Settings as SettingsOf};
 ghost use Rattle.names_commands.specs.Task.{end_of, longest_item, rules_of, with_limit};
 
 use crate::fault::Rejection;
@@ -149,11 +150,11 @@ impl<E> OnPlatform<E> {
 impl<E: Platform> ListTask for OnPlatform<E> {
     type Rejection = Rejection;
 
-    type Memory = ();
+    ghost Planned = { SettingsOf };
 
-    ghost rules = { λ on. rules_of ⟦<E as Platform>⟧ on.settings };
+    ghost plan = { λ on. on.settings };
 
-    ghost remembers = { λ _ _. Unit {0} };
+    ghost rules = { rules_of ⟦<E as Platform>⟧ };
 
     fn end(&self) -> ItemEnd {
         self.settings.task.end(self.settings.list.end)
@@ -171,12 +172,9 @@ impl<E: Platform> ListTask for OnPlatform<E> {
         self.settings.longest_item()
     }
 
-    fn memory(&self) {}
-
     fn write_item<A: Allocator + Copy>(
-        &self,
+        &mut self,
         alloc: A,
-        _memory: &mut (),
         item: &[u8],
         output: &mut Vec<u8, A>,
     ) -> Result<(), ItemFault<Rejection>> {

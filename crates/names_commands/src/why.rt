@@ -38,12 +38,12 @@ pub struct Reasons<'g, E, A: Allocator = Global> {
 impl<'g, E: Platform, B: Allocator + Copy> ListTask for Reasons<'g, E, B> {
     type Rejection = Rejection;
 
-    type Memory = ();
+    ghost Planned = { Self };
+
+    ghost plan = { λ r. r };
 
     ghost rules = { λ r. deciding ⟦<E as Platform>⟧ r.list (map text_of r.values.now)
         (files_of r.ignore.now) };
-
-    ghost remembers = { λ _ _. Unit {0} };
 
     fn end(&self) -> ItemEnd {
         self.list.end
@@ -61,12 +61,9 @@ impl<'g, E: Platform, B: Allocator + Copy> ListTask for Reasons<'g, E, B> {
         self.list.max
     }
 
-    fn memory(&self) {}
-
     fn write_item<A: Allocator + Copy>(
-        &self,
+        &mut self,
         alloc: A,
-        _memory: &mut (),
         item: &[u8],
         output: &mut Vec<u8, A>,
     ) -> Result<(), ItemFault<Rejection>> {
@@ -90,13 +87,8 @@ fn write_decided<E: Platform, A: Allocator + Copy, B: Allocator + Copy>(
     ensures unchanged { OnErr result (output.new.items ≡ output.old.items) }
 {
     let name = named::<E>(item)?;
-    let Ok(text) = text_of_decided::<E, A, B>(alloc, values, ignore, name) else {
-        return Err(ItemFault::Memory);
-    };
-    match output.extend_from_slice(&text) {
-        Ok(()) => Ok(()),
-        Err(_) => Err(ItemFault::Memory),
-    }
+    let text = text_of_decided::<E, A, B>(alloc, values, ignore, name)?;
+    Ok(output.extend_from_slice(&text)?)
 }
 
 /// What is written for a name: the line that decides it, and its escape, or nothing where none does.

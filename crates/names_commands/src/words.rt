@@ -34,10 +34,7 @@ pub(crate) fn write_word<A: Allocator>(
     ensures unchanged { OnErr result (output.new.items ≡ output.old.items) }
 {
     match word_of(alloc, form, OsStr::from_encoded_bytes_unchecked(name)) {
-        Ok(word) => match push_ended(word.as_os_str().as_encoded_bytes(), b'\n', output) {
-            Ok(()) => Ok(()),
-            Err(_) => Err(ItemFault::Memory),
-        },
+        Ok(word) => Ok(push_ended(word.as_os_str().as_encoded_bytes(), b'\n', output)?),
         Err(ShellError::Nul(_)) => unreachable!(),
         Err(ShellError::Memory) => Err(ItemFault::Memory),
     }
@@ -76,10 +73,7 @@ pub(crate) fn write_names<A: Allocator + Copy>(
     }
     let mut names = Vec::new(alloc);
     push_names(alloc, list, line, &mut names)?;
-    match output.extend_from_slice(&names) {
-        Ok(()) => Ok(()),
-        Err(_) => Err(ItemFault::Memory),
-    }
+    Ok(output.extend_from_slice(&names)?)
 }
 
 /// Appends the names of a line's words to a list of names. Where a word is rejected, the list may
@@ -120,10 +114,7 @@ fn push_word<A: Allocator + Copy>(
         ≡ names.old.items ++ (word_bytes word.entry ++ byte_of list.end ∷ [])) }
     ensures fault { IfErr result (λ fault. IsWordFault list (word_bytes word.entry) fault) }
 {
-    let name = match word.to_owned(alloc) {
-        Ok(name) => name.into_encoded_bytes(),
-        Err(_) => return Err(ItemFault::Memory),
-    };
+    let name = word.to_owned(alloc)?.into_encoded_bytes();
     if name.len() > list.max {
         return Err(ItemFault::TooLong);
     }

@@ -38,10 +38,7 @@ pub fn run_given<P: Eprint, A: Allocator + Copy, W: Write>(
     ensures write { (result ≡ Err (OfList (Run Failure.Write)))
         ↔ (has_failed writer.new ≡ true) }
 {
-    let text = match list_of(alloc, paths) {
-        Ok(text) => text,
-        Err(_) => return Err(Fault::List(ListFault::Run(Failure::Memory))),
-    };
+    let text = list_of(alloc, paths)?;
     let mut reader = Marked::new(text.as_slice());
     let list = ListOptions::new(LONGEST_PATH);
     let ran = run_task(

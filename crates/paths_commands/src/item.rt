@@ -155,10 +155,7 @@ fn write_components<E: PathStyle, A: Allocator + Copy>(
     ensures fault { IfErr result (λ fault. fault ≡ Memory) }
     ensures unchanged { OnErr result (output.new.items ≡ output.old.items) }
 {
-    match push_components(alloc, path, output) {
-        Ok(()) => Ok(()),
-        Err(_) => Err(ItemFault::Memory),
-    }
+    Ok(push_components(alloc, path, output)?)
 }
 
 /// Appends the normal form of a path.
@@ -193,10 +190,8 @@ fn write_clean<E: PathStyle, A: Allocator + Copy>(
     ensures fault { IfErr result (λ fault. fault ≡ Memory) }
     ensures unchanged { OnErr result (output.new.items ≡ output.old.items) }
 {
-    match path.clean(alloc) {
-        Ok(clean) => write_answer(clean.as_os_str().as_encoded_bytes(), output),
-        Err(_) => Err(ItemFault::Memory),
-    }
+    let clean = path.clean(alloc)?;
+    write_answer(clean.as_os_str().as_encoded_bytes(), output)
 }
 
 /// Appends a path after a base.
@@ -212,10 +207,8 @@ fn write_joined<E: PathStyle, A: Allocator + Copy>(
     ensures fault { IfErr result (λ fault. fault ≡ Memory) }
     ensures unchanged { OnErr result (output.new.items ≡ output.old.items) }
 {
-    match Path::new(OsStr::new(base)).join(alloc, path) {
-        Ok(joined) => write_answer(joined.as_os_str().as_encoded_bytes(), output),
-        Err(_) => Err(ItemFault::Memory),
-    }
+    let joined = Path::new(OsStr::new(base)).join(alloc, path)?;
+    write_answer(joined.as_os_str().as_encoded_bytes(), output)
 }
 
 /// Appends a path as it is reached from a base, and `.` for the base itself.
@@ -319,10 +312,10 @@ fn write_converted<E: PathStyle, F: PathStyle, A: Allocator + Copy>(
 {
     match path.with_style::<F, A>(alloc) {
         Ok(made) => write_answer(made.as_os_str().as_encoded_bytes(), output),
-        Err(ConvertError::Component(index)) => match shown_component::<E, A>(alloc, path, index) {
-            Ok(text) => Err(ItemFault::Rejected(Rejection::NoComponent(index, text))),
-            Err(_) => Err(ItemFault::Memory),
-        },
+        Err(ConvertError::Component(index)) => {
+            let text = shown_component::<E, A>(alloc, path, index)?;
+            Err(ItemFault::Rejected(Rejection::NoComponent(index, text)))
+        }
         Err(ConvertError::Encoding(fault)) => {
             Err(ItemFault::Rejected(Rejection::NoStringThere(fault)))
         }
@@ -339,8 +332,5 @@ pub fn write_answer<A: Allocator>(
     ensures fault { IfErr result (λ fault. fault ≡ Memory) }
     ensures unchanged { OnErr result (output.new.items ≡ output.old.items) }
 {
-    match output.extend_from_slice(answer) {
-        Ok(()) => Ok(()),
-        Err(_) => Err(ItemFault::Memory),
-    }
+    Ok(output.extend_from_slice(answer)?)
 }

@@ -323,21 +323,21 @@ fn run_on<N: Rejections<Rejection>, A: Allocator, R: Read, W: Write>(
     match os {
         Os::Unix => run_list_with(
             alloc,
-            &OnPlatform::<Unix>::ended(task, list, end),
+            &mut OnPlatform::<Unix>::ended(task, list, end),
             rejections,
             reader,
             writer,
         ),
         Os::Windows => run_list_with(
             alloc,
-            &OnPlatform::<Windows>::ended(task, list, end),
+            &mut OnPlatform::<Windows>::ended(task, list, end),
             rejections,
             reader,
             writer,
         ),
         Os::Wasm => run_list_with(
             alloc,
-            &OnPlatform::<Wasm>::ended(task, list, end),
+            &mut OnPlatform::<Wasm>::ended(task, list, end),
             rejections,
             reader,
             writer,

@@ -108,11 +108,11 @@ impl<'a, E> OnPlatform<'a, E> {
 impl<'a, E: PathStyle> ListTask for OnPlatform<'a, E> {
     type Rejection = Rejection;
 
-    type Memory = ();
+    ghost Planned = { Self };
+
+    ghost plan = { λ on. on };
 
     ghost rules = { λ on. rules_of ⟦<E as Platform>⟧ E.follows on.task on.list on.end };
-
-    ghost remembers = { λ _ _. Unit {0} };
 
     fn end(&self) -> ItemEnd {
         self.list.end
@@ -130,12 +130,9 @@ impl<'a, E: PathStyle> ListTask for OnPlatform<'a, E> {
         self.list.max
     }
 
-    fn memory(&self) {}
-
     fn write_item<A: Allocator + Copy>(
-        &self,
+        &mut self,
         alloc: A,
-        _memory: &mut (),
         item: &[u8],
         output: &mut Vec<u8, A>,
     ) -> Result<(), ItemFault<Rejection>> {

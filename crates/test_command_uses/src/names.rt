@@ -2,7 +2,7 @@
 ghost use Rattle.std.specs.Prelude.{◌≡◌, ◌≢◌, ◌≤◌, ◌∷◌, ◌++◌, ◌⊎◌, [], ℕ, List, true, false, ◌↔◌, IsOk, IsTrue, IfErr, IfOk, IfSome, OnErr, OnOk, length};
 ghost use Rattle.std.specs.Io.KnownBytes.{Appends};
 ghost use Rattle.os_command_line.specs.ShellWriting.{quoted_word};
-ghost use Rattle.os_ignore.specs.Ignores.{files_of};
+ghost use Rattle.os_ignore.specs.Walks.{files_of_walk};
 ghost use Rattle.os_quote.specs.Escape.{IsLineEscape};
 ghost use Rattle.os_str_bytes.specs.EncodingError.{EncodingError};
 ghost use Rattle.os_str_bytes.specs.Strings.{bytes};
@@ -33,7 +33,7 @@ use list_programs::run::run;
 use names_commands::command::{Line, Request, RequestError};
 use names_commands::fault::Rejection;
 use names_commands::laws::{names_come_back, names_come_back_from_words};
-use names_commands::matching::{Form, Matching};
+use names_commands::matching::{Form, Picker};
 use names_commands::task::{EmptyLine, OnPlatform, Settings, Task, WordForm};
 use os_str_bytes::{OsStr, Platform, Unix};
 use program_frame::marked::Marked;
@@ -115,7 +115,12 @@ fn run_over<E: Platform, A: Allocator, W: Write>(
         output)) }
 {
     let mut reader = Marked::new(input);
-    run(alloc, &OnPlatform::<E>::new(settings), &mut reader, writer)
+    run(
+        alloc,
+        &mut OnPlatform::<E>::new(settings),
+        &mut reader,
+        writer,
+    )
 }
 
 /// Joins the lines that were written of names, which gives back the names.
@@ -304,11 +309,11 @@ pub fn returned_line<A: Allocator, W: Write>(
 }
 
 /// Filters one name, which is written with NUL, or not at all, whatever the form and the list that
-/// `picks` has.
+/// `picker` has.
 pub fn filtered<E: Platform, A: Allocator, B: Allocator + Copy, W: Write>(
     alloc: A,
     max: usize,
-    picks: Matching<'_, E, B>,
+    picker: Picker<'_, E, B>,
     name: &[u8],
     writer: &mut Marked<W>,
 ) -> Result<(), ListFault<Rejection>>
@@ -316,30 +321,24 @@ pub fn filtered<E: Platform, A: Allocator, B: Allocator + Copy, W: Write>(
     requires some { name.now ≢ [] }
     requires unmarked { has_failed writer.old ≡ false }
     ensures { OnOk result ((text : List ℕ)
-        × (((IsPickedBy ⟦<E as Platform>⟧ picks.entry.inverted picks.entry.globs
-        (files_of picks.entry.ignore.now) name.now
+        × (((IsPickedBy ⟦<E as Platform>⟧ picker.entry.names.inverted picker.entry.names.globs
+        (files_of_walk picker.entry.walk) name.now
         × (text ≡ name.now ++ 0 ∷ []))
-        ⊎ ((¬ (IsPickedBy ⟦<E as Platform>⟧ picks.entry.inverted picks.entry.globs
-        (files_of picks.entry.ignore.now)
+        ⊎ ((¬ (IsPickedBy ⟦<E as Platform>⟧ picker.entry.names.inverted picker.entry.names.globs
+        (files_of_walk picker.entry.walk)
         name.now)) × (text ≡ [])))
         × Appends (W.contents (marked_inner writer.old)) (W.contents (marked_inner writer.new))
         text)) }
 {
     let mut reader = Marked::new(name);
-    let list = ListOptions {
+    let mut picker = picker;
+    picker.names.form = Form::Name;
+    picker.names.list = ListOptions {
         end: ItemEnd::Nul,
         last: LastItem::MayLackEnd,
         max,
     };
-    let matching = Matching {
-        alloc: picks.alloc,
-        globs: picks.globs,
-        ignore: picks.ignore,
-        inverted: picks.inverted,
-        form: Form::Name,
-        list,
-    };
-    run(alloc, &matching, &mut reader, writer)
+    run(alloc, &mut picker, &mut reader, writer)
 }
 
 /// Lists one name, which is written as its escape on a line, and not past the limit.

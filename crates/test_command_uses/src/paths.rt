@@ -103,7 +103,7 @@ fn ask<E: PathStyle, A: Allocator, W: Write>(
     let mut reader = Marked::new(input);
     run(
         alloc,
-        &OnPlatform::<E>::new(task, list),
+        &mut OnPlatform::<E>::new(task, list),
         &mut reader,
         writer,
     )
@@ -129,8 +129,8 @@ pub fn requested_on<E: PathStyle, P: Eprint, A: Allocator, W: Write>(
 {
     let mut reader = Marked::new(input);
     let mut rejections = KeepGoing::new("paths", errors);
-    let on = OnPlatform::<E>::new(task, list);
-    let ran = run_with(alloc, &on, &mut rejections, &mut reader, writer);
+    let mut on = OnPlatform::<E>::new(task, list);
+    let ran = run_with(alloc, &mut on, &mut rejections, &mut reader, writer);
     (rejections.count(), ran)
 }
 

@@ -107,11 +107,11 @@ same_but known A p form list inverted folds Chosen Other same names input left o
 same_but known A p form list inverted folds Chosen Other same names input left old new answer (inr k) = inr (k.0, k.1, same_runs p form list (IsPicked inverted Chosen k.0) (IsPicked inverted Other k.0) (picked_alike inverted Chosen Other k.0 same) OfList input left old new answer k.2)
 
 -- a name that is chosen is picked where the files don't ignore its text
-pub picked_shown : {A : Type 0} (Chosen : List ℕ → Type 0) (files its_files : List (File A)) (name text : List ℕ) (shown : Bool) → its_files ≡ files → text ≡ name → Chosen name
-    → ((shown ≡ true) ↔ (¬ (IsIgnored its_files text))) → ((shown ≡ true) ↔ IsPicked false Chosen files name)
-picked_shown Chosen files its_files name text shown f t chosen said = (
-  λ yes. (chosen, subst (λ n. ¬ (IsIgnored files n)) t (subst (λ z. ¬ (IsIgnored z text)) f (said.0 yes))),
-  λ k. said.1 (subst (λ z. ¬ (IsIgnored z text)) (sym f) (subst (λ n. ¬ (IsIgnored files n)) (sym t) k.1)),
+pub picked_shown : {A : Type 0} (Chosen : List ℕ → Type 0) (files : List (File A)) (name text : List ℕ) (shown : Bool) → text ≡ name → Chosen name
+    → ((shown ≡ true) ↔ (¬ (IsIgnored files text))) → ((shown ≡ true) ↔ IsPicked false Chosen files name)
+picked_shown Chosen files name text shown t chosen said = (
+  λ yes. (chosen, subst (λ n. ¬ (IsIgnored files n)) t (said.0 yes)),
+  λ k. said.1 (subst (λ n. ¬ (IsIgnored files n)) (sym t) k.1),
 )
 
 -- a name is picked, inverted, where it doesn't match

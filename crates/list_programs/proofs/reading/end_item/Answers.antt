@@ -9,7 +9,7 @@ use Rattle.list_programs.proofs.reading.end_item.Goals as goal
 
 pub returns-then-last-longest_item : goal.returns-then-last-longest_item
 returns-then-last-longest_item g c =
-    let list = g.T.ListTask.rules c.args.task.now in
+    let list = g.T.ListTask.rules (g.T.ListTask.plan c.args.task.now) in
     let last = c.args.last.now in
     let none = eqb-true _ _ (sym c.is_empty.ensures ∙ c.if-is_empty.true) in
     let empty : c.args.begun.now.items ≡ [] = nil_from_length c.args.begun.now.items (sym c.args.begun.now.ok.0 ∙ none) in
@@ -27,24 +27,24 @@ returns-then-last-longest_item g c =
       unchanged = written.unchanged;
       more = written.more;
       ends = written.ends;
-      memory = written.memory;
+      plan = written.plan;
     }
 
 pub returns-in-Err : goal.returns-in-Err
 returns-in-Err g c =
-    let list = g.T.ListTask.rules c.args.task.now in record {
+    let list = g.T.ListTask.rules (g.T.ListTask.plan c.args.task.now) in record {
       ok = tt;
       none = tt;
       fault = of_kept list c.args.number (c.args.begun.now.items ++ c.args.last.now) c.in-Err.fault c.in-Err.ensures.fault;
       unchanged = refl;
       more = omega arith;
       ends = ends_any g.N.Rejections.stops c.in-Err.fault c.in-Err.ensures.ends;
-      memory = c.requires.memory;
+      plan = refl;
     }
 
 pub returns-in-Err-write_at : goal.returns-in-Err-write_at
 returns-in-Err-write_at g c =
-    let list = g.T.ListTask.rules c.args.task.now in
+    let list = g.T.ListTask.rules (g.T.ListTask.plan c.args.task.now) in
     let whole = c.deref.ensures.value ∙ c.in-Ok.ensures.kept in
     let written = c.in-Err-write_at.ensures in record {
       ok = tt;
@@ -53,12 +53,12 @@ returns-in-Err-write_at g c =
       unchanged = written.unchanged;
       more = written.more;
       ends = written.ends;
-      memory = written.memory;
+      plan = written.plan;
     }
 
 pub returns : goal.returns
 returns g c =
-    let list = passing (g.N.Rejections.passed c.write_at-2.new.rejections) (g.T.ListTask.rules c.args.task.now) in
+    let list = passing (g.N.Rejections.passed c.write_at-2.new.rejections) (g.T.ListTask.rules (g.T.ListTask.plan c.args.task.now)) in
     let kept = c.in-Ok.ensures.kept in
     let written = c.in-Ok-write_at.ensures in
     let text = written.ok in record {
@@ -76,5 +76,5 @@ returns g c =
       unchanged = tt;
       more = written.more;
       ends = tt;
-      memory = written.memory;
+      plan = written.plan;
     }

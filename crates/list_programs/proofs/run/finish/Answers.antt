@@ -28,23 +28,21 @@ returns-then-is_empty g c =
       marked = (λ e. absurd (no_err e), λ set. absurd (false≢true (sym c.requires.unmarked ∙ set)));
       more = omega arith;
       ends = tt;
-      memory = c.requires.memory;
     }
 
 pub returns : goal.returns
 returns g c =
     let taken = c.takes_unended.ensures.0 c.if-not-takes_unended.false in
-    let rejected = λ (why : Failure). item_memory (g.T.ListTask.rules c.args.task.now) {X = ⊤} _ _ _ why c.in-Err.ensures.fault in record {
+    let rejected = λ (why : Failure). item_memory (g.T.ListTask.rules (g.T.ListTask.plan c.args.task.now)) {X = ⊤} _ _ _ why c.in-Err.ensures.fault in record {
       ok = tt;
-      stopped = λ _. of_item (g.T.ListTask.rules c.args.task.now) _ _ _ c.in-Err.ensures.fault;
-      ended = at_end (g.T.ListTask.rules c.args.task.now) _ _ _ taken c.in-Err.ensures.fault;
+      stopped = λ _. of_item (g.T.ListTask.rules (g.T.ListTask.plan c.args.task.now)) _ _ _ c.in-Err.ensures.fault;
+      ended = at_end (g.T.ListTask.rules (g.T.ListTask.plan c.args.task.now)) _ _ _ taken c.in-Err.ensures.fault;
       unchanged = λ _. refl;
       beginning = λ e. absurd (write_no_memory (rejected Write e));
       no_read = λ e. read_no_memory (rejected Read e);
       marked = (λ e. absurd (write_no_memory (rejected Write e)), λ set. absurd (false≢true (sym c.requires.unmarked ∙ set)));
       more = c.in-Err.ensures.more;
       ends = c.in-Err.ensures.ends;
-      memory = c.in-Err.ensures.memory;
     }
 
 pub returns-in-Ok : goal.returns-in-Ok
@@ -54,19 +52,18 @@ returns-in-Ok g c =
     let old = g.W.Write.contents (marked_inner c.args.writer.now) in
     let new = g.W.Write.contents (marked_inner c.write_output.new.writer) in
     let same = c.deref.ensures.value ∙ text.1.1 ∙ ap (λ x. x ++ text.0) c.new-output.ensures.items in
-    let last : IsLast (passing (g.N.Rejections.passed c.write_at.new.rejections) (g.T.ListTask.rules c.args.task.now)) c.args.begun.now text.0 = record {
+    let last : IsLast (passing (g.N.Rejections.passed c.write_at.new.rejections) (g.T.ListTask.rules (g.T.ListTask.plan c.args.task.now))) c.args.begun.now text.0 = record {
       some = λ none. false≢true (sym c.if-is_empty.false ∙ c.is_empty.ensures ∙ ap (λ x. length x == 0) none);
       taken = c.takes_unended.ensures.0 c.if-not-takes_unended.false;
       entry = record { whole = c.requires.begun.whole; short = c.requires.begun.short; text = text.1.0 };
     } in record {
       ok = on_ok_weaker c.write_output.result (λ all. (text.0, (inr last, subst (Appends old new) same all))) written.written;
       stopped = IfErr-weaker c.write_output.result _ _ (λ fault is not_write. absurd (not_write is)) written.fault;
-      ended = IfErr-weaker c.write_output.result _ _ (λ fault is. subst (λ f. IsEnded (g.T.ListTask.rules c.args.task.now) f []) (sym is) tt) written.fault;
+      ended = IfErr-weaker c.write_output.result _ _ (λ fault is. subst (λ f. IsEnded (g.T.ListTask.rules (g.T.ListTask.plan c.args.task.now)) f []) (sym is) tt) written.fault;
       unchanged = IfErr-weaker c.write_output.result _ _ (λ fault is not_write. absurd (not_write is)) written.fault;
       beginning = λ e. (text.0, (last, subst (AppendsBeginning old new) same (written.beginning e)));
       no_read = written.no_read;
       marked = written.marked;
       more = c.in-Ok.ensures.more;
       ends = IfErr-weaker c.write_output.result _ _ (λ fault is. subst (EndsRun (g.N.Rejections.stops)) (sym is) tt) written.fault;
-      memory = c.in-Ok.ensures.memory;
     }

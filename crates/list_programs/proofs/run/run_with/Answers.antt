@@ -23,44 +23,44 @@ all_err (Err e) P Q R S f h k l = f e h k l
 
 pub loop-alloc-init : goal.loop-alloc-init
 loop-alloc-init g c =
-    let list = passing (g.N.Rejections.passed c.args.rejections.now) (g.T.ListTask.rules c.args.task.now) in
+    let list = passing (g.N.Rejections.passed c.args.rejections.now) (g.T.ListTask.rules (g.T.ListTask.plan c.args.task.now)) in
     let input = g.R.Read.remaining (marked_inner c.args.reader.now) in
     let old = g.W.Write.contents (marked_inner c.args.writer.now) in record {
       read = subst (λ begun. HasRead list input input old old begun 0 0) (sym c.new-begun.ensures.items) (nothing_read list input old);
       within = omega arith;
       reader_unmarked = c.requires.reader_unmarked;
       writer_unmarked = c.requires.writer_unmarked;
-      memory = c.memory-memory.ensures;
+      plan = refl;
     }
 
 pub finish-requires-clause-counted : goal.finish-requires-clause-counted
-finish-requires-clause-counted g c = omega (arith, counted (passing (g.N.Rejections.passed c.loop-alloc.rejections) (g.T.ListTask.rules c.args.task.now)) _ _ (g.R.Read.remaining (marked_inner c.loop-alloc.reader)) _ _ (g.W.Write.contents (marked_inner c.loop-alloc.writer)) _ _ _ c.loop-alloc.invariant.read, c.loop-alloc.invariant.within)
+finish-requires-clause-counted g c = omega (arith, counted (passing (g.N.Rejections.passed c.loop-alloc.rejections) (g.T.ListTask.rules (g.T.ListTask.plan c.loop-alloc.task))) _ _ (g.R.Read.remaining (marked_inner c.loop-alloc.reader)) _ _ (g.W.Write.contents (marked_inner c.loop-alloc.writer)) _ _ _ c.loop-alloc.invariant.read, c.loop-alloc.invariant.within)
 
 pub write_block-requires-clause-counted : goal.write_block-requires-clause-counted
 write_block-requires-clause-counted g c =
     let most : length (take c.in-Ok.size c.read.new.buf) ≡ c.in-Ok.size = sym c.in-Ok.ensures.bound.1 in
-    omega (arith, counted (passing (g.N.Rejections.passed c.loop-alloc.rejections) (g.T.ListTask.rules c.args.task.now)) _ _ (g.R.Read.remaining (marked_inner c.loop-alloc.reader)) _ _ (g.W.Write.contents (marked_inner c.loop-alloc.writer)) _ _ _ c.loop-alloc.invariant.read, c.if-size-total.false, most)
+    omega (arith, counted (passing (g.N.Rejections.passed c.loop-alloc.rejections) (g.T.ListTask.rules (g.T.ListTask.plan c.loop-alloc.task))) _ _ (g.R.Read.remaining (marked_inner c.loop-alloc.reader)) _ _ (g.W.Write.contents (marked_inner c.loop-alloc.writer)) _ _ _ c.loop-alloc.invariant.read, c.if-size-total.false, most)
 
 pub returns-in-Ok-eq0 : goal.returns-in-Ok-eq0
 returns-in-Ok-eq0 g c =
-    let list = passing (g.N.Rejections.passed c.finish.new.rejections) (g.T.ListTask.rules c.args.task.now) in
-    let read = later_has_read (g.T.ListTask.rules c.args.task.now) _ (g.N.Rejections.passed c.finish.new.rejections) c.finish.ensures.more _ _ _ _ _ _ _ c.loop-alloc.invariant.read in
+    let list = passing (g.N.Rejections.passed c.finish.new.rejections) (g.T.ListTask.rules (g.T.ListTask.plan c.loop-alloc.task)) in
+    let read = later_has_read (g.T.ListTask.rules (g.T.ListTask.plan c.loop-alloc.task)) _ (g.N.Rejections.passed c.finish.new.rejections) c.finish.ensures.more _ _ _ _ _ _ _ c.loop-alloc.invariant.read in
     let consumed = subst (λ n. Consumes (g.R.Read.remaining (marked_inner c.loop-alloc.reader)) (g.R.Read.remaining (marked_inner c.read.new.self)) (take n c.read.new.buf)) c.in-Ok-eq0.field-0-test c.in-Ok-eq0.ensures.bytes.0 in
     let room : 0 < length c.read.new.buf = search rules in
     let end = c.in-Ok-eq0.ensures.bytes.1 c.in-Ok-eq0.field-0-test room in
     let unread = c.in-Ok-eq0.ensures.mark ∙ ap (λ x. x || false) c.loop-alloc.invariant.reader_unmarked in record {
       all_read = OnOk-from c.finish.result end;
-      written = on_ok_weaker c.finish.result
+      written = rw (← c.loop-alloc.invariant.plan) (on_ok_weaker c.finish.result
           (λ text. finished list _ _ _ _ _ _ _ _ _ read text.0 consumed end (subst (λ x. Finishes list x text.0) c.deref.ensures.value text.1.0) text.1.1)
-          c.finish.ensures.ok;
-      stopped = all_err c.finish.result _ _ _ _
+          c.finish.ensures.ok);
+      stopped = rw (← c.loop-alloc.invariant.plan) (all_err c.finish.result _ _ _ _
           (λ fault item same ended not_write.
           subst (λ w. WritesUpTo list fault (g.R.Read.remaining (marked_inner c.args.reader.now)) (g.W.Write.contents (marked_inner c.args.writer.now)) (g.W.Write.contents (marked_inner w))) (sym (same not_write))
           (last_rejected list _ _ _ _ _ (g.W.Write.contents (marked_inner c.loop-alloc.writer)) _ _ _ read fault consumed end (subst (λ x. IsRejected list (c.loop-alloc.count + 1) x fault) c.deref.ensures.value (item not_write)) ended))
-          c.finish.ensures.stopped c.finish.ensures.unchanged c.finish.ensures.ended;
+          c.finish.ensures.stopped c.finish.ensures.unchanged c.finish.ensures.ended);
       beginning = λ e.
           let text = c.finish.ensures.beginning e in
-          last_half list _ _ _ _ _ _ _ _ _ read text.0 consumed end (subst (λ x. IsLast list x text.0) c.deref.ensures.value text.1.0) text.1.1;
+          rw (← c.loop-alloc.invariant.plan) (last_half list _ _ _ _ _ _ _ _ _ read text.0 consumed end (subst (λ x. IsLast list x text.0) c.deref.ensures.value text.1.0) text.1.1);
       ends = c.finish.ensures.ends;
       read = (λ e. absurd (c.finish.ensures.no_read e), λ set. absurd (false≢true (sym unread ∙ set)));
       write = c.finish.ensures.marked;
@@ -70,7 +70,7 @@ pub returns-in-Err : goal.returns-in-Err
 returns-in-Err g c = record {
   all_read = tt;
   written = tt;
-  stopped = λ not_write. so_far (passing (g.N.Rejections.passed c.loop-alloc.rejections) (g.T.ListTask.rules c.args.task.now)) _ _ (g.R.Read.remaining (marked_inner c.loop-alloc.reader)) _ _ (g.W.Write.contents (marked_inner c.loop-alloc.writer)) _ _ _ c.loop-alloc.invariant.read Read;
+  stopped = λ not_write. rw (← c.loop-alloc.invariant.plan) (so_far (passing (g.N.Rejections.passed c.loop-alloc.rejections) (g.T.ListTask.rules (g.T.ListTask.plan c.loop-alloc.task))) _ _ (g.R.Read.remaining (marked_inner c.loop-alloc.reader)) _ _ (g.W.Write.contents (marked_inner c.loop-alloc.writer)) _ _ _ c.loop-alloc.invariant.read Read);
   beginning = λ e. absurd (write_no_read (sym e));
   ends = tt;
   read = (λ _. c.in-Err.ensures.mark ∙ or_right _ true refl, λ _. refl);
@@ -83,7 +83,7 @@ returns-then-size-total g c =
     let unread = c.in-Ok.ensures.mark ∙ ap (λ x. x || false) c.loop-alloc.invariant.reader_unmarked in record {
       all_read = tt;
       written = tt;
-      stopped = λ not_write. too_much (passing (g.N.Rejections.passed c.loop-alloc.rejections) (g.T.ListTask.rules c.args.task.now)) _ _ _ _ _ (g.W.Write.contents (marked_inner c.loop-alloc.writer)) _ _ _ c.loop-alloc.invariant.read _ c.in-Ok.ensures.bytes.0 (omega (arith, c.if-size-total.true, most));
+      stopped = λ not_write. rw (← c.loop-alloc.invariant.plan) (too_much (passing (g.N.Rejections.passed c.loop-alloc.rejections) (g.T.ListTask.rules (g.T.ListTask.plan c.loop-alloc.task))) _ _ _ _ _ (g.W.Write.contents (marked_inner c.loop-alloc.writer)) _ _ _ c.loop-alloc.invariant.read _ c.in-Ok.ensures.bytes.0 (omega (arith, c.if-size-total.true, most)));
       beginning = λ e. absurd (too_much_no_run e);
       ends = tt;
       read = (λ e. absurd (too_much_no_run e), λ set. absurd (false≢true (sym unread ∙ set)));
@@ -92,31 +92,31 @@ returns-then-size-total g c =
 
 pub loop-alloc-preserved : goal.loop-alloc-preserved
 loop-alloc-preserved g c =
-    let read = later_has_read (g.T.ListTask.rules c.args.task.now) _ (g.N.Rejections.passed c.write_block.new.rejections) c.in-Ok-write_block.ensures.more _ _ _ _ _ _ _ c.loop-alloc.invariant.read in
+    let read = later_has_read (g.T.ListTask.rules (g.T.ListTask.plan c.loop-alloc.task)) _ (g.N.Rejections.passed c.write_block.new.rejections) c.in-Ok-write_block.ensures.more _ _ _ _ _ _ _ c.loop-alloc.invariant.read in
     let most : length (take c.in-Ok.size c.read.new.buf) ≡ c.in-Ok.size = sym c.in-Ok.ensures.bound.1 in
     let consumed = c.in-Ok.ensures.bytes.0 in
     let text = c.in-Ok-write_block.ensures.ok in record {
-      read = more_read (passing (g.N.Rejections.passed c.write_block.new.rejections) (g.T.ListTask.rules c.args.task.now)) _ _ _ _ _ _ _ _ _ read _ _ text.0 _ _ consumed text.1.0 text.1.1 (omega (arith, most));
+      read = rw c.in-Ok-write_block.ensures.plan (more_read (passing (g.N.Rejections.passed c.write_block.new.rejections) (g.T.ListTask.rules (g.T.ListTask.plan c.loop-alloc.task))) _ _ _ _ _ _ _ _ _ read _ _ text.0 _ _ consumed text.1.0 text.1.1 (omega (arith, most)));
       within = omega (arith, c.if-size-total.false, c.loop-alloc.invariant.within);
       reader_unmarked = c.in-Ok.ensures.mark ∙ ap (λ x. x || false) c.loop-alloc.invariant.reader_unmarked;
       writer_unmarked = unset _ (λ set. no_err (c.in-Ok-write_block.ensures.marked.1 set));
-      memory = c.in-Ok-write_block.ensures.memory;
+      plan = c.in-Ok-write_block.ensures.plan ∙ c.loop-alloc.invariant.plan;
     }
 
 pub returns-in-Err-write_block : goal.returns-in-Err-write_block
 returns-in-Err-write_block g c =
-    let list = passing (g.N.Rejections.passed c.write_block.new.rejections) (g.T.ListTask.rules c.args.task.now) in
-    let read = later_has_read (g.T.ListTask.rules c.args.task.now) _ (g.N.Rejections.passed c.write_block.new.rejections) c.in-Err-write_block.ensures.more _ _ _ _ _ _ _ c.loop-alloc.invariant.read in
+    let list = passing (g.N.Rejections.passed c.write_block.new.rejections) (g.T.ListTask.rules (g.T.ListTask.plan c.loop-alloc.task)) in
+    let read = later_has_read (g.T.ListTask.rules (g.T.ListTask.plan c.loop-alloc.task)) _ (g.N.Rejections.passed c.write_block.new.rejections) c.in-Err-write_block.ensures.more _ _ _ _ _ _ _ c.loop-alloc.invariant.read in
     let consumed = c.in-Ok.ensures.bytes.0 in
     let unread = c.in-Ok.ensures.mark ∙ ap (λ x. x || false) c.loop-alloc.invariant.reader_unmarked in record {
       all_read = tt;
       written = tt;
       stopped = λ not_write.
           let text = c.in-Err-write_block.ensures.stopped not_write in
-          stopped list _ _ _ _ _ _ _ _ _ read _ text.0 c.in-Err-write_block.fault consumed text.1.0 text.1.1;
+          rw (← c.loop-alloc.invariant.plan) (stopped list _ _ _ _ _ _ _ _ _ read _ text.0 c.in-Err-write_block.fault consumed text.1.0 text.1.1);
       beginning = λ e.
           let text = c.in-Err-write_block.ensures.beginning (other_err ⊤ ℕ _ _ e) in
-          half_written list _ _ _ _ _ _ _ _ _ read _ text.0 consumed text.1.0 text.1.1;
+          rw (← c.loop-alloc.invariant.plan) (half_written list _ _ _ _ _ _ _ _ _ read _ text.0 consumed text.1.0 text.1.1);
       ends = c.in-Err-write_block.ensures.ends;
       read = (λ e. absurd (c.in-Err-write_block.ensures.no_read (other_err ⊤ ℕ _ _ e)), λ set. absurd (false≢true (sym unread ∙ set)));
       write = (λ e. c.in-Err-write_block.ensures.marked.0 (other_err ⊤ ℕ _ _ e), λ set. other_err ℕ ⊤ _ _ (c.in-Err-write_block.ensures.marked.1 set));

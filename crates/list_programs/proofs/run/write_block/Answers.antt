@@ -13,7 +13,7 @@ use Rattle.list_programs.proofs.run.write_block.Goals as goal
 
 pub returns-in-Ok : goal.returns-in-Ok
 returns-in-Ok g c =
-    let list = passing (g.N.Rejections.passed c.read_block-ended.new.rejections) (g.T.ListTask.rules c.args.task.now) in
+    let list = passing (g.N.Rejections.passed c.read_block-ended.new.rejections) (g.T.ListTask.rules (g.T.ListTask.plan c.args.task.now)) in
     let answer = c.read_block-ended.result in
     let read = c.read_block-ended.ensures in
     let text = c.read_block-ended.new.output.items in
@@ -31,7 +31,7 @@ returns-in-Ok g c =
       marked = (λ e. absurd (write_no_memory (rejected Write e)), λ set. absurd (no_err (c.in-Ok.ensures.marked.1 set)));
       more = read.more;
       ends = read.ends;
-      memory = read.memory;
+      plan = read.plan;
     }
 
 pub returns : goal.returns
@@ -43,7 +43,7 @@ returns g c =
       beginning = λ e. (
         text,
         (
-          block_begins (passing (g.N.Rejections.passed c.read_block-ended.new.rejections) (g.T.ListTask.rules c.args.task.now)) c.read_block-ended.result _ c.read_block-ended.new.begun.items _ _ text _ c.new-output.ensures.items read.ok read.fault,
+          block_begins (passing (g.N.Rejections.passed c.read_block-ended.new.rejections) (g.T.ListTask.rules (g.T.ListTask.plan c.args.task.now))) c.read_block-ended.result _ c.read_block-ended.new.begun.items _ _ text _ c.new-output.ensures.items read.ok read.fault,
           subst (AppendsBeginning (g.W.Write.contents (marked_inner c.args.writer.now)) (g.W.Write.contents (marked_inner c.write_output.new.writer))) c.deref.ensures.value (c.in-Err.ensures.beginning (other_err ℕ ⊤ _ _ e)),
         ),
       );
@@ -51,5 +51,5 @@ returns g c =
       marked = (λ e. c.in-Err.ensures.marked.0 (other_err ℕ ⊤ _ _ e), λ set. other_err ⊤ ℕ _ _ (c.in-Err.ensures.marked.1 set));
       more = read.more;
       ends = subst (EndsRun (g.N.Rejections.stops)) (sym c.in-Err.ensures.fault) tt;
-      memory = read.memory;
+      plan = read.plan;
     }

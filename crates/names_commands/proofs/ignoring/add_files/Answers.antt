@@ -9,5 +9,5 @@ loop-value-preserved g c =
     let known = g.F.Files.known c.args.files.now in
     let values = map text_of c.args.values.now in
     let so_far = subst (λ left. AreReadSoFar c.args.options.case_insensitive known values left c.loop-value.added (files_of c.loop-value.ignore)) c.in-Some.ensures.first c.loop-value.invariant in
-    let file = c.in-Ok.ensures.added in
+    let file = c.in_ok-add_file.ensures.added in
     one_read c.args.options.case_insensitive known values _ c.loop-value.added (record { value = c.in-Some.value.now; directory = file.0; name = file.1; content = file.2 }) (files_of c.loop-value.ignore) (files_of c.add_file.new.ignore) so_far (file.3.0, file.3.1.0) file.3.1.1

@@ -1,7 +1,7 @@
 use Rattle.std.proofs.Common.{Some, subst}
 use Rattle.std.specs.Prelude.{OnOk}
 use Rattle.std.proofs.lemmas.Result.{on_ok_weaker}
-use Rattle.os_ignore.specs.Ignores.{files_of}
+use Rattle.os_ignore.specs.Walks.{files_of_walk}
 use Rattle.list_programs.specs.ListRun.{WritesOutput}
 use Rattle.program_frame.specs.Marked.{marked_inner}
 use Rattle.names_commands.specs.declared.matching.Form.TheVariants.{Name}
@@ -13,9 +13,9 @@ use Rattle.test_command_uses.proofs.names.filtered.Goals as goal
 pub returns : goal.returns
 returns g c =
     let P = g.E.Platform in
-    let picks = c.args.picks in
+    let picker = c.args.picker in
     let name = c.args.name.now in
-    let Picked = IsPickedBy P picks.inverted picks.globs (files_of picks.ignore.now) in
+    let Picked = IsPickedBy P picker.names.inverted picker.names.globs (files_of_walk picker.walk) in
     let written = subst (λ b. OnOk c.run.result (WritesOutput (picking P Name (unended c.args.max) Picked) (Some b.now) (g.W.Write.contents (marked_inner c.args.writer.now)) (g.W.Write.contents (marked_inner c.run.new.writer)))) c.new-reader.ensures.inner c.run.ensures.written in
     on_ok_weaker c.run.result
     (λ w. (w.0, (known_filtered P Picked c.args.max name w.0 c.requires.whole c.requires.some w.1.0, w.1.1)))
