@@ -1,7 +1,8 @@
 //! Pieces taken by a sink: what a formatter, a buffer or a vector holds after two of them.
-ghost use Rattle.std.specs.Prelude.{◌≡◌, ◌+◌, ◌<◌, ◌^◌, ◌++◌, [], ◌∷◌, codes, decimal, length, map, take, IfSome, IsTrue, OnOk};
+ghost use Rattle.std.specs.Prelude.{◌≡◌, ◌+◌, ◌<◌, ◌^◌, ◌++◌, [], ◌∷◌, codes, decimal, length, map, take, IfSome, IsTrue, OnErr, OnOk};
 ghost use Rattle.std.specs.Fmt.{WritesStyledOnOk};
 ghost use Rattle.platform_str.specs.Sinks.{Takes};
+ghost use Rattle.wtf8_core.specs.Occurrence.{IsPrefix};
 ghost use Rattle.platform_str.specs.Strings.{bytes};
 
 use platform_str::{OsStr, Platform, Sink, TruncatedBuffer, string_at, write_number};
@@ -28,9 +29,13 @@ pub fn print_both<W: fmt::Write>(
     take_both(first, second, f)
 }
 
-/// Appends two texts to a vector.
+/// Appends two texts to a vector. If an allocation fails, the vector still has what it had, and
+/// nothing else than a prefix of the texts after that.
 pub fn push_both<A: Allocator>(vector: &mut Vec<u8, A>, first: &str, second: &str) -> fmt::Result
-    ensures { OnOk result (vector.new.items ≡ vector.old.items ++ (first.now ++ second.now)) }
+    ensures both { OnOk result (vector.new.items ≡ vector.old.items ++ (first.now ++ second.now)) }
+    ensures kept { OnErr result (IsPrefix vector.old.items vector.new.items) }
+    ensures nothing_else { OnErr result
+        (IsPrefix vector.new.items (vector.old.items ++ (first.now ++ second.now))) }
 {
     take_both(first, second, vector)
 }
