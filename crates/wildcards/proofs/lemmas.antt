@@ -17,3 +17,6 @@ pub mod Adding
 pub mod Orders
 pub mod Beginnings
 pub mod Items
+pub mod Bits
+pub mod Flags
+pub mod Places

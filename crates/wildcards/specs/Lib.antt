@@ -11,6 +11,8 @@ pub mod Items
 pub mod Groups
 pub mod Cuts
 pub mod Steps
+pub mod Flags
+pub mod Places
 pub mod Ends
 pub mod PathSteps
 pub mod Sets

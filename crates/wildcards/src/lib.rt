@@ -8,6 +8,7 @@
 //! The crates that use this one define how the text of a pattern is read.
 #![tactic(auto)]
 
+mod automaton;
 mod candidates;
 mod class;
 mod class_name;

@@ -6,6 +6,7 @@ ghost use Rattle.wildcards.specs.Wild.{Wild};
 ghost use Rattle.wildcards.specs.Steps.{PartStepSays, IsLetterStep, IsFromByte, SkipsTo, AreLastMatched};
 ghost use Rattle.wildcards.specs.Ends.{BeginsOtherwise, EndsOtherwise};
 
+use crate::automaton::is_after_many_by_flags;
 use crate::letters::Letters;
 use crate::piece::{Item, Piece};
 use std::alloc::Allocator;
@@ -23,7 +24,7 @@ enum Step<'p, 'a, A: Allocator> {
 
 /// The first letter of bytes, and the bytes after it.
 #[inline(always)]
-fn first_letter<L: Letters>(text: &[u8]) -> Option<(u32, &[u8])>
+pub(crate) fn first_letter<L: Letters>(text: &[u8]) -> Option<(u32, &[u8])>
     requires { L.formed text.now }
     ensures { IsLetterStep L.formed L.letters text.entry.now result }
 {
@@ -99,6 +100,10 @@ fn from_first<'a, L: Letters, A: Allocator>(pieces: &[Piece<Item<A>>], text: &'a
     from_byte(*letter as u8, text)
 }
 
+/// The number of places of a component that are tried in vain before each letter that is left is
+/// read once. A file name has no more.
+const PLACES: u8 = 255;
+
 /// Whether pieces match after any number of letters.
 fn is_after_many<L: Letters, A: Allocator>(pieces: &[Piece<Item<A>>], text: &[u8]) -> bool
     requires { L.formed text.now }
@@ -107,6 +112,7 @@ fn is_after_many<L: Letters, A: Allocator>(pieces: &[Piece<Item<A>>], text: &[u8
 {
     let mut left = pieces;
     let mut from = text;
+    let mut places = PLACES;
     loop {
         if left.is_empty() {
             return true;
@@ -123,6 +129,14 @@ fn is_after_many<L: Letters, A: Allocator>(pieces: &[Piece<Item<A>>], text: &[u8
                     return false;
                 };
                 from = more;
+                if places > 0 {
+                    places -= 1;
+                    continue;
+                }
+                if let Some(found) = is_after_many_by_flags::<L, A>(left, from) {
+                    return found;
+                }
+                places = PLACES;
             }
         }
     }

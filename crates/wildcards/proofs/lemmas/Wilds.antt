@@ -65,7 +65,7 @@ module _ {X A : Type 0} (T : A → Type 0) (F : X → A → Type 0) (same : (x :
           let g : b ≡ a = cc in
           inr (subst T g t.0, record { skipped = s; rest = m.rest; joined = f; taken = t.1; after = m.after })
 
-  run_at_end : (qs : List (Piece X)) → Wild T F (Many ∷ qs) [] → Wild T F qs []
+  pub run_at_end : (qs : List (Piece X)) → Wild T F (Many ∷ qs) [] → Wild T F qs []
   run_at_end qs m = go m.skipped m.joined
     where
       go : (s : List A) → [] ≡ s ++ m.rest → Wild T F qs []

@@ -25,3 +25,15 @@ pub loop-left-preserved : goal.loop-left-preserved
 loop-left-preserved g c =
     let first = c.in-Some.ensures in
     (next_place TakesLetter Fits by_letters _ _ _ _ (skipped_after TakesLetter Fits by_letters _ _ _ _ c.loop-left.invariant.0 _ c.from_first-from.ensures.alike) c.in-Differs.ensures _ _ first.letters_are tt, first.formed_after)
+
+pub loop-left-preserved-then-places-gt0 : goal.loop-left-preserved-then-places-gt0
+loop-left-preserved-then-places-gt0 g c =
+    let first = c.in-Some.ensures in
+    (next_place TakesLetter Fits by_letters _ _ _ _ (skipped_after TakesLetter Fits by_letters _ _ _ _ c.loop-left.invariant.0 _ c.from_first-from.ensures.alike) c.in-Differs.ensures _ _ first.letters_are tt, first.formed_after)
+
+pub returns-in-Some-is_after_many_by_flags : goal.returns-in-Some-is_after_many_by_flags
+returns-in-Some-is_after_many_by_flags g c =
+    let first = c.in-Some.ensures in
+    let after = next_place TakesLetter Fits by_letters _ _ _ _ (skipped_after TakesLetter Fits by_letters _ _ _ _ c.loop-left.invariant.0 _ c.from_first-from.ensures.alike) c.in-Differs.ensures _ _ first.letters_are tt in
+    let found = c.in-Some-is_after_many_by_flags.ensures in
+    (λ e. after.alike.1 (found.0 e), λ m. found.1 (after.alike.0 m))
