@@ -1,6 +1,5 @@
 -- Choices as nodes that refer to each other: only private contracts name this.
-use Rattle.std.specs.Prelude.{◌≡◌, ◌<◌, ℕ, List, [], ◌∷◌, ◌++◌, Option, Some, None, length, get_or, map, reverse}
-use Rattle.glob_text.specs.declared.choices.Chosen.{Chosen}
+use Rattle.std.specs.Prelude.{◌≡◌, ◌<◌, ℕ, List, [], ◌∷◌, ◌++◌, Option, Some, None, length, get_or, reverse}
 use Rattle.glob_text.specs.declared.choices.Counted.{Counted}
 use Rattle.glob_text.specs.declared.choices.Drawing.{Drawing}
 use Rattle.glob_text.specs.declared.choices.Group.{Group}
@@ -9,7 +8,7 @@ use Rattle.glob_text.specs.declared.choices.Node.TheVariants.{End, One, Both}
 use Rattle.glob_text.specs.declared.choices.Opened.{Opened}
 use Rattle.glob_text.specs.Alternatives.{AreChoices, AreWithinLimits}
 use Rattle.glob_text.specs.Backwards.{Pending, Behind, each_after, choices_behind, at_end}
-use Rattle.glob_text.specs.Chosen.{indices_of, mark_at}
+use Rattle.glob_text.specs.Chosen.{mark_at}
 use Rattle.glob_text.specs.Marks.{Mark, literal, any, star, one_of, opens, comma, closes}
 use Rattle.glob_text.specs.Sizes.{both_sizes, size_of, with_mark}
 
@@ -109,12 +108,8 @@ pub record Writing : Type 0 where
   pub opened : List OneOpened
   pub written : List (List ℕ)
 
-module _ {A : Type 0} where
-  abbrev pub opened_of : Opened A → OneOpened
-  opened_of o = record { marks = o.marks.items; node = o.node }
-
-  abbrev pub writing_of : List (Opened A) → List (Chosen A) → Writing
-  writing_of os cs = record { opened = reverse (map opened_of os); written = indices_of cs }
+abbrev pub opened_of : {A : Type 0} → Opened A → OneOpened
+opened_of o = record { marks = o.marks.items; node = o.node }
 
 -- one node further
 abbrev pub stepped : Node → OneOpened → Writing → Writing

@@ -8,7 +8,7 @@ ghost use Rattle.glob_text.specs.Marks.{mark_of};
 ghost use Rattle.glob_text.specs.Braces.{are_balanced};
 ghost use Rattle.glob_text.specs.Alternatives.{AreTooMany};
 ghost use Rattle.glob_text.specs.Chosen.{choices_of};
-ghost use Rattle.glob_text.specs.Nodes.{added, comma_in, drawing_of, node_at, open_in, opened_of, stepped, with_found, with_one, writing_of, IsDrawingOf, IsWrittenOut};
+ghost use Rattle.glob_text.specs.Nodes.{added, comma_in, drawing_of, node_at, open_in, with_found, with_one, IsDrawingOf, IsWrittenOut};
 
 use crate::mark::Mark;
 use crate::size::Size;
@@ -145,7 +145,7 @@ fn read_marks<A: Allocator + Copy>(alloc: A, marks: &[Mark<A>]) -> Result<Drawin
     ensures { IfOk result (λ drawing. IsDrawingOf (map mark_of marks.entry.now)
         (drawing_of drawing)) }
 {
-    let mut nodes = Vec::new(alloc);
+    let mut nodes = Vec::with_capacity(alloc, marks.len().saturating_add(1))?;
     nodes.push(Node::End)?;
     let mut drawing = Drawing {
         nodes,
@@ -173,35 +173,13 @@ fn node_at(nodes: &[Node], index: usize) -> Node
     }
 }
 
-/// Goes on with a choice by one node.
-fn go_on<A: Allocator + Copy>(
-    alloc: A,
-    nodes: &[Node],
-    one: Opened<A>,
-    opened: &mut Vec<Opened<A>, A>,
-    written: &mut Vec<Chosen<A>, A>,
-) -> Result<(), AllocError>
-    ensures { OnOk result (writing_of opened.new.items written.new.items
-        ≡ stepped (node_at nodes.now one.node) (opened_of one)
-        (writing_of opened.old.items written.old.items)) }
+/// Copies the marks of a choice, with room for as many as choices have on average.
+fn copy<A: Allocator>(alloc: A, marks: &[usize], room: usize) -> Result<Vec<usize, A>, AllocError>
+    ensures { IfOk result (λ copy. copy.items ≡ marks.now) }
 {
-    let Opened { mut marks, node } = one;
-    match node_at(nodes, node) {
-        Node::End => written.push(Chosen { marks })?,
-        Node::One(index, next) => {
-            marks.push(index)?;
-            opened.push(Opened { marks, node: next })?;
-        }
-        Node::Both(first, second) => {
-            let copy = Vec::from_slice(alloc, &marks)?;
-            opened.push(Opened {
-                marks: copy,
-                node: second,
-            })?;
-            opened.push(Opened { marks, node: first })?;
-        }
-    }
-    Ok(())
+    let mut copy = Vec::with_capacity(alloc, room)?;
+    copy.extend_from_slice(marks)?;
+    Ok(copy)
 }
 
 /// The choices of marks whose braces are closed, or `None` if they are too large.
@@ -215,17 +193,37 @@ pub(crate) fn choices<A: Allocator + Copy>(
         (choices_of (map mark_of marks.entry.now) choices.items))) }
 {
     let drawing = read_marks(alloc, marks)?;
-    if drawing.current.size.is_too_large() {
+    let size = drawing.current.size;
+    if size.is_too_large() {
         return Ok(None);
     }
-    let mut written = Vec::new(alloc);
+    let room = size.average();
+    let mut written = Vec::with_capacity(alloc, size.choices())?;
     let mut opened = Vec::new(alloc);
-    opened.push(Opened {
-        marks: Vec::new(alloc),
+    let mut one = Opened {
+        marks: Vec::with_capacity(alloc, room)?,
         node: drawing.current.node,
-    })?;
-    while let Some(one) = opened.pop() {
-        go_on(alloc, &drawing.nodes, one, &mut opened, &mut written)?;
+    };
+    loop {
+        match node_at(&drawing.nodes, one.node) {
+            Node::End => {
+                written.push(Chosen { marks: one.marks })?;
+                let Some(next) = opened.pop() else {
+                    return Ok(Some(written));
+                };
+                one = next;
+            }
+            Node::One(index, next) => {
+                one.marks.push(index)?;
+                one.node = next;
+            }
+            Node::Both(first, second) => {
+                opened.push(Opened {
+                    marks: copy(alloc, &one.marks, room)?,
+                    node: second,
+                })?;
+                one.node = first;
+            }
+        }
     }
-    Ok(Some(written))
 }

@@ -120,7 +120,7 @@ pub(crate) fn cased<A: Allocator + Copy>(
     if !case_insensitive {
         return Ok(marks);
     }
-    let mut folded = Vec::new(alloc);
+    let mut folded = Vec::with_capacity(alloc, marks.len())?;
     for mark in marks {
         folded.push(fold_mark(alloc, mark)?)?;
     }

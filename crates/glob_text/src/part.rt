@@ -1,5 +1,5 @@
 //! Patterns without alternatives, compiled.
-ghost use Rattle.std.specs.Prelude.{◌≡◌, ◌++◌, ◌<◌, ◌+◌, map, length, None, IfOk};
+ghost use Rattle.std.specs.Prelude.{◌≡◌, ◌++◌, ◌<◌, ◌≤◌, ◌+◌, map, length, None, IfOk};
 ghost use Rattle.glob_text.specs.Marks.{mark_of};
 ghost use Rattle.glob_text.specs.Chosen.{mark_at, marks_at, choices_of};
 ghost use Rattle.glob_text.specs.Parts.{is_separator, is_star, is_doubled, ends_part, ends_deep, is_deep, IsPieceOf, IsPart, IsCompiled, AreCompiled};
@@ -178,6 +178,15 @@ fn is_deep<A: Allocator>(separators: Separators, marks: &[Mark<A>], text: &[usiz
     }
 }
 
+/// The number of marks of the first part.
+fn part_len<A: Allocator>(separators: Separators, marks: &[Mark<A>], text: &[usize]) -> usize
+    ensures { result ≤ length text.now }
+{
+    text.iter()
+        .position(|index| is_separator_at(separators, marks, *index))
+        .unwrap_or(text.len())
+}
+
 /// Reads a part, and what comes after its separator, if one is there.
 fn read_part<'t, A: Allocator + Copy>(
     alloc: A,
@@ -192,7 +201,7 @@ fn read_part<'t, A: Allocator + Copy>(
         (rest_of (map mark_of marks.now) p.1)) }
     ensures shorter { IfOk result (λ p. rest_size p.1 < length text.entry.now + 1) }
 {
-    let mut own = Vec::new(alloc);
+    let mut own = Vec::with_capacity(alloc, part_len(separators, marks, text))?;
     let mut left = text;
     while let Some((index, rest)) = left.split_first() {
         if is_separator_at(separators, marks, *index) {
@@ -239,7 +248,7 @@ pub(crate) fn compile_each<A: Allocator + Copy>(
         (choices_of (map mark_of marks.now) choices.entry.now) compiled.items) }
 {
     let all = pieces_of(alloc, marks)?;
-    let mut compiled = Vec::new(alloc);
+    let mut compiled = Vec::with_capacity(alloc, choices.len())?;
     let mut left = choices;
     while let Some((choice, rest)) = left.split_first() {
         let pieces = compile(alloc, separators, marks, all.as_slice(), &choice.marks)?;

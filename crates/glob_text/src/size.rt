@@ -1,5 +1,5 @@
 //! How large choices are.
-ghost use Rattle.std.specs.Prelude.{◌≡◌, ◌↔◌, ◌<◌, ◌⊎◌, IsTrue};
+ghost use Rattle.std.specs.Prelude.{◌≡◌, ◌↔◌, ◌<◌, ◌≤◌, ◌*◌, ◌⊎◌, IsTrue};
 ghost use Rattle.glob_text.specs.Alternatives.{most_choices, most_marks};
 ghost use Rattle.glob_text.specs.Sizes.{both_sizes, nothing_size, with_mark};
 
@@ -54,5 +54,22 @@ impl Size {
             ⊎ ((1 < self.choices) × (most_marks < self.marks))) }
     {
         self.choices > MOST_CHOICES || (self.choices > 1 && self.marks > MOST_MARKS)
+    }
+
+    /// The number of choices, or the greatest of a word.
+    pub(crate) fn choices(self) -> usize
+        ensures { result ≡ self.choices }
+    {
+        self.choices
+    }
+
+    /// The number of marks that a choice has on average: so many for each are no more than all.
+    pub(crate) fn average(self) -> usize
+        ensures { result * self.choices ≤ self.marks }
+    {
+        if self.choices == 0 {
+            return 0;
+        }
+        self.marks / self.choices
     }
 }

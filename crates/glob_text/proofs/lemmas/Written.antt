@@ -1,5 +1,6 @@
 -- Choices that are written, one node at a time.
 use Rattle.std.proofs.Common.{◌≡◌, ℕ, zero, suc, ◌+◌, ◌<◌, ◌≤◌, List, [], ◌∷◌, ◌++◌, map, reverse, refl, sym, ap, ◌∙◌, subst, arith, append_assoc, append-nil}
+use Rattle.std.specs.declared.vec.Vec.{Vec}
 use Rattle.std.proofs.lemmas.List.{map-append, reverse-append}
 use Rattle.std.proofs.lemmas.Simd.{map-map}
 use Rattle.glob_text.specs.declared.choices.Chosen.{Chosen}
@@ -91,8 +92,13 @@ module _ (marks : List Mark) (nodes : List Node) where
       (let x = weighs_less first o.node b in let y = weighs_less second o.node d in omega (arith, x, y)),
     )
 
-    pub step : IsWriting all (record { opened = o ∷ os; written = is }) → Next (node_at nodes o.node)
-    step h = step_left h.left.0 h.left.1 h.rest h.left.2 h.left.3 h.left.4 h.joined
+    pub step_at : (seen : List Node) (found n : Node) → found ≡ node_at seen o.node → seen ≡ nodes → found ≡ n → IsWriting all (record { opened = o ∷ os; written = is }) → Next n
+    step_at seen found n e s k h = subst Next (sym (e ∙ ap (λ z. node_at z o.node) s) ∙ k) (step_left h.left.0 h.left.1 h.rest h.left.2 h.left.3 h.left.4 h.joined)
+
+  -- a choice more is written
+  pub one_written : {A : Type 0} (all : List (List Mark)) (cs ds : List (Chosen A)) (is : Vec ℕ A) (os : List OneOpened) → ds ≡ cs ++ record { marks = is } ∷ [] → IsWriting all (record { opened = os; written = indices_of cs ++ is.items ∷ [] }) → IsWriting all (record { opened = os; written = indices_of ds })
+  one_written all cs ds is os e h =
+      subst (λ z. IsWriting all (record { opened = os; written = z })) (sym (ap indices_of e ∙ map-append (λ c. c.marks.items) cs (record { marks = is } ∷ []))) h
 
   pub all_written : {A : Type 0} (all : List (List Mark)) (os : List OneOpened) (cs : List (Chosen A)) → IsWriting all (record { opened = os; written = indices_of cs }) → os ≡ [] → all ≡ choices_of marks cs
   all_written all os cs h e =
@@ -104,5 +110,6 @@ module _ {A : Type 0} where
   pub last_first : (os front : List (Opened A)) (o : Opened A) → os ≡ front ++ o ∷ [] → reverse (map opened_of os) ≡ opened_of o ∷ reverse (map opened_of front)
   last_first os front o e = ap (λ z. reverse (map opened_of z)) e ∙ ap reverse (map-append opened_of front (o ∷ [])) ∙ reverse-append (map opened_of front) (opened_of o ∷ [])
 
-  pub one_opened : (os front : List (Opened A)) (o : Opened A) → os ≡ front ++ o ∷ [] → front ≡ [] → o.marks.items ≡ [] → reverse (map opened_of os) ≡ record { marks = []; node = o.node } ∷ []
-  one_opened os front o e none marks = ap (λ z. reverse (map opened_of z)) (e ∙ ap (λ z. z ++ o ∷ []) none) ∙ ap (λ z. record { marks = z; node = o.node } ∷ []) marks
+  -- the second way to go on with a choice comes first of those that were opened
+  pub opened_second : (os all : List (Opened A)) (is : Vec ℕ A) (marks : List ℕ) (node : ℕ) → all ≡ os ++ record { marks = is; node = node } ∷ [] → is.items ≡ marks → reverse (map opened_of all) ≡ record { marks = marks; node = node } ∷ reverse (map opened_of os)
+  opened_second os all is marks node e m = last_first all os (record { marks = is; node = node }) e ∙ ap (λ z. record { marks = z; node = node } ∷ reverse (map opened_of os)) m

@@ -1,12 +1,12 @@
-use Rattle.std.proofs.Common.{◌≡◌, ◌<◌, ◌∷◌, [], ◌∙◌, ap, map, reverse, rules, subst, sym}
+use Rattle.std.proofs.Common.{◌≡◌, ◌<◌, ◌+◌, ◌∷◌, [], ◌∙◌, ap, map, reverse, rules, subst, sym}
 use Rattle.std.proofs.lemmas.List.{nil_from_length}
 use Rattle.glob_text.specs.Alternatives.{AreChoices, AreWithinLimits}
 use Rattle.glob_text.specs.Backwards.{choices_behind, at_end}
 use Rattle.glob_text.specs.Chosen.{indices_of}
 use Rattle.glob_text.specs.Marks.{mark_of}
-use Rattle.glob_text.specs.Nodes.{node_at, opened_of, stepped, writing_of}
+use Rattle.glob_text.specs.Nodes.{opened_of}
 use Rattle.glob_text.proofs.lemmas.Sizes.{choices_are, too_large, within_limits}
-use Rattle.glob_text.proofs.lemmas.Written.{all_written, last_first, none_written, one_opened, step, weights, IsWriting}
+use Rattle.glob_text.proofs.lemmas.Written.{all_written, last_first, none_written, one_written, opened_second, step_at, weight, weights, IsWriting}
 use Rattle.glob_text.proofs.choices.choices.Goals as goal
 
 pub returns-then-is_too_large : goal.returns-then-is_too_large
@@ -19,53 +19,71 @@ returns-then-is_too_large g c =
       many = too_large all c.in_ok-drawing.drawing.current.size c.in_ok-drawing.ensures.current.size c.is_too_large.result c.is_too_large.ensures c.if-is_too_large.true;
     }
 
-pub loop-one-init : goal.loop-one-init
-loop-one-init g c =
+pub loop-written-init : goal.loop-written-init
+loop-written-init g c =
     let marks = map mark_of c.args.marks.now in
     let nodes = c.in_ok-drawing.drawing.nodes.items in
     let all = (choices_behind marks at_end).current in
-    let opened = one_opened c.push.new.self.items c.new-opened.result.items _ c.in_ok-push.ensures.items c.new-opened.ensures.items c.new.ensures.items in
-    subst (λ z. IsWriting marks nodes all (record { opened = z; written = indices_of c.new-written.result.items })) (sym opened)
-    (subst (λ z. IsWriting marks nodes all (record { opened = record { marks = []; node = c.in_ok-drawing.drawing.current.node } ∷ []; written = indices_of z })) (sym c.new-written.ensures.items)
-    (none_written marks nodes all c.in_ok-drawing.drawing.current.node c.in_ok-drawing.ensures.current.leads))
+    let node = c.in_ok-drawing.drawing.current.node in
+    let none = none_written marks nodes all node c.in_ok-drawing.ensures.current.leads in
+    subst (λ z. IsWriting marks nodes all (record { opened = record { marks = z; node = node } ∷ reverse (map opened_of c.new-opened.result.items); written = indices_of c.in_ok-written.written.items }))
+    (sym c.in_ok-with_capacity.ensures.items)
+    (subst (λ z. IsWriting marks nodes all (record { opened = record { marks = []; node = node } ∷ reverse (map opened_of z); written = indices_of c.in_ok-written.written.items }))
+    (sym c.new-opened.ensures.items)
+    (subst (λ z. IsWriting marks nodes all (record { opened = record { marks = []; node = node } ∷ []; written = indices_of z })) (sym c.in_ok-written.ensures.items) none))
 
-pub loop-one-smaller : goal.loop-one-smaller
-loop-one-smaller g c =
+pub returns-in_default : goal.returns-in_default
+returns-in_default g c =
     let marks = map mark_of c.args.marks.now in
-    let nodes = c.in_ok-drawing.drawing.nodes.items in
     let all = (choices_behind marks at_end).current in
-    let one = opened_of c.in-Some.one in
-    let os = reverse (map opened_of c.pop.new.self.items) in
-    let is = indices_of c.loop-one.written.items in
-    let first = last_first c.loop-one.opened.items c.pop.new.self.items c.in-Some.one c.in-Some.ensures.items in
-    let h = subst (λ z. IsWriting marks nodes all (record { opened = z; written = is })) first c.loop-one.invariant in
-    let next = step marks nodes all one os is h in
-    let is_next = c.in_ok-go_on.ensures ∙ ap (λ z. stepped (node_at z one.node) one (writing_of c.pop.new.self.items c.loop-one.written.items)) c.deref.ensures.value in
-    subst (λ z. z < weights (reverse (map opened_of c.loop-one.opened.items))) (sym (ap (λ z. weights z.opened) is_next))
-    (subst (λ z. weights (stepped (node_at nodes one.node) one (writing_of c.pop.new.self.items c.loop-one.written.items)).opened < z) (sym (ap weights first)) next.1)
-
-pub loop-one-preserved : goal.loop-one-preserved
-loop-one-preserved g c =
-    let marks = map mark_of c.args.marks.now in
-    let nodes = c.in_ok-drawing.drawing.nodes.items in
-    let all = (choices_behind marks at_end).current in
-    let one = opened_of c.in-Some.one in
-    let os = reverse (map opened_of c.pop.new.self.items) in
-    let is = indices_of c.loop-one.written.items in
-    let first = last_first c.loop-one.opened.items c.pop.new.self.items c.in-Some.one c.in-Some.ensures.items in
-    let h = subst (λ z. IsWriting marks nodes all (record { opened = z; written = is })) first c.loop-one.invariant in
-    let next = step marks nodes all one os is h in
-    let is_next = c.in_ok-go_on.ensures ∙ ap (λ z. stepped (node_at z one.node) one (writing_of c.pop.new.self.items c.loop-one.written.items)) c.deref.ensures.value in
-    subst (IsWriting marks nodes all) (sym is_next) next.0
-
-pub returns : goal.returns
-returns g c =
-    let marks = map mark_of c.args.marks.now in
-    let nodes = c.in_ok-drawing.drawing.nodes.items in
-    let all = (choices_behind marks at_end).current in
-    let none : c.loop-one.opened.items ≡ [] = nil_from_length _ (search rules) in
-    let same = all_written marks nodes all (reverse (map opened_of c.loop-one.opened.items)) c.loop-one.written.items c.loop-one.invariant (ap (λ z. reverse (map opened_of z)) none) in
+    let next = step_at _ _ _ _ _ _ _ _ _ c.node_at.ensures c.deref.ensures.value c.in-End.is c.loop-written.invariant in
+    let none : c.loop-written.opened.items ≡ [] = nil_from_length _ (search rules) in
+    let same = all_written _ _ all _ c.push.new.self.items (one_written _ _ _ _ _ _ _ c.in_ok-push-in-End.ensures.items next.0) (ap (λ z. reverse (map opened_of z)) none) in
     record {
       are = subst (AreChoices marks) same (choices_are marks c.requires);
       limits = subst AreWithinLimits same (within_limits all c.in_ok-drawing.drawing.current.size c.in_ok-drawing.ensures.current.size c.is_too_large.result c.is_too_large.ensures c.if-is_too_large.false);
     }
+
+pub loop-written-smaller-in-End : goal.loop-written-smaller-in-End
+loop-written-smaller-in-End g c =
+    let next = step_at _ _ _ _ _ _ _ _ _ c.node_at.ensures c.deref.ensures.value c.in-End.is c.loop-written.invariant in
+    subst (λ z. weights z < weight c.loop-written.one.node + weights (reverse (map opened_of c.loop-written.opened.items)))
+    (last_first c.loop-written.opened.items c.pop.new.self.items c.in-Some.next c.in-Some.ensures.items) next.1
+
+pub loop-written-preserved-in-End : goal.loop-written-preserved-in-End
+loop-written-preserved-in-End g c =
+    let marks = map mark_of c.args.marks.now in
+    let nodes = c.in_ok-drawing.drawing.nodes.items in
+    let all = (choices_behind marks at_end).current in
+    let next = step_at _ _ _ _ _ _ _ _ _ c.node_at.ensures c.deref.ensures.value c.in-End.is c.loop-written.invariant in
+    subst (λ z. IsWriting marks nodes all (record { opened = z; written = indices_of c.push.new.self.items }))
+    (last_first c.loop-written.opened.items c.pop.new.self.items c.in-Some.next c.in-Some.ensures.items)
+    (one_written _ _ _ _ _ _ _ c.in_ok-push-in-End.ensures.items next.0)
+
+pub loop-written-smaller-in-One : goal.loop-written-smaller-in-One
+loop-written-smaller-in-One g c =
+    (step_at _ _ _ _ _ _ _ _ _ c.node_at.ensures c.deref.ensures.value c.in-One.is c.loop-written.invariant).1
+
+pub loop-written-preserved-in-One : goal.loop-written-preserved-in-One
+loop-written-preserved-in-One g c =
+    let marks = map mark_of c.args.marks.now in
+    let nodes = c.in_ok-drawing.drawing.nodes.items in
+    let all = (choices_behind marks at_end).current in
+    let next = step_at _ _ _ _ _ _ _ _ _ c.node_at.ensures c.deref.ensures.value c.in-One.is c.loop-written.invariant in
+    subst (λ z. IsWriting marks nodes all (record { opened = record { marks = z; node = c.in-One.next } ∷ reverse (map opened_of c.loop-written.opened.items); written = indices_of c.loop-written.written.items }))
+    (sym c.in_ok-push-in-One.ensures.items) next.0
+
+pub loop-written-smaller : goal.loop-written-smaller
+loop-written-smaller g c =
+    let next = step_at _ _ _ _ _ _ _ _ _ c.node_at.ensures c.deref.ensures.value c.in-Both.is c.loop-written.invariant in
+    let second = opened_second c.loop-written.opened.items _ _ _ _ c.in_ok-push-in-Both.ensures.items (c.in_ok-copy-in-Both.ensures ∙ c.deref-in-Both.ensures.value) in
+    subst (λ z. weight c.in-Both.first + weights z < weight c.loop-written.one.node + weights (reverse (map opened_of c.loop-written.opened.items))) (sym second) next.1
+
+pub loop-written-preserved : goal.loop-written-preserved
+loop-written-preserved g c =
+    let marks = map mark_of c.args.marks.now in
+    let nodes = c.in_ok-drawing.drawing.nodes.items in
+    let all = (choices_behind marks at_end).current in
+    let next = step_at _ _ _ _ _ _ _ _ _ c.node_at.ensures c.deref.ensures.value c.in-Both.is c.loop-written.invariant in
+    let second = opened_second c.loop-written.opened.items _ _ _ _ c.in_ok-push-in-Both.ensures.items (c.in_ok-copy-in-Both.ensures ∙ c.deref-in-Both.ensures.value) in
+    subst (λ z. IsWriting marks nodes all (record { opened = record { marks = c.loop-written.one.marks.items; node = c.in-Both.first } ∷ z; written = indices_of c.loop-written.written.items })) (sym second) next.0

@@ -8,7 +8,7 @@ use Rattle.glob_text.proofs.choices.read_marks.Goals as goal
 
 pub loop-mark-init : goal.loop-mark-init
 loop-mark-init g c =
-    none_read (map mark_of c.args.marks.now) _ (c.in_ok-push.ensures.items ∙ ap (λ z. z ++ End ∷ []) c.new-nodes.ensures.items) (ap reverse c.new.ensures.items) refl c.nothing.ensures
+    none_read (map mark_of c.args.marks.now) _ (c.in_ok-push.ensures.items ∙ ap (λ z. z ++ End ∷ []) c.in_ok-nodes.ensures.items) (ap reverse c.new.ensures.items) refl c.nothing.ensures
 
 pub loop-mark-preserved : goal.loop-mark-preserved
 loop-mark-preserved g c =
