@@ -92,8 +92,8 @@ module _ (marks : List Mark) (nodes : List Node) where
       (let x = weighs_less first o.node b in let y = weighs_less second o.node d in omega (arith, x, y)),
     )
 
-    pub step_at : (n : Node) → node_at nodes o.node ≡ n → IsWriting all (record { opened = o ∷ os; written = is }) → Next n
-    step_at n e h = subst Next e (step_left h.left.0 h.left.1 h.rest h.left.2 h.left.3 h.left.4 h.joined)
+    pub step_at : (seen : List Node) (found n : Node) → found ≡ node_at seen o.node → seen ≡ nodes → found ≡ n → IsWriting all (record { opened = o ∷ os; written = is }) → Next n
+    step_at seen found n e s k h = subst Next (sym (e ∙ ap (λ z. node_at z o.node) s) ∙ k) (step_left h.left.0 h.left.1 h.rest h.left.2 h.left.3 h.left.4 h.joined)
 
   -- a choice more is written
   pub one_written : {A : Type 0} (all : List (List Mark)) (cs ds : List (Chosen A)) (is : Vec ℕ A) (os : List OneOpened) → ds ≡ cs ++ record { marks = is } ∷ [] → IsWriting all (record { opened = os; written = indices_of cs ++ is.items ∷ [] }) → IsWriting all (record { opened = os; written = indices_of ds })

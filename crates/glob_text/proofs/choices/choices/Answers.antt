@@ -4,7 +4,7 @@ use Rattle.glob_text.specs.Alternatives.{AreChoices, AreWithinLimits}
 use Rattle.glob_text.specs.Backwards.{choices_behind, at_end}
 use Rattle.glob_text.specs.Chosen.{indices_of}
 use Rattle.glob_text.specs.Marks.{mark_of}
-use Rattle.glob_text.specs.Nodes.{node_at, opened_of}
+use Rattle.glob_text.specs.Nodes.{opened_of}
 use Rattle.glob_text.proofs.lemmas.Sizes.{choices_are, too_large, within_limits}
 use Rattle.glob_text.proofs.lemmas.Written.{all_written, last_first, none_written, one_written, opened_second, step_at, weight, weights, IsWriting}
 use Rattle.glob_text.proofs.choices.choices.Goals as goal
@@ -35,16 +35,10 @@ loop-written-init g c =
 pub returns-in_default : goal.returns-in_default
 returns-in_default g c =
     let marks = map mark_of c.args.marks.now in
-    let nodes = c.in_ok-drawing.drawing.nodes.items in
     let all = (choices_behind marks at_end).current in
-    let one = opened_of c.loop-written.one in
-    let os = reverse (map opened_of c.loop-written.opened.items) in
-    let is = indices_of c.loop-written.written.items in
-    let node = sym (c.node_at.ensures ∙ ap (λ z. node_at z one.node) c.deref.ensures.value) ∙ c.in-End.is in
-    let next = step_at marks nodes all one os is _ node c.loop-written.invariant in
+    let next = step_at _ _ _ _ _ _ _ _ _ c.node_at.ensures c.deref.ensures.value c.in-End.is c.loop-written.invariant in
     let none : c.loop-written.opened.items ≡ [] = nil_from_length _ (search rules) in
-    let whole = one_written marks nodes all c.loop-written.written.items c.push.new.self.items c.loop-written.one.marks os c.in_ok-push-in-End.ensures.items next.0 in
-    let same = all_written marks nodes all os c.push.new.self.items whole (ap (λ z. reverse (map opened_of z)) none) in
+    let same = all_written _ _ all _ c.push.new.self.items (one_written _ _ _ _ _ _ _ c.in_ok-push-in-End.ensures.items next.0) (ap (λ z. reverse (map opened_of z)) none) in
     record {
       are = subst (AreChoices marks) same (choices_are marks c.requires);
       limits = subst AreWithinLimits same (within_limits all c.in_ok-drawing.drawing.current.size c.in_ok-drawing.ensures.current.size c.is_too_large.result c.is_too_large.ensures c.if-is_too_large.false);
@@ -52,74 +46,44 @@ returns-in_default g c =
 
 pub loop-written-smaller-in-End : goal.loop-written-smaller-in-End
 loop-written-smaller-in-End g c =
-    let marks = map mark_of c.args.marks.now in
-    let nodes = c.in_ok-drawing.drawing.nodes.items in
-    let all = (choices_behind marks at_end).current in
-    let one = opened_of c.loop-written.one in
-    let os = reverse (map opened_of c.loop-written.opened.items) in
-    let is = indices_of c.loop-written.written.items in
-    let node = sym (c.node_at.ensures ∙ ap (λ z. node_at z one.node) c.deref.ensures.value) ∙ c.in-End.is in
-    let next = step_at marks nodes all one os is _ node c.loop-written.invariant in
-    subst (λ z. weights z < weight one.node + weights os) (last_first c.loop-written.opened.items c.pop.new.self.items c.in-Some.next c.in-Some.ensures.items) next.1
+    let next = step_at _ _ _ _ _ _ _ _ _ c.node_at.ensures c.deref.ensures.value c.in-End.is c.loop-written.invariant in
+    subst (λ z. weights z < weight c.loop-written.one.node + weights (reverse (map opened_of c.loop-written.opened.items)))
+    (last_first c.loop-written.opened.items c.pop.new.self.items c.in-Some.next c.in-Some.ensures.items) next.1
 
 pub loop-written-preserved-in-End : goal.loop-written-preserved-in-End
 loop-written-preserved-in-End g c =
     let marks = map mark_of c.args.marks.now in
     let nodes = c.in_ok-drawing.drawing.nodes.items in
     let all = (choices_behind marks at_end).current in
-    let one = opened_of c.loop-written.one in
-    let os = reverse (map opened_of c.loop-written.opened.items) in
-    let is = indices_of c.loop-written.written.items in
-    let node = sym (c.node_at.ensures ∙ ap (λ z. node_at z one.node) c.deref.ensures.value) ∙ c.in-End.is in
-    let next = step_at marks nodes all one os is _ node c.loop-written.invariant in
+    let next = step_at _ _ _ _ _ _ _ _ _ c.node_at.ensures c.deref.ensures.value c.in-End.is c.loop-written.invariant in
     subst (λ z. IsWriting marks nodes all (record { opened = z; written = indices_of c.push.new.self.items }))
     (last_first c.loop-written.opened.items c.pop.new.self.items c.in-Some.next c.in-Some.ensures.items)
-    (one_written marks nodes all c.loop-written.written.items c.push.new.self.items c.loop-written.one.marks os c.in_ok-push-in-End.ensures.items next.0)
+    (one_written _ _ _ _ _ _ _ c.in_ok-push-in-End.ensures.items next.0)
 
 pub loop-written-smaller-in-One : goal.loop-written-smaller-in-One
 loop-written-smaller-in-One g c =
-    let marks = map mark_of c.args.marks.now in
-    let nodes = c.in_ok-drawing.drawing.nodes.items in
-    let all = (choices_behind marks at_end).current in
-    let one = opened_of c.loop-written.one in
-    let os = reverse (map opened_of c.loop-written.opened.items) in
-    let is = indices_of c.loop-written.written.items in
-    let node = sym (c.node_at.ensures ∙ ap (λ z. node_at z one.node) c.deref.ensures.value) ∙ c.in-One.is in
-    (step_at marks nodes all one os is _ node c.loop-written.invariant).1
+    (step_at _ _ _ _ _ _ _ _ _ c.node_at.ensures c.deref.ensures.value c.in-One.is c.loop-written.invariant).1
 
 pub loop-written-preserved-in-One : goal.loop-written-preserved-in-One
 loop-written-preserved-in-One g c =
     let marks = map mark_of c.args.marks.now in
     let nodes = c.in_ok-drawing.drawing.nodes.items in
     let all = (choices_behind marks at_end).current in
-    let one = opened_of c.loop-written.one in
-    let os = reverse (map opened_of c.loop-written.opened.items) in
-    let is = indices_of c.loop-written.written.items in
-    let node = sym (c.node_at.ensures ∙ ap (λ z. node_at z one.node) c.deref.ensures.value) ∙ c.in-One.is in
-    subst (λ z. IsWriting marks nodes all (record { opened = record { marks = z; node = c.in-One.next } ∷ os; written = is }))
-    (sym c.in_ok-push-in-One.ensures.items) (step_at marks nodes all one os is _ node c.loop-written.invariant).0
+    let next = step_at _ _ _ _ _ _ _ _ _ c.node_at.ensures c.deref.ensures.value c.in-One.is c.loop-written.invariant in
+    subst (λ z. IsWriting marks nodes all (record { opened = record { marks = z; node = c.in-One.next } ∷ reverse (map opened_of c.loop-written.opened.items); written = indices_of c.loop-written.written.items }))
+    (sym c.in_ok-push-in-One.ensures.items) next.0
 
 pub loop-written-smaller : goal.loop-written-smaller
 loop-written-smaller g c =
-    let marks = map mark_of c.args.marks.now in
-    let nodes = c.in_ok-drawing.drawing.nodes.items in
-    let all = (choices_behind marks at_end).current in
-    let one = opened_of c.loop-written.one in
-    let os = reverse (map opened_of c.loop-written.opened.items) in
-    let is = indices_of c.loop-written.written.items in
-    let node = sym (c.node_at.ensures ∙ ap (λ z. node_at z one.node) c.deref.ensures.value) ∙ c.in-Both.is in
-    let second = opened_second c.loop-written.opened.items c.push-in-Both.new.self.items c.in_ok-copy-in-Both.field-0 c.loop-written.one.marks.items c.in-Both.second c.in_ok-push-in-Both.ensures.items (c.in_ok-copy-in-Both.ensures ∙ c.deref-in-Both.ensures.value) in
-    subst (λ z. weight c.in-Both.first + weights z < weight one.node + weights os) (sym second) (step_at marks nodes all one os is _ node c.loop-written.invariant).1
+    let next = step_at _ _ _ _ _ _ _ _ _ c.node_at.ensures c.deref.ensures.value c.in-Both.is c.loop-written.invariant in
+    let second = opened_second c.loop-written.opened.items _ _ _ _ c.in_ok-push-in-Both.ensures.items (c.in_ok-copy-in-Both.ensures ∙ c.deref-in-Both.ensures.value) in
+    subst (λ z. weight c.in-Both.first + weights z < weight c.loop-written.one.node + weights (reverse (map opened_of c.loop-written.opened.items))) (sym second) next.1
 
 pub loop-written-preserved : goal.loop-written-preserved
 loop-written-preserved g c =
     let marks = map mark_of c.args.marks.now in
     let nodes = c.in_ok-drawing.drawing.nodes.items in
     let all = (choices_behind marks at_end).current in
-    let one = opened_of c.loop-written.one in
-    let os = reverse (map opened_of c.loop-written.opened.items) in
-    let is = indices_of c.loop-written.written.items in
-    let node = sym (c.node_at.ensures ∙ ap (λ z. node_at z one.node) c.deref.ensures.value) ∙ c.in-Both.is in
-    let second = opened_second c.loop-written.opened.items c.push-in-Both.new.self.items c.in_ok-copy-in-Both.field-0 c.loop-written.one.marks.items c.in-Both.second c.in_ok-push-in-Both.ensures.items (c.in_ok-copy-in-Both.ensures ∙ c.deref-in-Both.ensures.value) in
-    subst (λ z. IsWriting marks nodes all (record { opened = record { marks = one.marks; node = c.in-Both.first } ∷ z; written = is }))
-    (sym second) (step_at marks nodes all one os is _ node c.loop-written.invariant).0
+    let next = step_at _ _ _ _ _ _ _ _ _ c.node_at.ensures c.deref.ensures.value c.in-Both.is c.loop-written.invariant in
+    let second = opened_second c.loop-written.opened.items _ _ _ _ c.in_ok-push-in-Both.ensures.items (c.in_ok-copy-in-Both.ensures ∙ c.deref-in-Both.ensures.value) in
+    subst (λ z. IsWriting marks nodes all (record { opened = record { marks = c.loop-written.one.marks.items; node = c.in-Both.first } ∷ z; written = indices_of c.loop-written.written.items })) (sym second) next.0
