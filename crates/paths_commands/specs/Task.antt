@@ -1,5 +1,5 @@
 -- What each task requests of a path, and with which faults a path is rejected. No file's path has a NUL (POSIX, "Definitions", Pathname).
-use Rattle.std.specs.Prelude.{◌≡◌, ◌≢◌, ◌⊎◌, ℕ, ◌≤◌, List, [], ◌∷◌, ◌++◌, codes, length, Option, Some, None}
+use Rattle.std.specs.Prelude.{◌≡◌, ◌≢◌, ◌⊎◌, ℕ, ◌≤◌, Bool, true, false, List, [], ◌∷◌, ◌++◌, codes, length, Option, Some, None}
 use Rattle.std.specs.Fmt.Cut.{cut_to}
 use Rattle.std.specs.Fmt.InlineText.{inline_text}
 use Rattle.std.specs.Borrow.{Bor}
@@ -12,6 +12,7 @@ use Rattle.path_rules.specs.Components.{AreComponents}
 use Rattle.path_rules.specs.Parent.{IsParent, HasNoParent, HasFileName, HasNoFileName}
 use Rattle.path_building.specs.BaseViews.{base_path, base_style}
 use Rattle.path_building.specs.Checked.{IsBelowBase, IsCheckedJoin}
+use Rattle.path_building.specs.CheckedEnd.{IsCheckedJoinEnded}
 use Rattle.path_building.specs.Faults.{IsNameFault}
 use Rattle.path_building.specs.declared.base.Base.{Base}
 use Rattle.path_building.specs.Cleaned.{IsCleaned}
@@ -53,7 +54,7 @@ name_of Extension = name.Extension
 name_of Normalize = name.Normalize
 name_of Clean = name.Clean
 name_of (Join base) = name.Join
-name_of (JoinChecked base) = name.Join
+name_of (JoinChecked base keeps) = name.Join
 name_of (Relative base) = name.Relative
 name_of (Absolute directory) = name.Absolute
 name_of (Convert to) = name.Convert
@@ -82,10 +83,25 @@ IsChecked Extension = ⊥
 IsChecked Normalize = ⊥
 IsChecked Clean = ⊥
 IsChecked (Join base) = ⊥
-IsChecked (JoinChecked base) = Unit {0}
+IsChecked (JoinChecked base keeps) = Unit {0}
 IsChecked (Relative base) = ⊥
 IsChecked (Absolute directory) = ⊥
 IsChecked (Convert to) = ⊥
+
+-- a separator at the end of a path is kept
+abbrev pub KeepsSeparator : Task → Type 0
+KeepsSeparator Components = ⊥
+KeepsSeparator Parent = ⊥
+KeepsSeparator Name = ⊥
+KeepsSeparator Stem = ⊥
+KeepsSeparator Extension = ⊥
+KeepsSeparator Normalize = ⊥
+KeepsSeparator Clean = ⊥
+KeepsSeparator (Join base) = ⊥
+KeepsSeparator (JoinChecked base keeps) = keeps ≡ true
+KeepsSeparator (Relative base) = ⊥
+KeepsSeparator (Absolute directory) = ⊥
+KeepsSeparator (Convert to) = ⊥
 
 -- the operands after the platform's
 abbrev pub operands_of_task : Task → List (List ℕ)
@@ -97,7 +113,7 @@ operands_of_task Extension = []
 operands_of_task Normalize = []
 operands_of_task Clean = []
 operands_of_task (Join base) = base.now ∷ []
-operands_of_task (JoinChecked base) = base_path base ∷ []
+operands_of_task (JoinChecked base keeps) = base_path base ∷ []
 operands_of_task (Relative base) = base.now ∷ []
 operands_of_task (Absolute directory) = directory.now ∷ []
 operands_of_task (Convert to) = os_word to ∷ []
@@ -110,9 +126,14 @@ component_text style CurDir = codes "."
 component_text style ParentDir = codes ".."
 component_text style (Normal s) = s
 
--- the path after the base, with the components of the base and then names alone
-abbrev pub IsJoinedBelow : Base → List ℕ → List ℕ → Type 0
-IsJoinedBelow base path joined = IsCheckedJoin (base_style base) (base_path base) path joined × IsBelowBase (base_style base) (base_path base) joined
+-- the path after the base, with the separator at its end where that is kept
+abbrev pub IsJoinedTo : Base → Bool → List ℕ → List ℕ → Type 0
+IsJoinedTo base false path joined = IsCheckedJoin (base_style base) (base_path base) path joined
+IsJoinedTo base true path joined = IsCheckedJoinEnded (base_style base) (base_path base) path joined
+
+-- and it has the components of the base and then names alone
+abbrev pub IsJoinedBelow : Base → Bool → List ℕ → List ℕ → Type 0
+IsJoinedBelow base keeps path joined = IsJoinedTo base keeps path joined × IsBelowBase (base_style base) (base_path base) joined
 
 -- how a path is reached, as it is written: `.` from itself
 abbrev pub way_text : List ℕ → List ℕ
@@ -129,7 +150,7 @@ IsAnswer style Extension path answer = HasExtension style path answer ⊎ (Lacks
 IsAnswer style Normalize path answer = IsNormalized style path answer
 IsAnswer style Clean path answer = IsCleaned style path answer
 IsAnswer style (Join base) path answer = IsJoin style base.now path answer
-IsAnswer style (JoinChecked base) path answer = IsJoinedBelow base path answer
+IsAnswer style (JoinChecked base keeps) path answer = IsJoinedBelow base keeps path answer
 IsAnswer style (Relative base) path answer = (way : List ℕ) × (IsRelativeFrom style path base.now (Some way) × (answer ≡ way_text way))
 IsAnswer style (Absolute directory) path answer = IsFullPath style path directory.now answer
 IsAnswer style (Convert to) path answer = (strings to).well_formed answer × IsRestyled style (style_of to) path answer
@@ -225,8 +246,8 @@ module _ {E : Type 0} (p : Ghosts E) (style : Style) where
   IsUnanswered task path rejection.NoNormalForm = (task ≡ Normalize) × HasNoNormalForm style path
   IsUnanswered task path rejection.NoRelativePath = (base : Bor (List ℕ)) × ((task ≡ Relative base) × IsRelativeFrom style path base.now None)
   IsUnanswered task path (rejection.NoAbsolutePath error) = (directory : Bor (List ℕ)) × ((task ≡ Absolute directory) × ((error ≢ absolute_error.Memory) × IsAbsoluteFault style path directory.now error))
-  IsUnanswered task path (rejection.NoJoin error) = (base : Base) × ((task ≡ JoinChecked base) × IsUnjoined base path (rejection.NoJoin error))
-  IsUnanswered task path (rejection.NoJoinAt error text) = (base : Base) × ((task ≡ JoinChecked base) × IsUnjoined base path (rejection.NoJoinAt error text))
+  IsUnanswered task path (rejection.NoJoin error) = (base : Base) × ((keeps : Bool) × ((task ≡ JoinChecked base keeps) × IsUnjoined base path (rejection.NoJoin error)))
+  IsUnanswered task path (rejection.NoJoinAt error text) = (base : Base) × ((keeps : Bool) × ((task ≡ JoinChecked base keeps) × IsUnjoined base path (rejection.NoJoinAt error text)))
   IsUnanswered task path (rejection.NoComponent index text) = (to : Os) × ((task ≡ Convert to) × IsUnconverted (style_of to) (strings to).first_fault path (rejection.NoComponent index text))
   IsUnanswered task path (rejection.NoStringThere error) = (to : Os) × ((task ≡ Convert to) × IsUnconverted (style_of to) (strings to).first_fault path (rejection.NoStringThere error))
   IsUnanswered task path rejection.HasNul = ⊥

@@ -39,6 +39,7 @@ Options may stand anywhere; -- ends them. The operands that come after -- and ar
 paths, and nothing is read. PLATFORM isn't among them if the command comes before --.
 
   --checked        join: for names from outside, as in an archive or a request
+  --keep-separator join --checked: keep a separator at the end of a path, as an archive has for a folder
   --lines          a newline ends each path that is read and each result, and not NUL; a path with a NUL, or a
                    result with a newline, is rejected
   --unterminated   the last path may lack its end

@@ -136,7 +136,9 @@ fn write_result<E: PathStyle, A: Allocator + Copy>(
         Task::Normalize => write_normal::<E, A>(alloc, path, output),
         Task::Clean => write_clean::<E, A>(alloc, path, output),
         Task::Join(base) => write_joined::<E, A>(alloc, base, path, output),
-        Task::JoinChecked(base) => write_checked::<E, A>(alloc, base, path, output),
+        Task::JoinChecked(base, keeps) => {
+            write_checked::<E, A>(alloc, base, keeps, path, output)
+        }
         Task::Relative(base) => write_relative::<E, A>(alloc, base, path, output),
         Task::Absolute(directory) => write_absolute::<E, A>(alloc, directory, path, output),
         Task::Convert(to) => write_on::<E, A>(alloc, to, path, output),

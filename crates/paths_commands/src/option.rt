@@ -17,6 +17,8 @@ pub enum PathsOption {
     Version,
     /// `--checked`: `join` rejects a path that could leave the base.
     Checked,
+    /// `--keep-separator`: `join --checked` keeps a separator at the end of a path.
+    KeepSeparator,
     /// `--keep-going`: rejected paths are passed over.
     KeepGoing,
     /// `--lines`: a newline ends each path and each result, and not NUL.
@@ -58,6 +60,7 @@ fn long_option(name: &str) -> Option<PathsOption>
         "help" => Some(PathsOption::Help),
         "version" => Some(PathsOption::Version),
         "checked" => Some(PathsOption::Checked),
+        "keep-separator" => Some(PathsOption::KeepSeparator),
         "keep-going" => Some(PathsOption::KeepGoing),
         "lines" => Some(PathsOption::Lines),
         "unterminated" => Some(PathsOption::Unterminated),

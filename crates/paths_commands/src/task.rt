@@ -34,8 +34,8 @@ pub enum Task<'a> {
     /// The path after this base, as std's `Path::join`.
     Join(&'a str),
     /// The path below this base, as typed-path's `join_checked`. One that could leave the base is
-    /// rejected.
-    JoinChecked(Base<'a>),
+    /// rejected. The flag is whether a separator at the end of the path is kept.
+    JoinChecked(Base<'a>, bool),
     /// The path as it is reached from this base, as the crate pathdiff's `diff_paths`, and `.` for the
     /// base itself. One that no path leads to is rejected.
     Relative(&'a str),

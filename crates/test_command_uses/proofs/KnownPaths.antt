@@ -1,6 +1,7 @@
 -- Lists of which there is one path.
 use Rattle.std.proofs.Common.{◌≡◌, ◌≢◌, ◌⊎◌, ⊎_elim, inl, inr, ℕ, ◌+◌, ◌≤◌, List, [], ◌∷◌, ◌++◌, length, sym, ap, ◌∙◌, subst, append-nil}
 use Rattle.std.specs.List.{AllByRecursion}
+use Rattle.std.specs.Prelude.{Bool}
 use Rattle.path_building.specs.declared.base.Base.{Base}
 use Rattle.os_str_bytes.specs.Platform.{Ghosts}
 use Rattle.path_rules.specs.declared.rules.Style.{Style}
@@ -33,7 +34,7 @@ IsOfJoin (NoStringThere error) = ⊥
 IsOfJoin HasNul = ⊥
 IsOfJoin (ResultHas end) = ⊥
 
-same_base : {base other : Base} → JoinChecked base ≡ JoinChecked other → base ≡ other
+same_base : {base other : Base} {keeps kept : Bool} → JoinChecked base keeps ≡ JoinChecked other kept → base ≡ other
 same_base e = cc
 
 module _ {E : Type 0} (p : Ghosts E) (style : Style) (task : Task) (end : ItemEnd) (max : ℕ) where
@@ -68,13 +69,13 @@ module _ {E : Type 0} (p : Ghosts E) (style : Style) (task : Task) (end : ItemEn
       by (e ∷ es) item rest j ended f = absurd (has_end (byte_of end) e.0 (items_of (byte_of end) es ++ (item ++ rest)) (subst (Lacks (byte_of end)) (j ∙ in_prefix (byte_of end) e.0 (items_of (byte_of end) es) (item ++ rest)) l))
 
   -- a path that isn't joined to the base
-  pub known_unjoined : (base : Base) (path output : List ℕ) (number : ℕ) (why : Rejection) → task ≡ JoinChecked base → IsOfJoin why → Lacks (byte_of end) path → Stops (rules_of p style task (lacking end max) end) start path output (Rejected number why)
+  pub known_unjoined : (base : Base) (keeps : Bool) (path output : List ℕ) (number : ℕ) (why : Rejection) → task ≡ JoinChecked base keeps → IsOfJoin why → Lacks (byte_of end) path → Stops (rules_of p style task (lacking end max) end) start path output (Rejected number why)
       → (number ≡ 1) × IsUnjoined p style base path why
-  known_unjoined base path output number why is of_join l s = let r = known_rejection path output number why l s in (r.0, by why of_join r.1)
+  known_unjoined base keeps path output number why is of_join l s = let r = known_rejection path output number why l s in (r.0, by why of_join r.1)
     where
       by : (given : Rejection) → IsOfJoin given → IsRejection p style end task path given → IsUnjoined p style base path given
-      by (NoJoin error) of r = subst (λ b. IsUnjoined p style b path (NoJoin error)) (sym (same_base (sym is ∙ r.1.0))) r.1.1
-      by (NoJoinAt error text) of r = subst (λ b. IsUnjoined p style b path (NoJoinAt error text)) (sym (same_base (sym is ∙ r.1.0))) r.1.1
+      by (NoJoin error) of r = subst (λ b. IsUnjoined p style b path (NoJoin error)) (sym (same_base (sym is ∙ r.1.1.0))) r.1.1.1
+      by (NoJoinAt error text) of r = subst (λ b. IsUnjoined p style b path (NoJoinAt error text)) (sym (same_base (sym is ∙ r.1.1.0))) r.1.1.1
       by (NoString error) of r = absurd of
       by NoNormalForm of r = absurd of
       by NoRelativePath of r = absurd of

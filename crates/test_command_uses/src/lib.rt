@@ -27,8 +27,8 @@ pub use names::{
     line_before, line_of, list_of_two, names_again, returned_line, unended_line, unended_name,
 };
 pub use paths::{
-    answered, components_of, joined_one, line_with_nul, parent_line, parent_of, requested_on,
-    requested_one, requests_a_command, stated_list, unended_path,
+    answered, components_of, joined_one, kept_below, kept_separator, line_with_nul, parent_line,
+    parent_of, requested_on, requested_one, requests_a_command, stated_list, unended_path,
 };
 pub use plans::{fails_first, kept, turns};
 pub use programs::{

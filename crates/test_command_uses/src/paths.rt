@@ -1,10 +1,12 @@
 //! Lists of paths: the arguments of commands, the result for one path, and one that is rejected.
-ghost use Rattle.std.specs.Prelude.{◌≡◌, ◌≢◌, ◌∷◌, ◌++◌, ◌⊎◌, [], ℕ, List, true, false, Some, None, IsOk, IfErr, IfSome, OnOk};
+ghost use Rattle.std.specs.Prelude.{◌≡◌, ◌≢◌, ◌↔◌, ◌∷◌, ◌++◌, ◌⊎◌, [], ℕ, List, true, false, Some, None, IsOk, IfErr, IfSome, OnOk};
 ghost use Rattle.std.specs.Fmt.InlineText.{inline_text};
 ghost use Rattle.std.specs.Io.KnownBytes.{Appends};
 ghost use Rattle.std.specs.declared.fmt.InlineText.{InlineText};
 ghost use Rattle.os_str_bytes.specs.EncodingError.{EncodingError};
-ghost use Rattle.path_building.specs.BaseViews.{base_style};
+ghost use Rattle.path_building.specs.BaseViews.{base_path, base_style};
+ghost use Rattle.path_building.specs.Checked.{IsBelowBase};
+ghost use Rattle.path_building.specs.CheckedEnd.{IsCheckedJoinEnded};
 ghost use Rattle.path_building.specs.Faults.{IsNameFault};
 ghost use Rattle.path_building.specs.FullPath.{IsFullPath};
 ghost use Rattle.path_building.specs.Join.{IsJoin};
@@ -12,6 +14,7 @@ ghost use Rattle.path_building.specs.declared.walk.NameError.{NameError};
 ghost use Rattle.path_rules.specs.Parent.{IsParent, HasNoParent};
 ghost use Rattle.path_building.specs.Relative.{IsRelativeFrom};
 ghost use Rattle.path_building.specs.Restyled.{IsRestyled};
+ghost use Rattle.list_programs.specs.Arguments.{HasOption};
 ghost use Rattle.list_programs.specs.Items.{Lacks};
 ghost use Rattle.list_programs.specs.ListOptions.{AreStated, byte_of};
 ghost use Rattle.list_programs.specs.ListRun.{IsOutput, StopsOn};
@@ -26,7 +29,7 @@ ghost use Rattle.paths_commands.specs.Styles.{style_of};
 ghost use Rattle.paths_commands.specs.Task.{component_of, rules_of, IsAnswer, IsComponentsText, IsShownOf, way_text};
 ghost use Rattle.paths_commands.specs.declared.command.Command.{Command as DeclaredCommand};
 ghost use Rattle.paths_commands.specs.declared.fault.Rejection.TheVariants.{NoJoin, NoJoinAt, NoString};
-ghost use Rattle.paths_commands.specs.declared.option.PathsOption.TheVariants.{Lines, Unterminated};
+ghost use Rattle.paths_commands.specs.declared.option.PathsOption.TheVariants.{KeepSeparator, Lines, Unterminated};
 ghost use Rattle.paths_commands.specs.declared.task.Task.TheVariants.{Components};
 ghost use Rattle.test_command_uses.specs.OneFile.{lacking};
 
@@ -67,6 +70,18 @@ pub fn stated_list(given: Line<'_, '_>) -> Option<ListOptions>
             Command::Help | Command::Version => None,
         },
         Err(_) => None,
+    }
+}
+
+/// Whether a separator at the end of a path is kept by options and operands that request a checked
+/// join.
+pub fn kept_separator(given: Line<'_, '_>) -> Option<bool>
+    ensures { IfSome result (λ keeps.
+        (keeps ≡ true) ↔ HasOption KeepSeparator given.entry.now) }
+{
+    match Command::parse(given, 0) {
+        Ok(Command::Ask(Task::JoinChecked(_, keeps), _, _, _, _)) => Some(keeps),
+        _ => None,
     }
 }
 
@@ -240,6 +255,28 @@ pub fn after_base<E: PathStyle, A: Allocator, W: Write>(
     answered::<E, A, W>(alloc, ItemEnd::Nul, Task::Join(base), path, writer)
 }
 
+/// Puts one path below a base that it can't leave, with the separator at its end, which is written
+/// with NUL.
+pub fn kept_below<E: PathStyle, A: Allocator, W: Write>(
+    alloc: A,
+    base: Base<'_>,
+    path: &[u8],
+    writer: &mut Marked<W>,
+) -> Result<(), ListFault<Rejection>>
+    requires whole { Lacks 0 path.now }
+    requires some { path.now ≢ [] }
+    requires unmarked { has_failed writer.old ≡ false }
+    ensures { OnOk result ((ended : List ℕ)
+        × ((IsCheckedJoinEnded (base_style base.entry) (base_path base.entry) path.now ended
+        × IsBelowBase (base_style base.entry) (base_path base.entry) ended)
+        × (Lacks 0 ended
+        × Appends (W.contents (marked_inner writer.old)) (W.contents (marked_inner writer.new))
+        (ended ++ 0 ∷ [])))) }
+{
+    let task = Task::JoinChecked(base, true);
+    answered::<E, A, W>(alloc, ItemEnd::Nul, task, path, writer)
+}
+
 /// Writes how one path is reached from a base, with NUL.
 pub fn from_base<E: PathStyle, A: Allocator, W: Write>(
     alloc: A,
@@ -333,6 +370,7 @@ pub fn requested_one<E: PathStyle, A: Allocator, W: Write>(
 pub fn joined_one<E: PathStyle, A: Allocator, W: Write>(
     alloc: A,
     base: Base<'_>,
+    keeps: bool,
     path: &[u8],
     writer: &mut Marked<W>,
 ) -> Result<(), ListFault<Rejection>>
@@ -350,7 +388,7 @@ pub fn joined_one<E: PathStyle, A: Allocator, W: Write>(
 {
     ask::<E, A, W>(
         alloc,
-        Task::JoinChecked(base),
+        Task::JoinChecked(base, keeps),
         lacking(ItemEnd::Nul),
         path,
         writer,

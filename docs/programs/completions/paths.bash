@@ -21,7 +21,7 @@ _paths() {
                 components) words='--lines --unterminated --keep-going' ;;
                 normalize) words='--lines --unterminated --keep-going' ;;
                 clean) words='--lines --unterminated --keep-going' ;;
-                join) words='--checked --lines --unterminated --keep-going' ;;
+                join) words='--checked --keep-separator --lines --unterminated --keep-going' ;;
                 relative) words='--lines --unterminated --keep-going' ;;
                 absolute) words='--lines --unterminated --keep-going' ;;
                 convert) words='--lines --unterminated --keep-going' ;;

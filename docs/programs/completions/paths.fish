@@ -15,6 +15,7 @@ complete -c paths -n '__fish_seen_subcommand_from parent name stem extension com
 complete -c paths -n '__fish_seen_subcommand_from convert' -a 'unix windows wasm'
 complete -c paths -n '__fish_seen_subcommand_from join relative absolute; and __fish_seen_subcommand_from unix windows wasm' -F
 complete -c paths -n '__fish_seen_subcommand_from join' -l checked -d 'reject a path that could leave BASE'
+complete -c paths -n '__fish_seen_subcommand_from join' -l keep-separator -d 'keep a separator at the end of a path'
 complete -c paths -l lines -d 'a newline ends each path, and not NUL'
 complete -c paths -l unterminated -d 'the last path may lack its end'
 complete -c paths -l keep-going -d 'go on after a path that is rejected'

@@ -15,8 +15,8 @@ use Rattle.path_building.proofs.lemmas.Bases.{is_base}
 use Rattle.path_rules.specs.Root.{IsAbsolute}
 use Rattle.path_rules.specs.declared.rules.Style.{Style}
 use Rattle.paths_commands.specs.Styles.{style_of}
-use Rattle.paths_commands.specs.Command.{HasNoPlatform, HasOneOperand, HasOperands, HasStyle, IsInvalid, IsMisplaced, IsMissing, IsMisuse, IsNoBase, IsNoDirectory, IsNoTarget, IsOfPaths, IsTooMany, Line, Needs, RequestsNothing, needed_count}
-use Rattle.paths_commands.specs.Task.{IsChecked, name_of, name_word, operands_of_task}
+use Rattle.paths_commands.specs.Command.{HasNoPlatform, HasOneOperand, HasOperands, HasStyle, IsInvalid, IsMisplaced, IsMissing, IsMisuse, IsNoBase, IsNoDirectory, IsNoTarget, IsOfJoin, IsOfPaths, IsTooMany, Line, Needs, RequestsNothing, needed_count}
+use Rattle.paths_commands.specs.Task.{IsChecked, KeepsSeparator, name_of, name_word, operands_of_task}
 use Rattle.paths_commands.specs.declared.command.Command.TheVariants.{Ask, Help, Version}
 use Rattle.paths_commands.specs.declared.command.Name.{Name as DeclaredName}
 use Rattle.paths_commands.specs.declared.command.Name.TheVariants as name
@@ -45,7 +45,7 @@ count_is Extension = refl
 count_is Normalize = refl
 count_is Clean = refl
 count_is (Join base) = refl
-count_is (JoinChecked base) = refl
+count_is (JoinChecked base keeps) = refl
 count_is (Relative base) = refl
 count_is (Absolute directory) = refl
 count_is (Convert to) = refl
@@ -89,7 +89,7 @@ converts Extension word more is some = absurd (none_some some)
 converts Normalize word more is some = absurd (none_some some)
 converts Clean word more is some = absurd (none_some some)
 converts (Join base) word more is some = absurd (no_join is)
-converts (JoinChecked base) word more is some = absurd (no_join is)
+converts (JoinChecked base keeps) word more is some = absurd (no_join is)
 converts (Relative base) word more is some = absurd (no_relative is)
 converts (Absolute directory) word more is some = absurd (no_absolute is)
 converts (Convert to) word more is some = (to, sym (first some))
@@ -104,10 +104,25 @@ checked_joins Extension is = absurd is
 checked_joins Normalize is = absurd is
 checked_joins Clean is = absurd is
 checked_joins (Join base) is = absurd is
-checked_joins (JoinChecked base) is = refl
+checked_joins (JoinChecked base keeps) is = refl
 checked_joins (Relative base) is = absurd is
 checked_joins (Absolute directory) is = absurd is
 checked_joins (Convert to) is = absurd is
+
+-- a task that keeps separators is checked
+keeps_checked : (task : Task) → KeepsSeparator task → IsChecked task
+keeps_checked Components keeps = keeps
+keeps_checked Parent keeps = keeps
+keeps_checked Name keeps = keeps
+keeps_checked Stem keeps = keeps
+keeps_checked Extension keeps = keeps
+keeps_checked Normalize keeps = keeps
+keeps_checked Clean keeps = keeps
+keeps_checked (Join base) keeps = keeps
+keeps_checked (JoinChecked base is) keeps = tt
+keeps_checked (Relative base) keeps = keeps
+keeps_checked (Absolute directory) keeps = keeps
+keeps_checked (Convert to) keeps = keeps
 
 -- a task that is checked has a base
 checked_base : (w : Style) (task : Task) (word : List ℕ) → IsChecked task → HasStyle w task → operands_of_task task ≡ word ∷ [] → IsBase w word
@@ -119,7 +134,7 @@ checked_base w Extension word is of own = absurd is
 checked_base w Normalize word is of own = absurd is
 checked_base w Clean word is of own = absurd is
 checked_base w (Join base) word is of own = absurd is
-checked_base w (JoinChecked base) word is of own = subst (IsBase w) (first own) (subst (λ v. IsBase v (base_path base)) of (is_base (base_style base) (base_path base) base.complete))
+checked_base w (JoinChecked base keeps) word is of own = subst (IsBase w) (first own) (subst (λ v. IsBase v (base_path base)) of (is_base (base_style base) (base_path base) base.complete))
 checked_base w (Relative base) word is of own = absurd is
 checked_base w (Absolute directory) word is of own = absurd is
 checked_base w (Convert to) word is of own = absurd is
@@ -134,7 +149,7 @@ absolute_directory w Extension word is of own = absurd (none_some own)
 absolute_directory w Normalize word is of own = absurd (none_some own)
 absolute_directory w Clean word is of own = absurd (none_some own)
 absolute_directory w (Join base) word is of own = absurd (not_join is)
-absolute_directory w (JoinChecked base) word is of own = absurd (not_join is)
+absolute_directory w (JoinChecked base keeps) word is of own = absurd (not_join is)
 absolute_directory w (Relative base) word is of own = absurd (not_relative is)
 absolute_directory w (Absolute directory) word is of own = subst (IsAbsolute w) (first own) of
 absolute_directory w (Convert to) word is of own = absurd (no_absolute (sym is))
@@ -192,9 +207,10 @@ module _ (after_end : ℕ) (given : Line) (task : Task) (os : Os) (paths : List 
       let same = one_reading after_end given (name_of task) it os other (operands_of_task task ++ paths) (word ∷ has.0) requests has.1.0 in
       (same.0, (same.1.0, only (operands_of_task task) word paths has.0 (count_is task ∙ ap needed_count same.0 ∙ one) same.1.1))
 
-  nothing_missing : (what : List ℕ) → IsMissing after_end given what → ⊥
-  nothing_missing what (inl no_command) = let some = some_operand after_end given (name_of task) os (operands_of_task task ++ paths) requests in none_some (sym no_command.1 ∙ some.1)
-  nothing_missing what (inr no_operand) =
+  nothing_missing : (what : List ℕ) → (HasOption option.KeepSeparator given → HasOption option.Checked given) → IsMissing after_end given what → ⊥
+  nothing_missing what checked (inl no_command) = let some = some_operand after_end given (name_of task) os (operands_of_task task ++ paths) requests in none_some (sym no_command.1 ∙ some.1)
+  nothing_missing what checked (inr (inl none)) = none.1.0.1 (checked none.1.0.0)
+  nothing_missing what checked (inr (inr no_operand)) =
       let same = one_reading after_end given no_operand.0 (name_of task) no_operand.1.0 os [] (operands_of_task task ++ paths) no_operand.1.1.0 requests in
       let count = sym (needs_one no_operand.0 what no_operand.1.1.1) ∙ ap needed_count same.0 ∙ sym (count_is task) ∙ none_left (operands_of_task task) paths same.1.1 in
       absurd (omega (arith, count))
@@ -230,17 +246,21 @@ module _ (after_end : ℕ) (given : Line) (task : Task) (os : Os) (paths : List 
       let count = count_is task ∙ ap needed_count same.0 ∙ sym many.needed in
       absurd (omega (arith, lengths, count, late, many.early))
 
-  nothing_misplaced : (word where_to : List ℕ) → (HasOption option.Checked given → IsChecked task) → IsMisplaced after_end given word where_to → ⊥
-  nothing_misplaced word where_to checked misplaced =
-      let named = misplaced.1.1 in
+  is_join : (word : List ℕ) → (HasOption option.Checked given → IsChecked task) → (HasOption option.KeepSeparator given → KeepsSeparator task) → IsOfJoin given word → name_of task ≡ name.Join
+  is_join word checked keeps (inl has) = checked_joins task (checked has.1)
+  is_join word checked keeps (inr has) = checked_joins task (keeps_checked task (keeps has.1))
+
+  nothing_misplaced : (word where_to : List ℕ) → (HasOption option.Checked given → IsChecked task) → (HasOption option.KeepSeparator given → KeepsSeparator task) → IsMisplaced after_end given word where_to → ⊥
+  nothing_misplaced word where_to checked keeps misplaced =
+      let named = misplaced.1 in
       let same = one_reading after_end given named.0 (name_of task) named.1.0 os named.1.1.0 (operands_of_task task ++ paths) named.1.1.1.0 requests in
-      named.1.1.1.1.1 (same.0 ∙ checked_joins task (checked misplaced.1.0))
+      named.1.1.1.1.1 (same.0 ∙ is_join word checked keeps misplaced.0)
 
 -- what is wrong with options and operands isn't wrong with those that request a command
 pub never_both : (after_end : ℕ) (given : Line) (misuse : Misuse) → IsOfPaths given → IsMisuse after_end given misuse → RequestsNothing after_end given
 never_both after_end given misuse of_paths wrong Help requests = of_paths.0 requests
 never_both after_end given misuse of_paths wrong Version requests = of_paths.1 requests.1
 never_both after_end given (Argument error) of_paths wrong (Ask task os list keeps_going paths) requests = nothing_surplus after_end given task os (operands_of paths.now) requests.1.0.0 requests.1.0.1 wrong.0 wrong.1.0
-never_both after_end given (Missing what) of_paths wrong (Ask task os list keeps_going paths) requests = nothing_missing after_end given task os (operands_of paths.now) requests.1.0.0 requests.1.0.1 what.now wrong
-never_both after_end given (Invalid what word) of_paths wrong (Ask task os list keeps_going paths) requests = nothing_invalid after_end given task os (operands_of paths.now) requests.1.0.0 requests.1.0.1 what.now word.now requests.1.1.0.1 requests.1.1.1.0 wrong
-never_both after_end given (Misplaced word where_to) of_paths wrong (Ask task os list keeps_going paths) requests = nothing_misplaced after_end given task os (operands_of paths.now) requests.1.0.0 requests.1.0.1 word.now where_to.now requests.1.1.0.1 wrong
+never_both after_end given (Missing what) of_paths wrong (Ask task os list keeps_going paths) requests = nothing_missing after_end given task os (operands_of paths.now) requests.1.0.0 requests.1.0.1 what.now (λ keeps. requests.1.1.0.0.0 (keeps_checked task (requests.1.1.0.1.1 keeps))) wrong
+never_both after_end given (Invalid what word) of_paths wrong (Ask task os list keeps_going paths) requests = nothing_invalid after_end given task os (operands_of paths.now) requests.1.0.0 requests.1.0.1 what.now word.now requests.1.1.0.0.1 requests.1.1.1.0 wrong
+never_both after_end given (Misplaced word where_to) of_paths wrong (Ask task os list keeps_going paths) requests = nothing_misplaced after_end given task os (operands_of paths.now) requests.1.0.0 requests.1.0.1 word.now where_to.now requests.1.1.0.0.1 requests.1.1.0.1.1 wrong

@@ -129,7 +129,7 @@ returns-in-JoinChecked g c =
       fault = IfErr-weaker call.result _ _
           (λ fault. ⊎_elim (λ memory. inl memory)
           (λ none.
-          let is = unjoined_unanswered g.E.Platform S c.args.task _ path none.0 c.in-JoinChecked.is none.1.1 in
+          let is = unjoined_unanswered g.E.Platform S c.args.task _ _ path none.0 c.in-JoinChecked.is none.1.1 in
           inr (none.0, (none.1.0, is))))
           call.ensures.fault;
       unchanged = call.ensures.unchanged;
