@@ -15,6 +15,7 @@ use Rattle.path_building.specs.BaseViews.{base_style}
 use Rattle.path_building.specs.Faults.{IsBaseFault}
 use Rattle.path_building.specs.declared.base.BaseError.{BaseError}
 use Rattle.path_building.specs.declared.base.BaseError.TheVariants as base_error
+use Rattle.path_rules.specs.Name.{IsExtensionText}
 use Rattle.path_rules.specs.Root.{IsAbsolute}
 use Rattle.path_rules.specs.declared.rules.Style.{Style}
 use Rattle.paths_commands.specs.Options.{has_value, spelled}
@@ -27,7 +28,7 @@ use Rattle.paths_commands.specs.declared.command.Name.TheVariants as task_name
 use Rattle.paths_commands.specs.declared.option.PathsOption.{PathsOption}
 use Rattle.paths_commands.specs.declared.option.PathsOption.TheVariants as option
 use Rattle.paths_commands.specs.declared.task.Task.{Task}
-use Rattle.paths_commands.specs.declared.task.Task.TheVariants.{Components, Parent, Name as LastName, Stem, Extension, Normalize, Clean, Join, JoinChecked, Relative, Absolute, Convert}
+use Rattle.paths_commands.specs.declared.task.Task.TheVariants.{Components, Parent, Name as LastName, Stem, Extension, WithExtension, Normalize, Clean, Join, JoinChecked, Relative, Absolute, Convert}
 
 -- options and operands, as they were given
 abbrev pub Line : Type 0
@@ -42,13 +43,14 @@ abbrev pub AreAfterEnd : List (List ℕ) → ℕ → Type 0
 AreAfterEnd [] count = count ≡ 0
 AreAfterEnd (word ∷ words) count = ((word ≡ codes "--") × (count ≡ length words)) ⊎ ((word ≢ codes "--") × AreAfterEnd words count)
 
--- the task's operand is valid by these rules: a base that was tested follows them, and a directory is absolute
+-- the task's operand is valid by these rules: a base or an extension that was tested follows them, and a directory is absolute
 abbrev pub HasStyle : Style → Task → Type 0
 HasStyle style Components = Unit {0}
 HasStyle style Parent = Unit {0}
 HasStyle style LastName = Unit {0}
 HasStyle style Stem = Unit {0}
 HasStyle style Extension = Unit {0}
+HasStyle style (WithExtension extension) = extension.style ≡ style
 HasStyle style Normalize = Unit {0}
 HasStyle style Clean = Unit {0}
 HasStyle style (Join base) = Unit {0}
@@ -70,6 +72,7 @@ Needs task_name.Parent what = ⊥
 Needs task_name.Name what = ⊥
 Needs task_name.Stem what = ⊥
 Needs task_name.Extension what = ⊥
+Needs task_name.WithExtension what = what ≡ codes "EXT"
 Needs task_name.Normalize what = ⊥
 Needs task_name.Clean what = ⊥
 Needs task_name.Join what = what ≡ codes "BASE"
@@ -84,6 +87,7 @@ needed_count task_name.Parent = 0
 needed_count task_name.Name = 0
 needed_count task_name.Stem = 0
 needed_count task_name.Extension = 0
+needed_count task_name.WithExtension = 1
 needed_count task_name.Normalize = 0
 needed_count task_name.Clean = 0
 needed_count task_name.Join = 1
@@ -153,15 +157,19 @@ module _ (after_end : ℕ) where
   abbrev pub IsNoDirectory : Line → List ℕ → List ℕ → Type 0
   IsNoDirectory given what word = (what ≡ codes "DIR (not absolute)") × ((os : Os) × (HasOneOperand given task_name.Absolute os word × (¬ (IsAbsolute (style_of os) word))))
 
+  -- the word is no extension on the platform, and `with-extension` wants one
+  abbrev pub IsNoExtension : Line → List ℕ → List ℕ → Type 0
+  IsNoExtension given what word = (what ≡ codes "EXT (has a separator)") × ((os : Os) × (HasOneOperand given task_name.WithExtension os word × (¬ (IsExtensionText (style_of os) word))))
+
   -- the word is no platform, and `convert` wants one
   abbrev pub IsNoTarget : Line → List ℕ → List ℕ → Type 0
   IsNoTarget given what word = (what ≡ codes "platform") × ((os : Os) × (HasOneOperand given task_name.Convert os word × ((to : Os) → word ≢ os_word to)))
 
-  -- which word is no command, no platform, no base or no directory
+  -- which word is no command, no platform, no base, no directory or no extension
   abbrev pub IsInvalid : Line → List ℕ → List ℕ → Type 0
   IsInvalid given what word =
       ((what ≡ codes "command") × (((name : Name) → word ≢ name_word name) × ((more : List (List ℕ)) × (operands_of given ≡ word ∷ more))))
-      ⊎ (IsNoTarget given what word ⊎ (IsNoBase given what word ⊎ IsNoDirectory given what word))
+      ⊎ (IsNoTarget given what word ⊎ (IsNoBase given what word ⊎ (IsNoDirectory given what word ⊎ IsNoExtension given what word)))
 
   -- such an option is given, and isn't for the task that is named
   abbrev pub IsMisplaced : Line → List ℕ → List ℕ → Type 0

@@ -16,6 +16,7 @@ use Rattle.path_building.specs.CheckedEnd.{IsCheckedJoinEnded}
 use Rattle.path_building.specs.Faults.{IsNameFault}
 use Rattle.path_building.specs.declared.base.Base.{Base}
 use Rattle.path_building.specs.Cleaned.{IsCleaned}
+use Rattle.path_building.specs.FileName.{IsExtensionSet}
 use Rattle.path_building.specs.FullPath.{IsFullPath, IsAbsoluteFault}
 use Rattle.path_building.specs.Join.{IsJoin}
 use Rattle.path_building.specs.Normalized.{IsNormalized, HasNoNormalForm}
@@ -37,12 +38,13 @@ use Rattle.list_programs.specs.declared.options.ListOptions.{ListOptions}
 use Rattle.program_frame.specs.declared.os.Os.{Os}
 use Rattle.list_programs.specs.Rules.{ListRules}
 use Rattle.paths_commands.specs.Styles.{style_of}
+use Rattle.paths_commands.specs.declared.extension.Extension as declared_extension
 use Rattle.paths_commands.specs.declared.fault.Rejection.{Rejection}
 use Rattle.paths_commands.specs.declared.fault.Rejection.TheVariants as rejection
 use Rattle.paths_commands.specs.declared.command.Name.{Name as DeclaredName}
 use Rattle.paths_commands.specs.declared.command.Name.TheVariants as name
 use Rattle.paths_commands.specs.declared.task.Task.{Task}
-use Rattle.paths_commands.specs.declared.task.Task.TheVariants.{Components, Parent, Name, Stem, Extension, Normalize, Clean, Join, JoinChecked, Relative, Absolute, Convert}
+use Rattle.paths_commands.specs.declared.task.Task.TheVariants.{Components, Parent, Name, Stem, Extension, WithExtension, Normalize, Clean, Join, JoinChecked, Relative, Absolute, Convert}
 
 -- the name of the task
 abbrev pub name_of : Task → DeclaredName
@@ -51,6 +53,7 @@ name_of Parent = name.Parent
 name_of Name = name.Name
 name_of Stem = name.Stem
 name_of Extension = name.Extension
+name_of (WithExtension extension) = name.WithExtension
 name_of Normalize = name.Normalize
 name_of Clean = name.Clean
 name_of (Join base) = name.Join
@@ -66,6 +69,7 @@ name_word name.Parent = codes "parent"
 name_word name.Name = codes "name"
 name_word name.Stem = codes "stem"
 name_word name.Extension = codes "extension"
+name_word name.WithExtension = codes "with-extension"
 name_word name.Normalize = codes "normalize"
 name_word name.Clean = codes "clean"
 name_word name.Join = codes "join"
@@ -80,6 +84,7 @@ IsChecked Parent = ⊥
 IsChecked Name = ⊥
 IsChecked Stem = ⊥
 IsChecked Extension = ⊥
+IsChecked (WithExtension extension) = ⊥
 IsChecked Normalize = ⊥
 IsChecked Clean = ⊥
 IsChecked (Join base) = ⊥
@@ -95,6 +100,7 @@ KeepsSeparator Parent = ⊥
 KeepsSeparator Name = ⊥
 KeepsSeparator Stem = ⊥
 KeepsSeparator Extension = ⊥
+KeepsSeparator (WithExtension extension) = ⊥
 KeepsSeparator Normalize = ⊥
 KeepsSeparator Clean = ⊥
 KeepsSeparator (Join base) = ⊥
@@ -110,6 +116,7 @@ operands_of_task Parent = []
 operands_of_task Name = []
 operands_of_task Stem = []
 operands_of_task Extension = []
+operands_of_task (WithExtension extension) = extension.text.now ∷ []
 operands_of_task Normalize = []
 operands_of_task Clean = []
 operands_of_task (Join base) = base.now ∷ []
@@ -126,6 +133,10 @@ component_text style CurDir = codes "."
 component_text style ParentDir = codes ".."
 component_text style (Normal s) = s
 
+-- the path with this extension of its last name, and the path itself where it doesn't end in a name
+abbrev pub IsExtendedBy : declared_extension.Extension → List ℕ → List ℕ → Type 0
+IsExtendedBy extension path made = (is_set : Bool) × IsExtensionSet extension.style path extension.text.now made is_set
+
 -- the path after the base, with the separator at its end where that is kept
 abbrev pub IsJoinedTo : Base → Bool → List ℕ → List ℕ → Type 0
 IsJoinedTo base false path joined = IsCheckedJoin (base_style base) (base_path base) path joined
@@ -140,13 +151,14 @@ abbrev pub way_text : List ℕ → List ℕ
 way_text [] = codes "."
 way_text (b ∷ way) = b ∷ way
 
--- the result of the task: the requested part, and nothing where the path has none. Or a form of the path, the path after a base or how it is reached from one, the path as an absolute path, or a path of another platform with its components
+-- the result of the task: the requested part, and nothing where the path has none. Or the path with another extension, a form of the path, the path after a base or how it is reached from one, the path as an absolute path, or a path of another platform with its components
 abbrev pub IsAnswer : Style → Task → List ℕ → List ℕ → Type 0
 IsAnswer style Components path answer = ⊥
 IsAnswer style Parent path answer = IsParent style path answer ⊎ (HasNoParent style path × (answer ≡ []))
 IsAnswer style Name path answer = HasFileName style path answer ⊎ (HasNoFileName style path × (answer ≡ []))
 IsAnswer style Stem path answer = HasFileStem style path answer ⊎ (HasNoFileName style path × (answer ≡ []))
 IsAnswer style Extension path answer = HasExtension style path answer ⊎ (LacksExtension style path × (answer ≡ []))
+IsAnswer style (WithExtension extension) path answer = IsExtendedBy extension path answer
 IsAnswer style Normalize path answer = IsNormalized style path answer
 IsAnswer style Clean path answer = IsCleaned style path answer
 IsAnswer style (Join base) path answer = IsJoin style base.now path answer

@@ -11,6 +11,7 @@ ghost use Rattle.paths_commands.specs.declared.command.Name.{Name as DeclaredNam
 ghost use Rattle.paths_commands.specs.declared.command.Name.TheVariants.{Join as JoinName};
 ghost use Rattle.paths_commands.specs.declared.option.PathsOption.TheVariants.{Checked, KeepSeparator, Lines, Unterminated};
 
+use crate::extension::Extension;
 use crate::option::PathsOption;
 use crate::task::Task;
 use list_programs::arguments::{Given, has, next_operand};
@@ -47,7 +48,8 @@ impl<'s, 'a> Command<'s, 'a> {
     /// come after `--`. It doesn't allocate.
     ///
     /// `--help` and `--version` are commands wherever they stand. Otherwise the operands are a
-    /// command, a platform and, for `join`, `relative`, `absolute` and `convert`, one more. The
+    /// command, a platform and, for `with-extension`, `join`, `relative`, `absolute` and `convert`, one
+    /// more. The
     /// platform may be left out, and is Unix then. The operands after these are paths, and come after
     /// `--`. If all that come after the command's name follow `--`, and the name doesn't, then none of
     /// them is a platform.
@@ -60,7 +62,8 @@ impl<'s, 'a> Command<'s, 'a> {
     ///
     /// What is wrong: something is missing, an argument is invalid, an option isn't for the
     /// command, or an operand is one too many. With `--checked` BASE is invalid if it is no
-    /// [`Base`]. DIR of `absolute` is invalid if it isn't absolute ([`path_rules::is_absolute`]).
+    /// [`Base`]. DIR of `absolute` is invalid if it isn't absolute ([`path_rules::is_absolute`]), and
+    /// EXT of `with-extension` if it has a separator ([`Extension`]).
     ///
     /// ```
     /// use paths_commands::command::Command;
@@ -186,6 +189,8 @@ pub enum Name {
     Stem,
     /// `extension`.
     Extension,
+    /// `with-extension`.
+    WithExtension,
     /// `normalize`.
     Normalize,
     /// `clean`.
@@ -212,6 +217,7 @@ impl Name {
             "name" => Some(Name::Name),
             "stem" => Some(Name::Stem),
             "extension" => Some(Name::Extension),
+            "with-extension" => Some(Name::WithExtension),
             "normalize" => Some(Name::Normalize),
             "clean" => Some(Name::Clean),
             "join" => Some(Name::Join),
@@ -232,6 +238,7 @@ impl Name {
             Name::Name => "name",
             Name::Stem => "stem",
             Name::Extension => "extension",
+            Name::WithExtension => "with-extension",
             Name::Normalize => "normalize",
             Name::Clean => "clean",
             Name::Join => "join",
@@ -247,6 +254,7 @@ impl Name {
             (λ what. (needed_count self ≡ 1) × Needs self what.now) }
     {
         match self {
+            Name::WithExtension => Some("EXT"),
             Name::Join | Name::Relative => Some("BASE"),
             Name::Absolute => Some("DIR"),
             Name::Convert => Some("platform to convert to"),
@@ -346,7 +354,8 @@ fn without_operand<'a>(name: Name) -> Task<'a>
         Name::Extension => Task::Extension,
         Name::Normalize => Task::Normalize,
         Name::Clean => Task::Clean,
-        Name::Join | Name::Relative | Name::Absolute | Name::Convert => unreachable!(),
+        Name::WithExtension | Name::Join | Name::Relative | Name::Absolute | Name::Convert =>
+            unreachable!(),
     }
 }
 
@@ -369,6 +378,10 @@ fn with_operand<'a>(
     ensures misuse { IfErr result (λ misuse. IsMisuse after_end given.entry.now misuse) }
 {
     match name {
+        Name::WithExtension => match Extension::new(style_of(os), operand) {
+            Some(extension) => Ok(Task::WithExtension(extension)),
+            None => Err(Misuse::Invalid("EXT (has a separator)", operand)),
+        },
         Name::Join => {
             if is_checked {
                 return checked_join(given, after_end, keeps, os, operand);

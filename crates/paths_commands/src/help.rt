@@ -17,6 +17,9 @@ paths parent     [PLATFORM]        writes the path without its last component
 paths name       [PLATFORM]        writes the last component, where that is a name
 paths stem       [PLATFORM]        writes that name without its extension
 paths extension  [PLATFORM]        writes the extension of that name
+paths with-extension [PLATFORM] EXT
+                                   writes the path with EXT as that extension, or with none if EXT is empty; a path
+                                   that doesn't end in a name stays
 paths normalize  [PLATFORM]        writes the path without . and ..; a .. takes the name before it away, and a
                                    path with a .. that has none is rejected
 paths clean      [PLATFORM]        as normalize, but such a .. stays, or goes at a root
@@ -35,8 +38,8 @@ Each reads paths that are ended by NUL, the last one too. Each writes one result
 which is empty where the path has no such part. PLATFORM and TO are unix, windows or wasm. If PLATFORM is left
 out it is unix, so a BASE of one of these names comes after PLATFORM.
 
-Options may stand anywhere; -- ends them. The operands that come after -- and aren't BASE, DIR or TO are the
-paths, and nothing is read. PLATFORM isn't among them if the command comes before --.
+Options may stand anywhere; -- ends them. The operands that come after -- and aren't EXT, BASE, DIR or TO are
+the paths, and nothing is read. PLATFORM isn't among them if the command comes before --.
 
   --checked        join: for names from outside, as in an archive or a request
   --keep-separator join --checked: keep a separator at the end of a path, as an archive has for a folder

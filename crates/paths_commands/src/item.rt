@@ -16,12 +16,13 @@ ghost use Rattle.list_programs.specs.ListOptions.{byte_of};
 ghost use Rattle.list_programs.specs.Rules.{IsItemFault};
 ghost use Rattle.program_frame.specs.Strings.{strings};
 ghost use Rattle.paths_commands.specs.Styles.{style_of};
-ghost use Rattle.paths_commands.specs.Task.{rules_of, IsText, IsPathText, IsComponentsText, IsMade, IsRejection, IsUnanswered, IsUnconverted, way_text};
+ghost use Rattle.paths_commands.specs.Task.{rules_of, IsText, IsPathText, IsComponentsText, IsExtendedBy, IsMade, IsRejection, IsUnanswered, IsUnconverted, way_text};
 ghost use Rattle.platform_str.specs.Strings.{path_bytes};
 
 use crate::answers::{parent, part};
 use crate::checked::write_checked;
 use crate::components::{push_components, shown_component};
+use crate::extension::Extension;
 use crate::fault::Rejection;
 use crate::task::{OnPlatform, Task};
 use list_programs::fault::ItemFault;
@@ -29,6 +30,7 @@ use list_programs::items::split_at_end;
 use list_programs::options::ItemEnd;
 use os_path::{AbsoluteError, ConvertError, NormalizeError, PathExt, PathStyle};
 use os_str_bytes::{OsStr, Path, Platform, Unix, Wasm, Windows};
+use path_building::with_extension;
 use program_frame::os::Os;
 use std::alloc::Allocator;
 
@@ -133,6 +135,7 @@ fn write_result<E: PathStyle, A: Allocator + Copy>(
         Task::Name => write_answer(part(path.file_name()), output),
         Task::Stem => write_answer(part(path.file_stem()), output),
         Task::Extension => write_answer(part(path.extension()), output),
+        Task::WithExtension(extension) => write_extended::<E, A>(alloc, extension, path, output),
         Task::Normalize => write_normal::<E, A>(alloc, path, output),
         Task::Clean => write_clean::<E, A>(alloc, path, output),
         Task::Join(base) => write_joined::<E, A>(alloc, base, path, output),
@@ -159,6 +162,26 @@ fn write_components<E: PathStyle, A: Allocator + Copy>(
 {
     match push_components(alloc, path, output) {
         Ok(()) => Ok(()),
+        Err(_) => Err(ItemFault::Memory),
+    }
+}
+
+/// Appends a path with another extension.
+fn write_extended<E: PathStyle, A: Allocator + Copy>(
+    alloc: A,
+    extension: Extension<'_>,
+    path: Path<'_, E>,
+    output: &mut Vec<u8, A>,
+) -> Result<(), ItemFault<Rejection>>
+    ensures ok { OnOk result ((made : List ℕ)
+        × (IsExtendedBy extension.entry (path_bytes path.entry) made
+        × (output.new.items ≡ output.old.items ++ made))) }
+    ensures fault { IfErr result (λ fault. fault ≡ Memory) }
+    ensures unchanged { OnErr result (output.new.items ≡ output.old.items) }
+{
+    let raw = path.as_os_str().as_encoded_bytes();
+    match with_extension(alloc, extension.style, raw, extension.text.as_bytes()) {
+        Ok(made) => write_answer(&made, output),
         Err(_) => Err(ItemFault::Memory),
     }
 }

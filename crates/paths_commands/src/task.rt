@@ -2,6 +2,7 @@
 ghost use Rattle.std.specs.Prelude.{◌≡◌};
 ghost use Rattle.paths_commands.specs.Task.{rules_of};
 
+use crate::extension::Extension;
 use crate::fault::Rejection;
 use crate::item::write_item;
 use list_programs::fault::ItemFault;
@@ -27,6 +28,9 @@ pub enum Task<'a> {
     Stem,
     /// The extension of that name.
     Extension,
+    /// The path with this extension of that name, as std's `Path::with_extension`. A path without a
+    /// name is kept.
+    WithExtension(Extension<'a>),
     /// Its normal form, as std's `normalize_lexically`. A path without one is rejected.
     Normalize,
     /// Its clean form, as Go's `filepath.Clean`.

@@ -28,7 +28,8 @@ pub use names::{
 };
 pub use paths::{
     answered, components_of, joined_one, kept_below, kept_separator, line_with_nul, parent_line,
-    parent_of, requested_on, requested_one, requests_a_command, stated_list, unended_path,
+    parent_of, requested_on, requested_one, requests_a_command, stated_extension, stated_list,
+    unended_path, with_extension,
 };
 pub use plans::{fails_first, kept, turns};
 pub use programs::{

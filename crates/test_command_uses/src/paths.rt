@@ -1,5 +1,5 @@
 //! Lists of paths: the arguments of commands, the result for one path, and one that is rejected.
-ghost use Rattle.std.specs.Prelude.{◌≡◌, ◌≢◌, ◌↔◌, ◌∷◌, ◌++◌, ◌⊎◌, [], ℕ, List, true, false, Some, None, IsOk, IfErr, IfSome, OnOk};
+ghost use Rattle.std.specs.Prelude.{◌≡◌, ◌≢◌, ◌↔◌, ◌∷◌, ◌++◌, ◌⊎◌, [], ℕ, Bool, List, true, false, Some, None, IsOk, IfErr, IfSome, OnOk};
 ghost use Rattle.std.specs.Fmt.InlineText.{inline_text};
 ghost use Rattle.std.specs.Io.KnownBytes.{Appends};
 ghost use Rattle.std.specs.declared.fmt.InlineText.{InlineText};
@@ -8,9 +8,11 @@ ghost use Rattle.path_building.specs.BaseViews.{base_path, base_style};
 ghost use Rattle.path_building.specs.Checked.{IsBelowBase};
 ghost use Rattle.path_building.specs.CheckedEnd.{IsCheckedJoinEnded};
 ghost use Rattle.path_building.specs.Faults.{IsNameFault};
+ghost use Rattle.path_building.specs.FileName.{IsExtensionSet};
 ghost use Rattle.path_building.specs.FullPath.{IsFullPath};
 ghost use Rattle.path_building.specs.Join.{IsJoin};
 ghost use Rattle.path_building.specs.declared.walk.NameError.{NameError};
+ghost use Rattle.path_rules.specs.Name.{IsExtensionText};
 ghost use Rattle.path_rules.specs.Parent.{IsParent, HasNoParent};
 ghost use Rattle.path_building.specs.Relative.{IsRelativeFrom};
 ghost use Rattle.path_building.specs.Restyled.{IsRestyled};
@@ -41,6 +43,7 @@ use os_path::PathStyle;
 use os_str_bytes::Platform;
 use path_building::Base;
 use paths_commands::command::{Command, Line};
+use paths_commands::extension::Extension;
 use paths_commands::fault::Rejection;
 use paths_commands::task::{OnPlatform, Task};
 use program_frame::marked::Marked;
@@ -253,6 +256,38 @@ pub fn after_base<E: PathStyle, A: Allocator, W: Write>(
         (joined ++ 0 ∷ [])))) }
 {
     answered::<E, A, W>(alloc, ItemEnd::Nul, Task::Join(base), path, writer)
+}
+
+/// Replaces the extension of one path, which is written with NUL.
+pub fn with_extension<E: PathStyle, A: Allocator, W: Write>(
+    alloc: A,
+    extension: Extension<'_>,
+    path: &[u8],
+    writer: &mut Marked<W>,
+) -> Result<(), ListFault<Rejection>>
+    requires whole { Lacks 0 path.now }
+    requires some { path.now ≢ [] }
+    requires unmarked { has_failed writer.old ≡ false }
+    ensures { OnOk result ((made : List ℕ) × (((is_set : Bool)
+        × IsExtensionSet extension.entry.style path.now extension.entry.text.now made is_set)
+        × (Lacks 0 made
+        × Appends (W.contents (marked_inner writer.old)) (W.contents (marked_inner writer.new))
+        (made ++ 0 ∷ [])))) }
+{
+    let task = Task::WithExtension(extension);
+    answered::<E, A, W>(alloc, ItemEnd::Nul, task, path, writer)
+}
+
+/// An extension that options and operands state: no byte of it separates. It comes after the platform.
+pub fn stated_extension<'a>(given: Line<'_, 'a>) -> Option<(Extension<'a>, Os)>
+    ensures style { IfSome result (λ found. found.0.style ≡ style_of found.1) }
+    ensures text { IfSome result (λ found.
+        IsExtensionText (style_of found.1) found.0.text.now) }
+{
+    match Command::parse(given, 0) {
+        Ok(Command::Ask(Task::WithExtension(extension), os, _, _, _)) => Some((extension, os)),
+        _ => None,
+    }
 }
 
 /// Puts one path below a base that it can't leave, with the separator at its end, which is written

@@ -18,6 +18,7 @@ _paths() {
                 name) words='--lines --unterminated --keep-going' ;;
                 stem) words='--lines --unterminated --keep-going' ;;
                 extension) words='--lines --unterminated --keep-going' ;;
+                with-extension) words='--lines --unterminated --keep-going' ;;
                 components) words='--lines --unterminated --keep-going' ;;
                 normalize) words='--lines --unterminated --keep-going' ;;
                 clean) words='--lines --unterminated --keep-going' ;;
@@ -30,8 +31,8 @@ _paths() {
             ;;
         *)
             case $command:$count in
-                :0) words='parent name stem extension components normalize clean join relative absolute convert' ;;
-                parent:1|name:1|stem:1|extension:1|components:1|normalize:1|clean:1|join:1|relative:1|absolute:1|convert:1) words='unix windows wasm' ;;
+                :0) words='parent name stem extension with-extension components normalize clean join relative absolute convert' ;;
+                parent:1|name:1|stem:1|extension:1|with-extension:1|components:1|normalize:1|clean:1|join:1|relative:1|absolute:1|convert:1) words='unix windows wasm' ;;
                 join:2|relative:2) compopt -o default 2>/dev/null; return ;;
                 absolute:2) compopt -o default 2>/dev/null; return ;;
                 convert:2) words='unix windows wasm' ;;

@@ -12,17 +12,18 @@ use Rattle.path_building.specs.Faults.{IsBaseFault}
 use Rattle.path_building.specs.declared.base.BaseError.{BaseError}
 use Rattle.path_building.specs.declared.base.BaseError.TheVariants as base_error
 use Rattle.path_building.proofs.lemmas.Bases.{is_base}
+use Rattle.path_rules.specs.Name.{IsExtensionText}
 use Rattle.path_rules.specs.Root.{IsAbsolute}
 use Rattle.path_rules.specs.declared.rules.Style.{Style}
 use Rattle.paths_commands.specs.Styles.{style_of}
-use Rattle.paths_commands.specs.Command.{HasNoPlatform, HasOneOperand, HasOperands, HasStyle, IsInvalid, IsMisplaced, IsMissing, IsMisuse, IsNoBase, IsNoDirectory, IsNoTarget, IsOfJoin, IsOfPaths, IsTooMany, Line, Needs, RequestsNothing, needed_count}
+use Rattle.paths_commands.specs.Command.{HasNoPlatform, HasOneOperand, HasOperands, HasStyle, IsInvalid, IsMisplaced, IsMissing, IsMisuse, IsNoBase, IsNoDirectory, IsNoExtension, IsNoTarget, IsOfJoin, IsOfPaths, IsTooMany, Line, Needs, RequestsNothing, needed_count}
 use Rattle.paths_commands.specs.Task.{IsChecked, KeepsSeparator, name_of, name_word, operands_of_task}
 use Rattle.paths_commands.specs.declared.command.Command.TheVariants.{Ask, Help, Version}
 use Rattle.paths_commands.specs.declared.command.Name.{Name as DeclaredName}
 use Rattle.paths_commands.specs.declared.command.Name.TheVariants as name
 use Rattle.paths_commands.specs.declared.option.PathsOption.TheVariants as option
 use Rattle.paths_commands.specs.declared.task.Task.{Task}
-use Rattle.paths_commands.specs.declared.task.Task.TheVariants.{Components, Parent, Name, Stem, Extension, Normalize, Clean, Join, JoinChecked, Relative, Absolute, Convert}
+use Rattle.paths_commands.specs.declared.task.Task.TheVariants.{Components, Parent, Name, Stem, Extension, WithExtension, Normalize, Clean, Join, JoinChecked, Relative, Absolute, Convert}
 use Rattle.paths_commands.proofs.lemmas.Platforms.{same_os}
 use Rattle.paths_commands.proofs.lemmas.TaskNames.{same_name}
 
@@ -42,6 +43,7 @@ count_is Parent = refl
 count_is Name = refl
 count_is Stem = refl
 count_is Extension = refl
+count_is (WithExtension extension) = refl
 count_is Normalize = refl
 count_is Clean = refl
 count_is (Join base) = refl
@@ -57,6 +59,7 @@ needs_one name.Parent what needs = absurd needs
 needs_one name.Name what needs = absurd needs
 needs_one name.Stem what needs = absurd needs
 needs_one name.Extension what needs = absurd needs
+needs_one name.WithExtension what needs = refl
 needs_one name.Normalize what needs = absurd needs
 needs_one name.Clean what needs = absurd needs
 needs_one name.Join what needs = refl
@@ -73,11 +76,32 @@ no_relative e = cc
 no_absolute : name.Convert ≡ name.Absolute → ⊥
 no_absolute e = cc
 
+no_extension : name.Convert ≡ name.WithExtension → ⊥
+no_extension e = cc
+
 not_join : name.Absolute ≡ name.Join → ⊥
 not_join e = cc
 
 not_relative : name.Absolute ≡ name.Relative → ⊥
 not_relative e = cc
+
+not_extension : name.Absolute ≡ name.WithExtension → ⊥
+not_extension e = cc
+
+extends_once : (it : DeclaredName) → name.WithExtension ≡ it → it ≢ name.Join × (it ≢ name.Relative × (it ≢ name.Absolute × it ≢ name.Convert))
+extends_once it is = ((λ e. join (is ∙ e)), ((λ e. relative (is ∙ e)), ((λ e. absolute (is ∙ e)), (λ e. convert (is ∙ e)))))
+  where
+    join : name.WithExtension ≡ name.Join → ⊥
+    join e = cc
+
+    relative : name.WithExtension ≡ name.Relative → ⊥
+    relative e = cc
+
+    absolute : name.WithExtension ≡ name.Absolute → ⊥
+    absolute e = cc
+
+    convert : name.WithExtension ≡ name.Convert → ⊥
+    convert e = cc
 
 -- the operand of a task that converts is a platform
 converts : (task : Task) (word : List ℕ) (more : List (List ℕ)) → name.Convert ≡ name_of task → operands_of_task task ≡ word ∷ more → (os : Os) × (word ≡ os_word os)
@@ -86,6 +110,7 @@ converts Parent word more is some = absurd (none_some some)
 converts Name word more is some = absurd (none_some some)
 converts Stem word more is some = absurd (none_some some)
 converts Extension word more is some = absurd (none_some some)
+converts (WithExtension extension) word more is some = absurd (no_extension is)
 converts Normalize word more is some = absurd (none_some some)
 converts Clean word more is some = absurd (none_some some)
 converts (Join base) word more is some = absurd (no_join is)
@@ -101,6 +126,7 @@ checked_joins Parent is = absurd is
 checked_joins Name is = absurd is
 checked_joins Stem is = absurd is
 checked_joins Extension is = absurd is
+checked_joins (WithExtension extension) is = absurd is
 checked_joins Normalize is = absurd is
 checked_joins Clean is = absurd is
 checked_joins (Join base) is = absurd is
@@ -116,6 +142,7 @@ keeps_checked Parent keeps = keeps
 keeps_checked Name keeps = keeps
 keeps_checked Stem keeps = keeps
 keeps_checked Extension keeps = keeps
+keeps_checked (WithExtension extension) keeps = keeps
 keeps_checked Normalize keeps = keeps
 keeps_checked Clean keeps = keeps
 keeps_checked (Join base) keeps = keeps
@@ -131,6 +158,7 @@ checked_base w Parent word is of own = absurd is
 checked_base w Name word is of own = absurd is
 checked_base w Stem word is of own = absurd is
 checked_base w Extension word is of own = absurd is
+checked_base w (WithExtension extension) word is of own = absurd is
 checked_base w Normalize word is of own = absurd is
 checked_base w Clean word is of own = absurd is
 checked_base w (Join base) word is of own = absurd is
@@ -146,6 +174,7 @@ absolute_directory w Parent word is of own = absurd (none_some own)
 absolute_directory w Name word is of own = absurd (none_some own)
 absolute_directory w Stem word is of own = absurd (none_some own)
 absolute_directory w Extension word is of own = absurd (none_some own)
+absolute_directory w (WithExtension extension) word is of own = absurd (not_extension is)
 absolute_directory w Normalize word is of own = absurd (none_some own)
 absolute_directory w Clean word is of own = absurd (none_some own)
 absolute_directory w (Join base) word is of own = absurd (not_join is)
@@ -153,6 +182,22 @@ absolute_directory w (JoinChecked base keeps) word is of own = absurd (not_join 
 absolute_directory w (Relative base) word is of own = absurd (not_relative is)
 absolute_directory w (Absolute directory) word is of own = subst (IsAbsolute w) (first own) of
 absolute_directory w (Convert to) word is of own = absurd (no_absolute (sym is))
+
+-- the operand of a task that replaces extensions is one
+extension_text : (w : Style) (task : Task) (word : List ℕ) → name.WithExtension ≡ name_of task → HasStyle w task → operands_of_task task ≡ word ∷ [] → IsExtensionText w word
+extension_text w Components word is of own = absurd (none_some own)
+extension_text w Parent word is of own = absurd (none_some own)
+extension_text w Name word is of own = absurd (none_some own)
+extension_text w Stem word is of own = absurd (none_some own)
+extension_text w Extension word is of own = absurd (none_some own)
+extension_text w (WithExtension extension) word is of own = subst (IsExtensionText w) (first own) (subst (λ v. IsExtensionText v extension.text.now) of extension.plain)
+extension_text w Normalize word is of own = absurd (none_some own)
+extension_text w Clean word is of own = absurd (none_some own)
+extension_text w (Join base) word is of own = absurd ((extends_once name.Join is).0 refl)
+extension_text w (JoinChecked base keeps) word is of own = absurd ((extends_once name.Join is).0 refl)
+extension_text w (Relative base) word is of own = absurd ((extends_once name.Relative is).1.0 refl)
+extension_text w (Absolute directory) word is of own = absurd ((extends_once name.Absolute is).1.1.0 refl)
+extension_text w (Convert to) word is of own = absurd ((extends_once name.Convert is).1.1.1 refl)
 
 no_nul_after : (before after : List ℕ) → HasNoNul (before ++ 0 ∷ after) → ⊥
 no_nul_after [] after none = none.0 refl
@@ -226,6 +271,11 @@ module _ (after_end : ℕ) (given : Line) (task : Task) (os : Os) (paths : List 
       let own = own_word name.Absolute none.1.0 word refl none.1.1.0 in
       none.1.1.1 (subst (λ o. IsAbsolute (style_of o) word) own.1.0 (absolute_directory (style_of os) task word (sym own.0) of own.1.1))
 
+  no_bad_extension : (what word : List ℕ) → HasStyle (style_of os) task → IsNoExtension after_end given what word → ⊥
+  no_bad_extension what word of none =
+      let own = own_word name.WithExtension none.1.0 word refl none.1.1.0 in
+      none.1.1.1 (subst (λ o. IsExtensionText (style_of o) word) own.1.0 (extension_text (style_of os) task word (sym own.0) of own.1.1))
+
   no_bad_target : (what word : List ℕ) → IsNoTarget after_end given what word → ⊥
   no_bad_target what word none =
       let own = own_word name.Convert none.1.0 word refl none.1.1.0 in
@@ -237,7 +287,8 @@ module _ (after_end : ℕ) (given : Line) (task : Task) (os : Os) (paths : List 
       let some = some_operand after_end given (name_of task) os (operands_of_task task ++ paths) requests in no_command.1.0 (name_of task) (first (sym no_command.1.1.1 ∙ some.1))
   nothing_invalid what word checked of (inr (inl no_target)) = no_bad_target what word no_target
   nothing_invalid what word checked of (inr (inr (inl no_base))) = no_bad_base what word checked of no_base
-  nothing_invalid what word checked of (inr (inr (inr no_directory))) = no_bad_directory what word of no_directory
+  nothing_invalid what word checked of (inr (inr (inr (inl no_directory)))) = no_bad_directory what word of no_directory
+  nothing_invalid what word checked of (inr (inr (inr (inr no_extension)))) = no_bad_extension what word of no_extension
 
   nothing_surplus : (word : List ℕ) → IsTooMany after_end given word → ⊥
   nothing_surplus word many =

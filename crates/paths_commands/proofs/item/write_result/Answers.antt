@@ -88,6 +88,16 @@ returns-in-Extension g c =
       unchanged = call.ensures.unchanged;
     }
 
+pub returns-in-WithExtension : goal.returns-in-WithExtension
+returns-in-WithExtension g c =
+    let path = path_bytes c.args.path in
+    let S = g.E.PathStyle.follows in
+    let call = c.write_extended in record {
+      ok = made g.E.Platform S c.args.task _ path c.in-WithExtension.is call.result _ _ call.ensures.ok;
+      fault = IfErr-weaker call.result _ _ (λ fault memory. inl memory) call.ensures.fault;
+      unchanged = call.ensures.unchanged;
+    }
+
 pub returns-in-Normalize : goal.returns-in-Normalize
 returns-in-Normalize g c =
     let path = path_bytes c.args.path in
