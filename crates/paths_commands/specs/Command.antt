@@ -28,7 +28,7 @@ use Rattle.paths_commands.specs.declared.command.Name.TheVariants as task_name
 use Rattle.paths_commands.specs.declared.option.PathsOption.{PathsOption}
 use Rattle.paths_commands.specs.declared.option.PathsOption.TheVariants as option
 use Rattle.paths_commands.specs.declared.task.Task.{Task}
-use Rattle.paths_commands.specs.declared.task.Task.TheVariants.{Components, Parent, Name as LastName, Stem, Extension, WithExtension, Normalize, Clean, Join, JoinChecked, Relative, Absolute, Convert}
+use Rattle.paths_commands.specs.declared.task.Task.TheVariants.{Components, Parent, Name as LastName, Stem, Extension, WithExtension, Normalize, Clean, StartsWith, Join, JoinChecked, Relative, Absolute, Convert}
 
 -- options and operands, as they were given
 abbrev pub Line : Type 0
@@ -53,6 +53,7 @@ HasStyle style Extension = Unit {0}
 HasStyle style (WithExtension extension) = extension.style ≡ style
 HasStyle style Normalize = Unit {0}
 HasStyle style Clean = Unit {0}
+HasStyle style (StartsWith base) = Unit {0}
 HasStyle style (Join base) = Unit {0}
 HasStyle style (JoinChecked base keeps) = base_style base ≡ style
 HasStyle style (Relative base) = Unit {0}
@@ -75,6 +76,7 @@ Needs task_name.Extension what = ⊥
 Needs task_name.WithExtension what = what ≡ codes "EXT"
 Needs task_name.Normalize what = ⊥
 Needs task_name.Clean what = ⊥
+Needs task_name.StartsWith what = what ≡ codes "BASE"
 Needs task_name.Join what = what ≡ codes "BASE"
 Needs task_name.Relative what = what ≡ codes "BASE"
 Needs task_name.Absolute what = what ≡ codes "DIR"
@@ -90,6 +92,7 @@ needed_count task_name.Extension = 0
 needed_count task_name.WithExtension = 1
 needed_count task_name.Normalize = 0
 needed_count task_name.Clean = 0
+needed_count task_name.StartsWith = 1
 needed_count task_name.Join = 1
 needed_count task_name.Relative = 1
 needed_count task_name.Absolute = 1

@@ -7,6 +7,7 @@ use Rattle.os_str_bytes.specs.Platform.{Ghosts}
 use Rattle.os_str_bytes.specs.EncodingError.{EncodingError}
 use Rattle.os_quote.specs.Escape.{IsLineEscape}
 use Rattle.path_rules.specs.declared.rules.Style.{Style}
+use Rattle.path_rules.specs.Compare as compare
 use Rattle.path_rules.specs.Component.{Item, Prefix, RootDir, CurDir, ParentDir, Normal}
 use Rattle.path_rules.specs.Components.{AreComponents}
 use Rattle.path_rules.specs.Parent.{IsParent, HasNoParent, HasFileName, HasNoFileName}
@@ -44,7 +45,7 @@ use Rattle.paths_commands.specs.declared.fault.Rejection.TheVariants as rejectio
 use Rattle.paths_commands.specs.declared.command.Name.{Name as DeclaredName}
 use Rattle.paths_commands.specs.declared.command.Name.TheVariants as name
 use Rattle.paths_commands.specs.declared.task.Task.{Task}
-use Rattle.paths_commands.specs.declared.task.Task.TheVariants.{Components, Parent, Name, Stem, Extension, WithExtension, Normalize, Clean, Join, JoinChecked, Relative, Absolute, Convert}
+use Rattle.paths_commands.specs.declared.task.Task.TheVariants.{Components, Parent, Name, Stem, Extension, WithExtension, Normalize, Clean, StartsWith, Join, JoinChecked, Relative, Absolute, Convert}
 
 -- the name of the task
 abbrev pub name_of : Task → DeclaredName
@@ -56,6 +57,7 @@ name_of Extension = name.Extension
 name_of (WithExtension extension) = name.WithExtension
 name_of Normalize = name.Normalize
 name_of Clean = name.Clean
+name_of (StartsWith base) = name.StartsWith
 name_of (Join base) = name.Join
 name_of (JoinChecked base keeps) = name.Join
 name_of (Relative base) = name.Relative
@@ -72,6 +74,7 @@ name_word name.Extension = codes "extension"
 name_word name.WithExtension = codes "with-extension"
 name_word name.Normalize = codes "normalize"
 name_word name.Clean = codes "clean"
+name_word name.StartsWith = codes "starts-with"
 name_word name.Join = codes "join"
 name_word name.Relative = codes "relative"
 name_word name.Absolute = codes "absolute"
@@ -87,6 +90,7 @@ IsChecked Extension = ⊥
 IsChecked (WithExtension extension) = ⊥
 IsChecked Normalize = ⊥
 IsChecked Clean = ⊥
+IsChecked (StartsWith base) = ⊥
 IsChecked (Join base) = ⊥
 IsChecked (JoinChecked base keeps) = Unit {0}
 IsChecked (Relative base) = ⊥
@@ -103,6 +107,7 @@ KeepsSeparator Extension = ⊥
 KeepsSeparator (WithExtension extension) = ⊥
 KeepsSeparator Normalize = ⊥
 KeepsSeparator Clean = ⊥
+KeepsSeparator (StartsWith base) = ⊥
 KeepsSeparator (Join base) = ⊥
 KeepsSeparator (JoinChecked base keeps) = keeps ≡ true
 KeepsSeparator (Relative base) = ⊥
@@ -119,6 +124,7 @@ operands_of_task Extension = []
 operands_of_task (WithExtension extension) = extension.text.now ∷ []
 operands_of_task Normalize = []
 operands_of_task Clean = []
+operands_of_task (StartsWith base) = base.now ∷ []
 operands_of_task (Join base) = base.now ∷ []
 operands_of_task (JoinChecked base keeps) = base_path base ∷ []
 operands_of_task (Relative base) = base.now ∷ []
@@ -151,7 +157,7 @@ abbrev pub way_text : List ℕ → List ℕ
 way_text [] = codes "."
 way_text (b ∷ way) = b ∷ way
 
--- the result of the task: the requested part, and nothing where the path has none. Or the path with another extension, a form of the path, the path after a base or how it is reached from one, the path as an absolute path, or a path of another platform with its components
+-- the result of the task: the requested part, and nothing where the path has none. Or the path itself, the path with another extension, a form of the path, the path after a base or how it is reached from one, the path as an absolute path, or a path of another platform with its components
 abbrev pub IsAnswer : Style → Task → List ℕ → List ℕ → Type 0
 IsAnswer style Components path answer = ⊥
 IsAnswer style Parent path answer = IsParent style path answer ⊎ (HasNoParent style path × (answer ≡ []))
@@ -161,11 +167,20 @@ IsAnswer style Extension path answer = HasExtension style path answer ⊎ (Lacks
 IsAnswer style (WithExtension extension) path answer = IsExtendedBy extension path answer
 IsAnswer style Normalize path answer = IsNormalized style path answer
 IsAnswer style Clean path answer = IsCleaned style path answer
+IsAnswer style (StartsWith base) path answer = compare.StartsWith style path base.now × (answer ≡ path)
 IsAnswer style (Join base) path answer = IsJoin style base.now path answer
 IsAnswer style (JoinChecked base keeps) path answer = IsJoinedBelow base keeps path answer
 IsAnswer style (Relative base) path answer = (way : List ℕ) × (IsRelativeFrom style path base.now (Some way) × (answer ≡ way_text way))
 IsAnswer style (Absolute directory) path answer = IsFullPath style path directory.now answer
 IsAnswer style (Convert to) path answer = (strings to).well_formed answer × IsRestyled style (style_of to) path answer
+
+-- the path isn't one of those that the task picks, which begin with a base
+abbrev pub IsLeftOut : Style → Task → List ℕ → Type 0
+IsLeftOut style task path = (base : Bor (List ℕ)) × ((task ≡ StartsWith base) × (¬ (compare.StartsWith style path base.now)))
+
+-- the path is one of those, or the task picks none
+abbrev pub IsTaken : Style → Task → List ℕ → Type 0
+IsTaken style task path = (base : Bor (List ℕ)) → task ≡ StartsWith base → compare.StartsWith style path base.now
 
 -- the index of the component that the error is about, if it is about one: a prefix or a root is the first
 abbrev pub component_of : NameError → Option ℕ
@@ -204,9 +219,11 @@ module _ {E : Type 0} (p : Ghosts E) (style : Style) where
   abbrev pub IsAnswered : ItemEnd → Task → List ℕ → List ℕ → Type 0
   IsAnswered end task path text = (answer : List ℕ) × (IsAnswer style task path answer × (Lacks (byte_of end) answer × (text ≡ answer ++ byte_of end ∷ [])))
 
-  -- what is written for a path: its components on lines, or a result with its end
+  -- what is written for a path: its components on lines, a result with its end, or nothing if it is left out
   abbrev pub IsPathText : ItemEnd → Task → List ℕ → List ℕ → Type 0
-  IsPathText end task path text = ((task ≡ Components) × IsComponentsText path text) ⊎ IsAnswered end task path text
+  IsPathText end task path text =
+      ((task ≡ Components) × IsComponentsText path text)
+      ⊎ (IsAnswered end task path text ⊎ (IsLeftOut style task path × (text ≡ [])))
 
   -- the same, of a path that is a string of the platform without a NUL
   abbrev pub IsText : ItemEnd → Task → List ℕ → List ℕ → Type 0

@@ -48,11 +48,10 @@ impl<'s, 'a> Command<'s, 'a> {
     /// come after `--`. It doesn't allocate.
     ///
     /// `--help` and `--version` are commands wherever they stand. Otherwise the operands are a
-    /// command, a platform and, for `with-extension`, `join`, `relative`, `absolute` and `convert`, one
-    /// more. The
-    /// platform may be left out, and is Unix then. The operands after these are paths, and come after
-    /// `--`. If all that come after the command's name follow `--`, and the name doesn't, then none of
-    /// them is a platform.
+    /// command, a platform and, for `with-extension`, `starts-with`, `join`, `relative`, `absolute` and
+    /// `convert`, one more. The platform may be left out, and is Unix then. The operands after these
+    /// are paths, and come after `--`. If all that come after the command's name follow `--`, and the
+    /// name doesn't, then none of them is a platform.
     ///
     /// Options stand anywhere before `--`: `--keep-going`, `--lines`, `--unterminated`, and for `join`
     /// `--checked`, with which it takes `--keep-separator`. Without `--lines` a NUL ends each path, and
@@ -195,6 +194,8 @@ pub enum Name {
     Normalize,
     /// `clean`.
     Clean,
+    /// `starts-with`.
+    StartsWith,
     /// `join`.
     Join,
     /// `relative`.
@@ -220,6 +221,7 @@ impl Name {
             "with-extension" => Some(Name::WithExtension),
             "normalize" => Some(Name::Normalize),
             "clean" => Some(Name::Clean),
+            "starts-with" => Some(Name::StartsWith),
             "join" => Some(Name::Join),
             "relative" => Some(Name::Relative),
             "absolute" => Some(Name::Absolute),
@@ -241,6 +243,7 @@ impl Name {
             Name::WithExtension => "with-extension",
             Name::Normalize => "normalize",
             Name::Clean => "clean",
+            Name::StartsWith => "starts-with",
             Name::Join => "join",
             Name::Relative => "relative",
             Name::Absolute => "absolute",
@@ -255,7 +258,7 @@ impl Name {
     {
         match self {
             Name::WithExtension => Some("EXT"),
-            Name::Join | Name::Relative => Some("BASE"),
+            Name::StartsWith | Name::Join | Name::Relative => Some("BASE"),
             Name::Absolute => Some("DIR"),
             Name::Convert => Some("platform to convert to"),
             Name::Components
@@ -354,8 +357,12 @@ fn without_operand<'a>(name: Name) -> Task<'a>
         Name::Extension => Task::Extension,
         Name::Normalize => Task::Normalize,
         Name::Clean => Task::Clean,
-        Name::WithExtension | Name::Join | Name::Relative | Name::Absolute | Name::Convert =>
-            unreachable!(),
+        Name::WithExtension
+        | Name::StartsWith
+        | Name::Join
+        | Name::Relative
+        | Name::Absolute
+        | Name::Convert => unreachable!(),
     }
 }
 
@@ -388,6 +395,7 @@ fn with_operand<'a>(
             }
             Ok(Task::Join(operand))
         }
+        Name::StartsWith => Ok(Task::StartsWith(operand)),
         Name::Relative => Ok(Task::Relative(operand)),
         Name::Absolute => {
             if is_absolute_on(os, operand) {

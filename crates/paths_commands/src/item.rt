@@ -1,5 +1,5 @@
 //! What is written for one path.
-ghost use Rattle.std.specs.Prelude.{◌≡◌, ◌≢◌, ◌⊎◌, ◌∷◌, ◌++◌, ◌≤◌, [], ℕ, List, Some, None, OnOk, OnErr, IfOk, IfErr, drop, length, take};
+ghost use Rattle.std.specs.Prelude.{◌≡◌, ◌≢◌, ◌⊎◌, ◌∷◌, ◌++◌, ◌≤◌, [], ℕ, List, true, false, Some, None, OnOk, OnErr, IfOk, IfErr, drop, length, take};
 ghost use Rattle.list_programs.specs.declared.fault.ItemFault.TheVariants.{Rejected, Memory};
 ghost use Rattle.path_building.specs.Cleaned.{IsCleaned};
 ghost use Rattle.path_building.specs.FullPath.{IsFullPath, IsAbsoluteFault};
@@ -16,7 +16,7 @@ ghost use Rattle.list_programs.specs.ListOptions.{byte_of};
 ghost use Rattle.list_programs.specs.Rules.{IsItemFault};
 ghost use Rattle.program_frame.specs.Strings.{strings};
 ghost use Rattle.paths_commands.specs.Styles.{style_of};
-ghost use Rattle.paths_commands.specs.Task.{rules_of, IsText, IsPathText, IsComponentsText, IsExtendedBy, IsMade, IsRejection, IsUnanswered, IsUnconverted, way_text};
+ghost use Rattle.paths_commands.specs.Task.{rules_of, IsText, IsPathText, IsComponentsText, IsExtendedBy, IsMade, IsLeftOut, IsRejection, IsTaken, IsUnanswered, IsUnconverted, way_text};
 ghost use Rattle.platform_str.specs.Strings.{path_bytes};
 
 use crate::answers::{parent, part};
@@ -75,6 +75,9 @@ fn write_path<E: PathStyle, A: Allocator + Copy>(
         (path_bytes path.entry) why))) }
     ensures unchanged { OnErr result (output.new.items ≡ output.old.items) }
 {
+    if is_left_out(task, path) {
+        return Ok(());
+    }
     let start = output.len();
     match write_result::<E, A>(alloc, task, path, output) {
         Ok(()) => match task {
@@ -82,6 +85,17 @@ fn write_path<E: PathStyle, A: Allocator + Copy>(
             _ => end_result(start, end, output),
         },
         Err(fault) => Err(fault),
+    }
+}
+
+/// Whether a path isn't one of those that the task picks.
+fn is_left_out<E: PathStyle>(task: Task<'_>, path: Path<'_, E>) -> bool
+    ensures yes { result ≡ true → IsLeftOut E.follows task.entry (path_bytes path.entry) }
+    ensures no { result ≡ false → IsTaken E.follows task.entry (path_bytes path.entry) }
+{
+    match task {
+        Task::StartsWith(base) => !path.starts_with(Path::new(OsStr::new(base))),
+        _ => false,
     }
 }
 
@@ -121,6 +135,7 @@ fn write_result<E: PathStyle, A: Allocator + Copy>(
     path: Path<'_, E>,
     output: &mut Vec<u8, A>,
 ) -> Result<(), ItemFault<Rejection>>
+    requires { IsTaken E.follows task (path_bytes path) }
     ensures ok { OnOk result ((made : List ℕ)
         × (IsMade ⟦<E as Platform>⟧ E.follows task.entry (path_bytes path.entry) made
         × (output.new.items ≡ output.old.items ++ made))) }
@@ -138,6 +153,7 @@ fn write_result<E: PathStyle, A: Allocator + Copy>(
         Task::WithExtension(extension) => write_extended::<E, A>(alloc, extension, path, output),
         Task::Normalize => write_normal::<E, A>(alloc, path, output),
         Task::Clean => write_clean::<E, A>(alloc, path, output),
+        Task::StartsWith(_) => write_answer(path.as_os_str().as_encoded_bytes(), output),
         Task::Join(base) => write_joined::<E, A>(alloc, base, path, output),
         Task::JoinChecked(base, keeps) => {
             write_checked::<E, A>(alloc, base, keeps, path, output)

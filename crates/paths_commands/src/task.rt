@@ -35,6 +35,9 @@ pub enum Task<'a> {
     Normalize,
     /// Its clean form, as Go's `filepath.Clean`.
     Clean,
+    /// The path as it is, if it begins with the components of this base, as std's
+    /// `Path::starts_with`. Nothing is written for another.
+    StartsWith(&'a str),
     /// The path after this base, as std's `Path::join`.
     Join(&'a str),
     /// The path below this base, as typed-path's `join_checked`. One that could leave the base is

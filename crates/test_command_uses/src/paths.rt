@@ -12,6 +12,7 @@ ghost use Rattle.path_building.specs.FileName.{IsExtensionSet};
 ghost use Rattle.path_building.specs.FullPath.{IsFullPath};
 ghost use Rattle.path_building.specs.Join.{IsJoin};
 ghost use Rattle.path_building.specs.declared.walk.NameError.{NameError};
+ghost use Rattle.path_rules.specs.Compare.{StartsWith};
 ghost use Rattle.path_rules.specs.Name.{IsExtensionText};
 ghost use Rattle.path_rules.specs.Parent.{IsParent, HasNoParent};
 ghost use Rattle.path_building.specs.Relative.{IsRelativeFrom};
@@ -28,7 +29,7 @@ ghost use Rattle.list_programs.specs.declared.misuse.Misuse.{Misuse as DeclaredM
 ghost use Rattle.list_programs.specs.declared.fault.ListFault.TheVariants.{Rejected, Run};
 ghost use Rattle.paths_commands.specs.Command.{IsRequestFor, IsMisuse, RequestsNothing, longest_path};
 ghost use Rattle.paths_commands.specs.Styles.{style_of};
-ghost use Rattle.paths_commands.specs.Task.{component_of, rules_of, IsAnswer, IsComponentsText, IsShownOf, way_text};
+ghost use Rattle.paths_commands.specs.Task.{component_of, rules_of, IsAnswer, IsComponentsText, IsShownOf, IsTaken, way_text};
 ghost use Rattle.paths_commands.specs.declared.command.Command.{Command as DeclaredCommand};
 ghost use Rattle.paths_commands.specs.declared.fault.Rejection.TheVariants.{NoJoin, NoJoinAt, NoString};
 ghost use Rattle.paths_commands.specs.declared.option.PathsOption.TheVariants.{KeepSeparator, Lines, Unterminated};
@@ -152,8 +153,8 @@ pub fn requested_on<E: PathStyle, P: Eprint, A: Allocator, W: Write>(
     (rejections.count(), ran)
 }
 
-/// Runs a task other than the one for components on one path: the result lacks this end, and is
-/// written with it.
+/// Runs a task other than the one for components on one path that it takes: the result lacks this
+/// end, and is written with it.
 pub fn answered<E: PathStyle, A: Allocator, W: Write>(
     alloc: A,
     end: ItemEnd,
@@ -162,6 +163,7 @@ pub fn answered<E: PathStyle, A: Allocator, W: Write>(
     writer: &mut Marked<W>,
 ) -> Result<(), ListFault<Rejection>>
     requires question { task ≢ Components }
+    requires taken { IsTaken E.follows task path.now }
     requires whole { Lacks (byte_of end) path.now }
     requires some { path.now ≢ [] }
     requires unmarked { has_failed writer.old ≡ false }
@@ -256,6 +258,31 @@ pub fn after_base<E: PathStyle, A: Allocator, W: Write>(
         (joined ++ 0 ∷ [])))) }
 {
     answered::<E, A, W>(alloc, ItemEnd::Nul, Task::Join(base), path, writer)
+}
+
+/// Writes one path with NUL if it begins with a base, and nothing if it doesn't.
+pub fn begins_with<E: PathStyle, A: Allocator, W: Write>(
+    alloc: A,
+    base: &str,
+    path: &[u8],
+    writer: &mut Marked<W>,
+) -> Result<(), ListFault<Rejection>>
+    requires whole { Lacks 0 path.now }
+    requires some { path.now ≢ [] }
+    requires unmarked { has_failed writer.old ≡ false }
+    ensures { OnOk result ((text : List ℕ) × (((StartsWith E.follows path.now base.now
+        × (text ≡ path.now ++ 0 ∷ []))
+        ⊎ ((¬ (StartsWith E.follows path.now base.now)) × (text ≡ [])))
+        × Appends (W.contents (marked_inner writer.old)) (W.contents (marked_inner writer.new))
+        text)) }
+{
+    ask::<E, A, W>(
+        alloc,
+        Task::StartsWith(base),
+        lacking(ItemEnd::Nul),
+        path,
+        writer,
+    )
 }
 
 /// Replaces the extension of one path, which is written with NUL.

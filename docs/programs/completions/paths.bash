@@ -22,6 +22,7 @@ _paths() {
                 components) words='--lines --unterminated --keep-going' ;;
                 normalize) words='--lines --unterminated --keep-going' ;;
                 clean) words='--lines --unterminated --keep-going' ;;
+                starts-with) words='--lines --unterminated --keep-going' ;;
                 join) words='--checked --keep-separator --lines --unterminated --keep-going' ;;
                 relative) words='--lines --unterminated --keep-going' ;;
                 absolute) words='--lines --unterminated --keep-going' ;;
@@ -31,9 +32,9 @@ _paths() {
             ;;
         *)
             case $command:$count in
-                :0) words='parent name stem extension with-extension components normalize clean join relative absolute convert' ;;
-                parent:1|name:1|stem:1|extension:1|with-extension:1|components:1|normalize:1|clean:1|join:1|relative:1|absolute:1|convert:1) words='unix windows wasm' ;;
-                join:2|relative:2) compopt -o default 2>/dev/null; return ;;
+                :0) words='parent name stem extension with-extension components normalize clean starts-with join relative absolute convert' ;;
+                parent:1|name:1|stem:1|extension:1|with-extension:1|components:1|normalize:1|clean:1|starts-with:1|join:1|relative:1|absolute:1|convert:1) words='unix windows wasm' ;;
+                starts-with:2|join:2|relative:2) compopt -o default 2>/dev/null; return ;;
                 absolute:2) compopt -o default 2>/dev/null; return ;;
                 convert:2) words='unix windows wasm' ;;
             esac

@@ -8,13 +8,14 @@ complete -c paths -n __fish_use_subcommand -a with-extension -d 'the path with a
 complete -c paths -n __fish_use_subcommand -a components -d 'each component on a line'
 complete -c paths -n __fish_use_subcommand -a normalize -d 'the path without . and .., or an error'
 complete -c paths -n __fish_use_subcommand -a clean -d 'the path without . and .. as far as it goes'
+complete -c paths -n __fish_use_subcommand -a starts-with -d 'the paths that begin with BASE'
 complete -c paths -n __fish_use_subcommand -a join -d 'the path after BASE'
 complete -c paths -n __fish_use_subcommand -a relative -d 'how the path is reached from BASE'
 complete -c paths -n __fish_use_subcommand -a absolute -d 'the path as an absolute path'
 complete -c paths -n __fish_use_subcommand -a convert -d 'the path in the syntax of another platform'
-complete -c paths -n '__fish_seen_subcommand_from parent name stem extension with-extension components normalize clean join relative absolute; and not __fish_seen_subcommand_from unix windows wasm' -a 'unix windows wasm'
+complete -c paths -n '__fish_seen_subcommand_from parent name stem extension with-extension components normalize clean starts-with join relative absolute; and not __fish_seen_subcommand_from unix windows wasm' -a 'unix windows wasm'
 complete -c paths -n '__fish_seen_subcommand_from convert' -a 'unix windows wasm'
-complete -c paths -n '__fish_seen_subcommand_from join relative absolute; and __fish_seen_subcommand_from unix windows wasm' -F
+complete -c paths -n '__fish_seen_subcommand_from starts-with join relative absolute; and __fish_seen_subcommand_from unix windows wasm' -F
 complete -c paths -n '__fish_seen_subcommand_from join' -l checked -d 'reject a path that could leave BASE'
 complete -c paths -n '__fish_seen_subcommand_from join' -l keep-separator -d 'keep a separator at the end of a path'
 complete -c paths -l lines -d 'a newline ends each path, and not NUL'

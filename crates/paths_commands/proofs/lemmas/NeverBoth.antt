@@ -23,7 +23,7 @@ use Rattle.paths_commands.specs.declared.command.Name.{Name as DeclaredName}
 use Rattle.paths_commands.specs.declared.command.Name.TheVariants as name
 use Rattle.paths_commands.specs.declared.option.PathsOption.TheVariants as option
 use Rattle.paths_commands.specs.declared.task.Task.{Task}
-use Rattle.paths_commands.specs.declared.task.Task.TheVariants.{Components, Parent, Name, Stem, Extension, WithExtension, Normalize, Clean, Join, JoinChecked, Relative, Absolute, Convert}
+use Rattle.paths_commands.specs.declared.task.Task.TheVariants.{Components, Parent, Name, Stem, Extension, WithExtension, Normalize, Clean, StartsWith, Join, JoinChecked, Relative, Absolute, Convert}
 use Rattle.paths_commands.proofs.lemmas.Platforms.{same_os}
 use Rattle.paths_commands.proofs.lemmas.TaskNames.{same_name}
 
@@ -46,6 +46,7 @@ count_is Extension = refl
 count_is (WithExtension extension) = refl
 count_is Normalize = refl
 count_is Clean = refl
+count_is (StartsWith base) = refl
 count_is (Join base) = refl
 count_is (JoinChecked base keeps) = refl
 count_is (Relative base) = refl
@@ -62,6 +63,7 @@ needs_one name.Extension what needs = absurd needs
 needs_one name.WithExtension what needs = refl
 needs_one name.Normalize what needs = absurd needs
 needs_one name.Clean what needs = absurd needs
+needs_one name.StartsWith what needs = refl
 needs_one name.Join what needs = refl
 needs_one name.Relative what needs = refl
 needs_one name.Absolute what needs = refl
@@ -79,6 +81,9 @@ no_absolute e = cc
 no_extension : name.Convert ≡ name.WithExtension → ⊥
 no_extension e = cc
 
+no_start : name.Convert ≡ name.StartsWith → ⊥
+no_start e = cc
+
 not_join : name.Absolute ≡ name.Join → ⊥
 not_join e = cc
 
@@ -88,9 +93,15 @@ not_relative e = cc
 not_extension : name.Absolute ≡ name.WithExtension → ⊥
 not_extension e = cc
 
-extends_once : (it : DeclaredName) → name.WithExtension ≡ it → it ≢ name.Join × (it ≢ name.Relative × (it ≢ name.Absolute × it ≢ name.Convert))
-extends_once it is = ((λ e. join (is ∙ e)), ((λ e. relative (is ∙ e)), ((λ e. absolute (is ∙ e)), (λ e. convert (is ∙ e)))))
+not_start : name.Absolute ≡ name.StartsWith → ⊥
+not_start e = cc
+
+extends_once : (it : DeclaredName) → name.WithExtension ≡ it → it ≢ name.StartsWith × (it ≢ name.Join × (it ≢ name.Relative × (it ≢ name.Absolute × it ≢ name.Convert)))
+extends_once it is = ((λ e. start (is ∙ e)), ((λ e. join (is ∙ e)), ((λ e. relative (is ∙ e)), ((λ e. absolute (is ∙ e)), (λ e. convert (is ∙ e))))))
   where
+    start : name.WithExtension ≡ name.StartsWith → ⊥
+    start e = cc
+
     join : name.WithExtension ≡ name.Join → ⊥
     join e = cc
 
@@ -113,6 +124,7 @@ converts Extension word more is some = absurd (none_some some)
 converts (WithExtension extension) word more is some = absurd (no_extension is)
 converts Normalize word more is some = absurd (none_some some)
 converts Clean word more is some = absurd (none_some some)
+converts (StartsWith base) word more is some = absurd (no_start is)
 converts (Join base) word more is some = absurd (no_join is)
 converts (JoinChecked base keeps) word more is some = absurd (no_join is)
 converts (Relative base) word more is some = absurd (no_relative is)
@@ -129,6 +141,7 @@ checked_joins Extension is = absurd is
 checked_joins (WithExtension extension) is = absurd is
 checked_joins Normalize is = absurd is
 checked_joins Clean is = absurd is
+checked_joins (StartsWith base) is = absurd is
 checked_joins (Join base) is = absurd is
 checked_joins (JoinChecked base keeps) is = refl
 checked_joins (Relative base) is = absurd is
@@ -145,6 +158,7 @@ keeps_checked Extension keeps = keeps
 keeps_checked (WithExtension extension) keeps = keeps
 keeps_checked Normalize keeps = keeps
 keeps_checked Clean keeps = keeps
+keeps_checked (StartsWith base) keeps = keeps
 keeps_checked (Join base) keeps = keeps
 keeps_checked (JoinChecked base is) keeps = tt
 keeps_checked (Relative base) keeps = keeps
@@ -161,6 +175,7 @@ checked_base w Extension word is of own = absurd is
 checked_base w (WithExtension extension) word is of own = absurd is
 checked_base w Normalize word is of own = absurd is
 checked_base w Clean word is of own = absurd is
+checked_base w (StartsWith base) word is of own = absurd is
 checked_base w (Join base) word is of own = absurd is
 checked_base w (JoinChecked base keeps) word is of own = subst (IsBase w) (first own) (subst (λ v. IsBase v (base_path base)) of (is_base (base_style base) (base_path base) base.complete))
 checked_base w (Relative base) word is of own = absurd is
@@ -177,6 +192,7 @@ absolute_directory w Extension word is of own = absurd (none_some own)
 absolute_directory w (WithExtension extension) word is of own = absurd (not_extension is)
 absolute_directory w Normalize word is of own = absurd (none_some own)
 absolute_directory w Clean word is of own = absurd (none_some own)
+absolute_directory w (StartsWith base) word is of own = absurd (not_start is)
 absolute_directory w (Join base) word is of own = absurd (not_join is)
 absolute_directory w (JoinChecked base keeps) word is of own = absurd (not_join is)
 absolute_directory w (Relative base) word is of own = absurd (not_relative is)
@@ -193,11 +209,12 @@ extension_text w Extension word is of own = absurd (none_some own)
 extension_text w (WithExtension extension) word is of own = subst (IsExtensionText w) (first own) (subst (λ v. IsExtensionText v extension.text.now) of extension.plain)
 extension_text w Normalize word is of own = absurd (none_some own)
 extension_text w Clean word is of own = absurd (none_some own)
-extension_text w (Join base) word is of own = absurd ((extends_once name.Join is).0 refl)
-extension_text w (JoinChecked base keeps) word is of own = absurd ((extends_once name.Join is).0 refl)
-extension_text w (Relative base) word is of own = absurd ((extends_once name.Relative is).1.0 refl)
-extension_text w (Absolute directory) word is of own = absurd ((extends_once name.Absolute is).1.1.0 refl)
-extension_text w (Convert to) word is of own = absurd ((extends_once name.Convert is).1.1.1 refl)
+extension_text w (StartsWith base) word is of own = absurd ((extends_once name.StartsWith is).0 refl)
+extension_text w (Join base) word is of own = absurd ((extends_once name.Join is).1.0 refl)
+extension_text w (JoinChecked base keeps) word is of own = absurd ((extends_once name.Join is).1.0 refl)
+extension_text w (Relative base) word is of own = absurd ((extends_once name.Relative is).1.1.0 refl)
+extension_text w (Absolute directory) word is of own = absurd ((extends_once name.Absolute is).1.1.1.0 refl)
+extension_text w (Convert to) word is of own = absurd ((extends_once name.Convert is).1.1.1.1 refl)
 
 no_nul_after : (before after : List ℕ) → HasNoNul (before ++ 0 ∷ after) → ⊥
 no_nul_after [] after none = none.0 refl

@@ -2,7 +2,7 @@
 use Rattle.std.proofs.Common.{◌≡◌, ◌∙◌, ℕ, ◌+◌, List, get_or, refl, sym, ap, arith}
 use Rattle.paths_commands.specs.Task.{name_word}
 use Rattle.paths_commands.specs.declared.command.Name.{Name as DeclaredName}
-use Rattle.paths_commands.specs.declared.command.Name.TheVariants.{Components, Parent, Name, Stem, Extension, WithExtension, Normalize, Clean, Join, Relative, Absolute, Convert}
+use Rattle.paths_commands.specs.declared.command.Name.TheVariants.{Components, Parent, Name, Stem, Extension, WithExtension, Normalize, Clean, StartsWith, Join, Relative, Absolute, Convert}
 
 -- the sum of the first letter, the fourth and the sixth
 abbrev sum_of : List ℕ → ℕ
@@ -17,6 +17,7 @@ letters Extension = 317
 letters WithExtension = 324
 letters Normalize = 327
 letters Clean = 196
+letters StartsWith = 344
 letters Join = 216
 letters Relative = 316
 letters Absolute = 325
@@ -31,6 +32,7 @@ letters_are Extension = refl
 letters_are WithExtension = refl
 letters_are Normalize = refl
 letters_are Clean = refl
+letters_are StartsWith = refl
 letters_are Join = refl
 letters_are Relative = refl
 letters_are Absolute = refl
@@ -48,6 +50,7 @@ same_name Extension Extension e = refl
 same_name WithExtension WithExtension e = refl
 same_name Normalize Normalize e = refl
 same_name Clean Clean e = refl
+same_name StartsWith StartsWith e = refl
 same_name Join Join e = refl
 same_name Relative Relative e = refl
 same_name Absolute Absolute e = refl
@@ -60,6 +63,7 @@ same_name Extension other e = let sums = same_letters Extension other e in absur
 same_name WithExtension other e = let sums = same_letters WithExtension other e in absurd (omega arith)
 same_name Normalize other e = let sums = same_letters Normalize other e in absurd (omega arith)
 same_name Clean other e = let sums = same_letters Clean other e in absurd (omega arith)
+same_name StartsWith other e = let sums = same_letters StartsWith other e in absurd (omega arith)
 same_name Join other e = let sums = same_letters Join other e in absurd (omega arith)
 same_name Relative other e = let sums = same_letters Relative other e in absurd (omega arith)
 same_name Absolute other e = let sums = same_letters Absolute other e in absurd (omega arith)

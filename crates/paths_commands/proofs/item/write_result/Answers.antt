@@ -1,4 +1,4 @@
-use Rattle.std.proofs.Common.{◌≡◌, ℕ, List, ◌++◌, Result, OnOk, ⊎_elim, inl, inr, refl, sym, subst}
+use Rattle.std.proofs.Common.{rules, ◌≡◌, ℕ, List, ◌++◌, Result, OnOk, ⊎_elim, inl, inr, refl, sym, subst}
 use Rattle.std.proofs.lemmas.Result.{on_ok_weaker, IfErr-weaker}
 use Rattle.os_str_bytes.specs.Platform.{Ghosts}
 use Rattle.path_rules.specs.Parent.{HasFileName, HasNoFileName}
@@ -116,6 +116,20 @@ returns-in-Clean g c =
     let S = g.E.PathStyle.follows in
     let call = c.write_clean in record {
       ok = made g.E.Platform S c.args.task _ path c.in-Clean.is call.result _ _ call.ensures.ok;
+      fault = IfErr-weaker call.result _ _ (λ fault memory. inl memory) call.ensures.fault;
+      unchanged = call.ensures.unchanged;
+    }
+
+pub returns-in-StartsWith : goal.returns-in-StartsWith
+returns-in-StartsWith g c =
+    let path = path_bytes c.args.path in
+    let S = g.E.PathStyle.follows in
+    let call = c.write_answer-in-StartsWith in
+    let answer = c.as_encoded_bytes.result.now in
+    let same : answer ≡ path = search rules in record {
+      ok = part g.E.Platform S c.args.task _ path c.in-StartsWith.is call.result _ _ answer
+          (c.requires _ c.in-StartsWith.is, same)
+          call.ensures.ok;
       fault = IfErr-weaker call.result _ _ (λ fault memory. inl memory) call.ensures.fault;
       unchanged = call.ensures.unchanged;
     }
