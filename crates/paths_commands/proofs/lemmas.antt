@@ -3,6 +3,7 @@ pub mod Answers
 pub mod Ended
 pub mod Found
 pub mod InMemory
+pub mod Joined
 pub mod Lines
 pub mod NeverBoth
 pub mod Platforms

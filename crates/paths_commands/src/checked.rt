@@ -2,6 +2,8 @@
 ghost use Rattle.std.specs.Prelude.{◌≡◌, ◌≢◌, ◌⊎◌, ◌++◌, ℕ, List, OnOk, OnErr, IfOk, IfErr};
 ghost use Rattle.platform_str.specs.Strings.{path_bytes};
 ghost use Rattle.list_programs.specs.declared.fault.ItemFault.TheVariants.{Rejected, Memory};
+ghost use Rattle.path_building.specs.BaseViews.{base_style};
+ghost use Rattle.path_building.specs.Faults.{IsNameFault};
 ghost use Rattle.path_building.specs.declared.walk.NameError.TheVariants as name_error;
 ghost use Rattle.paths_commands.specs.declared.fault.Rejection as why;
 ghost use Rattle.paths_commands.specs.Task.{component_of, IsJoinedBelow, IsReasonOf, IsUnjoined};
@@ -12,28 +14,48 @@ use crate::item::write_answer;
 use list_programs::fault::ItemFault;
 use os_path::{NameError, PathStyle};
 use os_str_bytes::{Path, Platform};
-use path_building::Base;
+use path_building::{Base, with_trailing_sep};
+use path_rules::has_trailing_sep;
 use std::alloc::{AllocError, Allocator};
 
-/// Appends a path below a base.
+/// Appends a path below a base, with the separator at its end if that is kept.
 pub fn write_checked<E: PathStyle, A: Allocator + Copy>(
     alloc: A,
     base: Base<'_>,
+    keeps: bool,
     path: Path<'_, E>,
     output: &mut Vec<u8, A>,
 ) -> Result<(), ItemFault<Rejection>>
     ensures ok { OnOk result ((joined : List ℕ)
-        × (IsJoinedBelow base.entry (path_bytes path.entry) joined
+        × (IsJoinedBelow base.entry keeps (path_bytes path.entry) joined
         × (output.new.items ≡ output.old.items ++ joined))) }
     ensures fault { IfErr result (λ fault. (fault ≡ Memory) ⊎ ((why : why.Rejection)
         × ((fault ≡ Rejected why) × IsUnjoined ⟦<E as Platform>⟧ E.follows base.entry
         (path_bytes path.entry) why))) }
     ensures unchanged { OnErr result (output.new.items ≡ output.old.items) }
 {
-    match base.join(alloc, path.as_os_str().as_encoded_bytes()) {
+    match joined_to(alloc, base, keeps, path.as_os_str().as_encoded_bytes()) {
         Ok(joined) => write_answer(&joined, output),
         Err(error) => Err(unjoined::<E, A>(alloc, path, error)),
     }
+}
+
+/// A path below a base, with the separator at its end if that is kept.
+fn joined_to<A: Allocator + Copy>(
+    alloc: A,
+    base: Base<'_>,
+    keeps: bool,
+    path: &[u8],
+) -> Result<Vec<u8, A>, NameError>
+    ensures ok { IfOk result (λ joined. IsJoinedBelow base.entry keeps path.now joined.items) }
+    ensures err { IfErr result (λ error. IsNameFault (base_style base.entry) path.now error) }
+{
+    let joined = base.join(alloc, path)?;
+    let style = base.parsed().style;
+    if keeps && has_trailing_sep(style, path) {
+        return Ok(with_trailing_sep(alloc, style, &joined)?);
+    }
+    Ok(joined)
 }
 
 /// The fault of a path that isn't joined to a base.

@@ -6,11 +6,12 @@ ghost use Rattle.program_frame.specs.declared.os.Os.{Os as DeclaredOs};
 ghost use Rattle.paths_commands.specs.Command.{IsRequestFor, HasOneOperand, HasOperands, HasStyle, Needs, base_word, IsMisuse, IsOfPaths, IsSurplus, IsTaskOf, RequestsNothing, longest_path, needed_count};
 ghost use Rattle.path_rules.specs.Root.{IsAbsolute};
 ghost use Rattle.paths_commands.specs.Styles.{style_of};
-ghost use Rattle.paths_commands.specs.Task.{IsChecked, name_of, name_word, operands_of_task};
+ghost use Rattle.paths_commands.specs.Task.{IsChecked, KeepsSeparator, name_of, name_word, operands_of_task};
 ghost use Rattle.paths_commands.specs.declared.command.Name.{Name as DeclaredName};
 ghost use Rattle.paths_commands.specs.declared.command.Name.TheVariants.{Join as JoinName};
-ghost use Rattle.paths_commands.specs.declared.option.PathsOption.TheVariants.{Checked, Lines, Unterminated};
+ghost use Rattle.paths_commands.specs.declared.option.PathsOption.TheVariants.{Checked, KeepSeparator, Lines, Unterminated};
 
+use crate::extension::Extension;
 use crate::option::PathsOption;
 use crate::task::Task;
 use list_programs::arguments::{Given, has, next_operand};
@@ -47,20 +48,21 @@ impl<'s, 'a> Command<'s, 'a> {
     /// come after `--`. It doesn't allocate.
     ///
     /// `--help` and `--version` are commands wherever they stand. Otherwise the operands are a
-    /// command, a platform and, for `join`, `relative`, `absolute` and `convert`, one more. The
-    /// platform may be left out, and is Unix then. The operands after these are paths, and come after
-    /// `--`. If all that come after the command's name follow `--`, and the name doesn't, then none of
-    /// them is a platform.
+    /// command, a platform and, for `with-extension`, `starts-with`, `join`, `relative`, `absolute` and
+    /// `convert`, one more. The platform may be left out, and is Unix then. The operands after these
+    /// are paths, and come after `--`. If all that come after the command's name follow `--`, and the
+    /// name doesn't, then none of them is a platform.
     ///
-    /// Options stand anywhere before `--`: `--keep-going`, `--lines`, `--unterminated`, and
-    /// `--checked` for `join`. Without `--lines` a NUL ends each path, and without `--unterminated`
-    /// the last path has its end, too.
+    /// Options stand anywhere before `--`: `--keep-going`, `--lines`, `--unterminated`, and for `join`
+    /// `--checked`, with which it takes `--keep-separator`. Without `--lines` a NUL ends each path, and
+    /// without `--unterminated` the last path has its end, too.
     ///
     /// # Errors
     ///
-    /// What is wrong: something is missing, an argument is invalid, `--checked` isn't for the
+    /// What is wrong: something is missing, an argument is invalid, an option isn't for the
     /// command, or an operand is one too many. With `--checked` BASE is invalid if it is no
-    /// [`Base`]. DIR of `absolute` is invalid if it isn't absolute ([`path_rules::is_absolute`]).
+    /// [`Base`]. DIR of `absolute` is invalid if it isn't absolute ([`path_rules::is_absolute`]), and
+    /// EXT of `with-extension` if it has a separator ([`Extension`]).
     ///
     /// ```
     /// use paths_commands::command::Command;
@@ -186,10 +188,14 @@ pub enum Name {
     Stem,
     /// `extension`.
     Extension,
+    /// `with-extension`.
+    WithExtension,
     /// `normalize`.
     Normalize,
     /// `clean`.
     Clean,
+    /// `starts-with`.
+    StartsWith,
     /// `join`.
     Join,
     /// `relative`.
@@ -212,8 +218,10 @@ impl Name {
             "name" => Some(Name::Name),
             "stem" => Some(Name::Stem),
             "extension" => Some(Name::Extension),
+            "with-extension" => Some(Name::WithExtension),
             "normalize" => Some(Name::Normalize),
             "clean" => Some(Name::Clean),
+            "starts-with" => Some(Name::StartsWith),
             "join" => Some(Name::Join),
             "relative" => Some(Name::Relative),
             "absolute" => Some(Name::Absolute),
@@ -232,8 +240,10 @@ impl Name {
             Name::Name => "name",
             Name::Stem => "stem",
             Name::Extension => "extension",
+            Name::WithExtension => "with-extension",
             Name::Normalize => "normalize",
             Name::Clean => "clean",
+            Name::StartsWith => "starts-with",
             Name::Join => "join",
             Name::Relative => "relative",
             Name::Absolute => "absolute",
@@ -247,7 +257,8 @@ impl Name {
             (λ what. (needed_count self ≡ 1) × Needs self what.now) }
     {
         match self {
-            Name::Join | Name::Relative => Some("BASE"),
+            Name::WithExtension => Some("EXT"),
+            Name::StartsWith | Name::Join | Name::Relative => Some("BASE"),
             Name::Absolute => Some("DIR"),
             Name::Convert => Some("platform to convert to"),
             Name::Components
@@ -276,12 +287,21 @@ fn task_of<'s, 'a>(
     ensures late { IfOk result (λ found. length (operands_of found.1.now) ≤ after_end) }
     ensures checked { IfOk result
         (λ found. IsChecked found.0 ↔ HasOption Checked given.entry.now) }
+    ensures keeps { IfOk result
+        (λ found. KeepsSeparator found.0 ↔ HasOption KeepSeparator given.entry.now) }
     ensures style { IfOk result (λ found. HasStyle (style_of os) found.0) }
     ensures misuse { IfErr result (λ misuse. IsMisuse after_end given.entry.now misuse) }
 {
     let is_checked = has(given, PathsOption::Checked);
     if !is_placed(is_checked, name) {
         return Err(Misuse::Misplaced("--checked", name.word()));
+    }
+    let keeps = has(given, PathsOption::KeepSeparator);
+    if !is_placed(keeps, name) {
+        return Err(Misuse::Misplaced("--keep-separator", name.word()));
+    }
+    if keeps && !is_checked {
+        return Err(Misuse::Missing("--checked"));
     }
     let Some(what) = name.needed() else {
         return match surplus_in(more, after_end) {
@@ -295,18 +315,18 @@ fn task_of<'s, 'a>(
     if let Some(word) = surplus_in(rest, after_end) {
         return Err(surplus(word));
     }
-    match with_operand(given, after_end, name, is_checked, os, operand) {
+    match with_operand(given, after_end, name, is_checked, keeps, os, operand) {
         Ok(task) => Ok((task, rest)),
         Err(misuse) => Err(misuse),
     }
 }
 
-/// Whether `--checked` isn't given, or is for the task of this name.
-fn is_placed(is_checked: bool, name: Name) -> bool
-    ensures yes { result ≡ true → is_checked ≡ true → name ≡ JoinName }
-    ensures no { result ≡ false → (is_checked ≡ true) × (name ≢ JoinName) }
+/// Whether an option of `join` isn't given, or is for the task of this name.
+fn is_placed(is_given: bool, name: Name) -> bool
+    ensures yes { result ≡ true → is_given ≡ true → name ≡ JoinName }
+    ensures no { result ≡ false → (is_given ≡ true) × (name ≢ JoinName) }
 {
-    !is_checked || name == Name::Join
+    !is_given || name == Name::Join
 }
 
 /// The first operand, if there are more than come after `--`.
@@ -327,7 +347,7 @@ fn surplus_in<'a>(given: Line<'_, 'a>, after_end: usize) -> Option<&'a str>
 /// The task of this name, which needs no operand and isn't checked.
 fn without_operand<'a>(name: Name) -> Task<'a>
     requires { needed_count name ≡ 0 }
-    ensures { (os : DeclaredOs) → IsTaskOf name false os [] result }
+    ensures { (os : DeclaredOs) → IsTaskOf name false false os [] result }
 {
     match name {
         Name::Components => Task::Components,
@@ -337,7 +357,12 @@ fn without_operand<'a>(name: Name) -> Task<'a>
         Name::Extension => Task::Extension,
         Name::Normalize => Task::Normalize,
         Name::Clean => Task::Clean,
-        Name::Join | Name::Relative | Name::Absolute | Name::Convert => unreachable!(),
+        Name::WithExtension
+        | Name::StartsWith
+        | Name::Join
+        | Name::Relative
+        | Name::Absolute
+        | Name::Convert => unreachable!(),
     }
 }
 
@@ -347,6 +372,7 @@ fn with_operand<'a>(
     after_end: usize,
     name: Name,
     is_checked: bool,
+    keeps: bool,
     os: Os,
     operand: &'a str,
 ) -> Result<Task<'a>, Misuse<'a>>
@@ -354,16 +380,22 @@ fn with_operand<'a>(
     requires operands { HasOneOperand after_end given.now name os operand.now }
     requires join { is_checked ≡ true → name ≡ JoinName }
     requires checked { is_checked ≡ true → HasOption Checked given.now }
-    ensures task { IfOk result (λ task. IsTaskOf name is_checked os (operand.now ∷ []) task) }
+    requires keeps { keeps ≡ true → is_checked ≡ true }
+    ensures task { IfOk result (λ task. IsTaskOf name is_checked keeps os (operand.now ∷ []) task) }
     ensures misuse { IfErr result (λ misuse. IsMisuse after_end given.entry.now misuse) }
 {
     match name {
+        Name::WithExtension => match Extension::new(style_of(os), operand) {
+            Some(extension) => Ok(Task::WithExtension(extension)),
+            None => Err(Misuse::Invalid("EXT (has a separator)", operand)),
+        },
         Name::Join => {
             if is_checked {
-                return checked_join(given, after_end, os, operand);
+                return checked_join(given, after_end, keeps, os, operand);
             }
             Ok(Task::Join(operand))
         }
+        Name::StartsWith => Ok(Task::StartsWith(operand)),
         Name::Relative => Ok(Task::Relative(operand)),
         Name::Absolute => {
             if is_absolute_on(os, operand) {
@@ -396,16 +428,17 @@ fn is_absolute_on(os: Os, directory: &str) -> bool
 fn checked_join<'a>(
     given: Line<'_, 'a>,
     after_end: usize,
+    keeps: bool,
     os: Os,
     operand: &'a str,
 ) -> Result<Task<'a>, Misuse<'a>>
     requires operands { HasOneOperand after_end given.now JoinName os operand.now }
     requires checked { HasOption Checked given.now }
-    ensures task { IfOk result (λ task. IsTaskOf JoinName true os (operand.now ∷ []) task) }
+    ensures task { IfOk result (λ task. IsTaskOf JoinName true keeps os (operand.now ∷ []) task) }
     ensures misuse { IfErr result (λ misuse. IsMisuse after_end given.entry.now misuse) }
 {
     match Base::new(style_of(os), operand.as_bytes()) {
-        Ok(base) => Ok(Task::JoinChecked(base)),
+        Ok(base) => Ok(Task::JoinChecked(base, keeps)),
         Err(error) => Err(Misuse::Invalid(base_word(error), operand)),
     }
 }

@@ -17,9 +17,14 @@ paths parent     [PLATFORM]        writes the path without its last component
 paths name       [PLATFORM]        writes the last component, where that is a name
 paths stem       [PLATFORM]        writes that name without its extension
 paths extension  [PLATFORM]        writes the extension of that name
+paths with-extension [PLATFORM] EXT
+                                   writes the path with EXT as that extension, or with none if EXT is empty; a path
+                                   that doesn't end in a name stays
 paths normalize  [PLATFORM]        writes the path without . and ..; a .. takes the name before it away, and a
                                    path with a .. that has none is rejected
 paths clean      [PLATFORM]        as normalize, but such a .. stays, or goes at a root
+paths starts-with [PLATFORM] BASE  writes the path as it is if it begins with the components of BASE, and nothing for
+                                   another
 paths join       [PLATFORM] BASE   writes the path after BASE; one with a root or a prefix replaces BASE, and ..
                                    may leave it
 paths join --checked [PLATFORM] BASE
@@ -31,14 +36,15 @@ paths absolute   [PLATFORM] DIR    writes the path as an absolute path, below DI
 paths convert    PLATFORM TO       writes the path of the platform TO with the same components, and rejects one
                                    with a component that TO can't have
 
-Each reads paths that are ended by NUL, the last one too. Each writes one result for a path, ended by NUL,
-which is empty where the path has no such part. PLATFORM and TO are unix, windows or wasm. If PLATFORM is left
-out it is unix, so a BASE of one of these names comes after PLATFORM.
+Each reads paths that are ended by NUL, the last one too. Each but starts-with writes one result for a path,
+ended by NUL, which is empty where the path has no such part. PLATFORM and TO are unix, windows or wasm. If
+PLATFORM is left out it is unix, so an EXT or a BASE of one of these names comes after PLATFORM.
 
-Options may stand anywhere; -- ends them. The operands that come after -- and aren't BASE, DIR or TO are the
-paths, and nothing is read. PLATFORM isn't among them if the command comes before --.
+Options may stand anywhere; -- ends them. The operands that come after -- and aren't EXT, BASE, DIR or TO are
+the paths, and nothing is read. PLATFORM isn't among them if the command comes before --.
 
   --checked        join: for names from outside, as in an archive or a request
+  --keep-separator join --checked: keep a separator at the end of a path, as an archive has for a folder
   --lines          a newline ends each path that is read and each result, and not NUL; a path with a NUL, or a
                    result with a newline, is rejected
   --unterminated   the last path may lack its end

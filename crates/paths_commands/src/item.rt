@@ -1,5 +1,5 @@
 //! What is written for one path.
-ghost use Rattle.std.specs.Prelude.{◌≡◌, ◌≢◌, ◌⊎◌, ◌∷◌, ◌++◌, ◌≤◌, [], ℕ, List, Some, None, OnOk, OnErr, IfOk, IfErr, drop, length, take};
+ghost use Rattle.std.specs.Prelude.{◌≡◌, ◌≢◌, ◌⊎◌, ◌∷◌, ◌++◌, ◌≤◌, [], ℕ, List, true, false, Some, None, OnOk, OnErr, IfOk, IfErr, drop, length, take};
 ghost use Rattle.list_programs.specs.declared.fault.ItemFault.TheVariants.{Rejected, Memory};
 ghost use Rattle.path_building.specs.Cleaned.{IsCleaned};
 ghost use Rattle.path_building.specs.FullPath.{IsFullPath, IsAbsoluteFault};
@@ -16,12 +16,13 @@ ghost use Rattle.list_programs.specs.ListOptions.{byte_of};
 ghost use Rattle.list_programs.specs.Rules.{IsItemFault};
 ghost use Rattle.program_frame.specs.Strings.{strings};
 ghost use Rattle.paths_commands.specs.Styles.{style_of};
-ghost use Rattle.paths_commands.specs.Task.{rules_of, IsText, IsPathText, IsComponentsText, IsMade, IsRejection, IsUnanswered, IsUnconverted, way_text};
+ghost use Rattle.paths_commands.specs.Task.{rules_of, IsText, IsPathText, IsComponentsText, IsExtendedBy, IsMade, IsLeftOut, IsRejection, IsTaken, IsUnanswered, IsUnconverted, way_text};
 ghost use Rattle.platform_str.specs.Strings.{path_bytes};
 
 use crate::answers::{parent, part};
 use crate::checked::write_checked;
 use crate::components::{push_components, shown_component};
+use crate::extension::Extension;
 use crate::fault::Rejection;
 use crate::task::{OnPlatform, Task};
 use list_programs::fault::ItemFault;
@@ -29,6 +30,7 @@ use list_programs::items::split_at_end;
 use list_programs::options::ItemEnd;
 use os_path::{AbsoluteError, ConvertError, NormalizeError, PathExt, PathStyle};
 use os_str_bytes::{OsStr, Path, Platform, Unix, Wasm, Windows};
+use path_building::with_extension;
 use program_frame::os::Os;
 use std::alloc::Allocator;
 
@@ -73,6 +75,9 @@ fn write_path<E: PathStyle, A: Allocator + Copy>(
         (path_bytes path.entry) why))) }
     ensures unchanged { OnErr result (output.new.items ≡ output.old.items) }
 {
+    if is_left_out(task, path) {
+        return Ok(());
+    }
     let start = output.len();
     match write_result::<E, A>(alloc, task, path, output) {
         Ok(()) => match task {
@@ -80,6 +85,17 @@ fn write_path<E: PathStyle, A: Allocator + Copy>(
             _ => end_result(start, end, output),
         },
         Err(fault) => Err(fault),
+    }
+}
+
+/// Whether a path isn't one of those that the task picks.
+fn is_left_out<E: PathStyle>(task: Task<'_>, path: Path<'_, E>) -> bool
+    ensures yes { result ≡ true → IsLeftOut E.follows task.entry (path_bytes path.entry) }
+    ensures no { result ≡ false → IsTaken E.follows task.entry (path_bytes path.entry) }
+{
+    match task {
+        Task::StartsWith(base) => !path.starts_with(Path::new(OsStr::new(base))),
+        _ => false,
     }
 }
 
@@ -119,6 +135,7 @@ fn write_result<E: PathStyle, A: Allocator + Copy>(
     path: Path<'_, E>,
     output: &mut Vec<u8, A>,
 ) -> Result<(), ItemFault<Rejection>>
+    requires { IsTaken E.follows task (path_bytes path) }
     ensures ok { OnOk result ((made : List ℕ)
         × (IsMade ⟦<E as Platform>⟧ E.follows task.entry (path_bytes path.entry) made
         × (output.new.items ≡ output.old.items ++ made))) }
@@ -133,10 +150,14 @@ fn write_result<E: PathStyle, A: Allocator + Copy>(
         Task::Name => write_answer(part(path.file_name()), output),
         Task::Stem => write_answer(part(path.file_stem()), output),
         Task::Extension => write_answer(part(path.extension()), output),
+        Task::WithExtension(extension) => write_extended::<E, A>(alloc, extension, path, output),
         Task::Normalize => write_normal::<E, A>(alloc, path, output),
         Task::Clean => write_clean::<E, A>(alloc, path, output),
+        Task::StartsWith(_) => write_answer(path.as_os_str().as_encoded_bytes(), output),
         Task::Join(base) => write_joined::<E, A>(alloc, base, path, output),
-        Task::JoinChecked(base) => write_checked::<E, A>(alloc, base, path, output),
+        Task::JoinChecked(base, keeps) => {
+            write_checked::<E, A>(alloc, base, keeps, path, output)
+        }
         Task::Relative(base) => write_relative::<E, A>(alloc, base, path, output),
         Task::Absolute(directory) => write_absolute::<E, A>(alloc, directory, path, output),
         Task::Convert(to) => write_on::<E, A>(alloc, to, path, output),
@@ -156,6 +177,26 @@ fn write_components<E: PathStyle, A: Allocator + Copy>(
     ensures unchanged { OnErr result (output.new.items ≡ output.old.items) }
 {
     Ok(push_components(alloc, path, output)?)
+}
+
+/// Appends a path with another extension.
+fn write_extended<E: PathStyle, A: Allocator + Copy>(
+    alloc: A,
+    extension: Extension<'_>,
+    path: Path<'_, E>,
+    output: &mut Vec<u8, A>,
+) -> Result<(), ItemFault<Rejection>>
+    ensures ok { OnOk result ((made : List ℕ)
+        × (IsExtendedBy extension.entry (path_bytes path.entry) made
+        × (output.new.items ≡ output.old.items ++ made))) }
+    ensures fault { IfErr result (λ fault. fault ≡ Memory) }
+    ensures unchanged { OnErr result (output.new.items ≡ output.old.items) }
+{
+    let raw = path.as_os_str().as_encoded_bytes();
+    match with_extension(alloc, extension.style, raw, extension.text.as_bytes()) {
+        Ok(made) => write_answer(&made, output),
+        Err(_) => Err(ItemFault::Memory),
+    }
 }
 
 /// Appends the normal form of a path.

@@ -14,6 +14,7 @@ mod answers;
 mod checked;
 pub mod command;
 mod components;
+pub mod extension;
 pub mod fault;
 mod given;
 pub mod help;

@@ -17,6 +17,8 @@ pub enum PathsOption {
     Version,
     /// `--checked`: reject a path that could leave BASE.
     Checked,
+    /// `--keep-separator`: keep a separator at the end of a path.
+    KeepSeparator,
     /// `--keep-going`: go on after a path that is rejected.
     KeepGoing,
     /// `--lines`: a newline ends each path, and not NUL.
@@ -58,6 +60,7 @@ fn long_option(name: &str) -> Option<PathsOption>
         "help" => Some(PathsOption::Help),
         "version" => Some(PathsOption::Version),
         "checked" => Some(PathsOption::Checked),
+        "keep-separator" => Some(PathsOption::KeepSeparator),
         "keep-going" => Some(PathsOption::KeepGoing),
         "lines" => Some(PathsOption::Lines),
         "unterminated" => Some(PathsOption::Unterminated),

@@ -2,6 +2,7 @@
 ghost use Rattle.std.specs.Prelude.{◌≡◌};
 ghost use Rattle.paths_commands.specs.Task.{rules_of};
 
+use crate::extension::Extension;
 use crate::fault::Rejection;
 use crate::item::write_item;
 use list_programs::fault::ItemFault;
@@ -27,15 +28,21 @@ pub enum Task<'a> {
     Stem,
     /// The extension of that name.
     Extension,
+    /// The path with this extension of that name, as std's `Path::with_extension`. A path without a
+    /// name is kept.
+    WithExtension(Extension<'a>),
     /// Its normal form, as std's `normalize_lexically`. A path without one is rejected.
     Normalize,
     /// Its clean form, as Go's `filepath.Clean`.
     Clean,
+    /// The path as it is, if it begins with the components of this base, as std's
+    /// `Path::starts_with`. Nothing is written for another.
+    StartsWith(&'a str),
     /// The path after this base, as std's `Path::join`.
     Join(&'a str),
     /// The path below this base, as typed-path's `join_checked`. One that could leave the base is
-    /// rejected.
-    JoinChecked(Base<'a>),
+    /// rejected. The flag is whether a separator at the end of the path is kept.
+    JoinChecked(Base<'a>, bool),
     /// The path as it is reached from this base, as the crate pathdiff's `diff_paths`, and `.` for the
     /// base itself. One that no path leads to is rejected.
     Relative(&'a str),

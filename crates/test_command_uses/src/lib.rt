@@ -27,8 +27,9 @@ pub use names::{
     line_before, line_of, list_of_two, names_again, returned_line, unended_line, unended_name,
 };
 pub use paths::{
-    answered, components_of, joined_one, line_with_nul, parent_line, parent_of, requested_on,
-    requested_one, requests_a_command, stated_list, unended_path,
+    answered, begins_with, components_of, joined_one, kept_below, kept_separator, line_with_nul,
+    parent_line, parent_of, requested_on, requested_one, requests_a_command, stated_extension,
+    stated_list, unended_path, with_extension,
 };
 pub use plans::{fails_first, kept, turns};
 pub use programs::{

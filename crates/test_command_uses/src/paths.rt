@@ -1,17 +1,23 @@
 //! Lists of paths: the arguments of commands, the result for one path, and one that is rejected.
-ghost use Rattle.std.specs.Prelude.{◌≡◌, ◌≢◌, ◌∷◌, ◌++◌, ◌⊎◌, [], ℕ, List, true, false, Some, None, IsOk, IfErr, IfSome, OnOk};
+ghost use Rattle.std.specs.Prelude.{◌≡◌, ◌≢◌, ◌↔◌, ◌∷◌, ◌++◌, ◌⊎◌, [], ℕ, Bool, List, true, false, Some, None, IsOk, IfErr, IfSome, OnOk};
 ghost use Rattle.std.specs.Fmt.InlineText.{inline_text};
 ghost use Rattle.std.specs.Io.KnownBytes.{Appends};
 ghost use Rattle.std.specs.declared.fmt.InlineText.{InlineText};
 ghost use Rattle.os_str_bytes.specs.EncodingError.{EncodingError};
-ghost use Rattle.path_building.specs.BaseViews.{base_style};
+ghost use Rattle.path_building.specs.BaseViews.{base_path, base_style};
+ghost use Rattle.path_building.specs.Checked.{IsBelowBase};
+ghost use Rattle.path_building.specs.CheckedEnd.{IsCheckedJoinEnded};
 ghost use Rattle.path_building.specs.Faults.{IsNameFault};
+ghost use Rattle.path_building.specs.FileName.{IsExtensionSet};
 ghost use Rattle.path_building.specs.FullPath.{IsFullPath};
 ghost use Rattle.path_building.specs.Join.{IsJoin};
 ghost use Rattle.path_building.specs.declared.walk.NameError.{NameError};
+ghost use Rattle.path_rules.specs.Compare.{StartsWith};
+ghost use Rattle.path_rules.specs.Name.{IsExtensionText};
 ghost use Rattle.path_rules.specs.Parent.{IsParent, HasNoParent};
 ghost use Rattle.path_building.specs.Relative.{IsRelativeFrom};
 ghost use Rattle.path_building.specs.Restyled.{IsRestyled};
+ghost use Rattle.list_programs.specs.Arguments.{HasOption};
 ghost use Rattle.list_programs.specs.Items.{Lacks};
 ghost use Rattle.list_programs.specs.ListOptions.{AreStated, byte_of};
 ghost use Rattle.list_programs.specs.ListRun.{IsOutput, StopsOn};
@@ -23,10 +29,10 @@ ghost use Rattle.list_programs.specs.declared.misuse.Misuse.{Misuse as DeclaredM
 ghost use Rattle.list_programs.specs.declared.fault.ListFault.TheVariants.{Rejected, Run};
 ghost use Rattle.paths_commands.specs.Command.{IsRequestFor, IsMisuse, RequestsNothing, longest_path};
 ghost use Rattle.paths_commands.specs.Styles.{style_of};
-ghost use Rattle.paths_commands.specs.Task.{component_of, rules_of, IsAnswer, IsComponentsText, IsShownOf, way_text};
+ghost use Rattle.paths_commands.specs.Task.{component_of, rules_of, IsAnswer, IsComponentsText, IsShownOf, IsTaken, way_text};
 ghost use Rattle.paths_commands.specs.declared.command.Command.{Command as DeclaredCommand};
 ghost use Rattle.paths_commands.specs.declared.fault.Rejection.TheVariants.{NoJoin, NoJoinAt, NoString};
-ghost use Rattle.paths_commands.specs.declared.option.PathsOption.TheVariants.{Lines, Unterminated};
+ghost use Rattle.paths_commands.specs.declared.option.PathsOption.TheVariants.{KeepSeparator, Lines, Unterminated};
 ghost use Rattle.paths_commands.specs.declared.task.Task.TheVariants.{Components};
 ghost use Rattle.test_command_uses.specs.OneFile.{lacking};
 
@@ -38,6 +44,7 @@ use os_path::PathStyle;
 use os_str_bytes::Platform;
 use path_building::Base;
 use paths_commands::command::{Command, Line};
+use paths_commands::extension::Extension;
 use paths_commands::fault::Rejection;
 use paths_commands::task::{OnPlatform, Task};
 use program_frame::marked::Marked;
@@ -67,6 +74,18 @@ pub fn stated_list(given: Line<'_, '_>) -> Option<ListOptions>
             Command::Help | Command::Version => None,
         },
         Err(_) => None,
+    }
+}
+
+/// Whether a separator at the end of a path is kept by options and operands that request a checked
+/// join.
+pub fn kept_separator(given: Line<'_, '_>) -> Option<bool>
+    ensures { IfSome result (λ keeps.
+        (keeps ≡ true) ↔ HasOption KeepSeparator given.entry.now) }
+{
+    match Command::parse(given, 0) {
+        Ok(Command::Ask(Task::JoinChecked(_, keeps), _, _, _, _)) => Some(keeps),
+        _ => None,
     }
 }
 
@@ -134,8 +153,8 @@ pub fn requested_on<E: PathStyle, P: Eprint, A: Allocator, W: Write>(
     (rejections.count(), ran)
 }
 
-/// Runs a task other than the one for components on one path: the result lacks this end, and is
-/// written with it.
+/// Runs a task other than the one for components on one path that it takes: the result lacks this
+/// end, and is written with it.
 pub fn answered<E: PathStyle, A: Allocator, W: Write>(
     alloc: A,
     end: ItemEnd,
@@ -144,6 +163,7 @@ pub fn answered<E: PathStyle, A: Allocator, W: Write>(
     writer: &mut Marked<W>,
 ) -> Result<(), ListFault<Rejection>>
     requires question { task ≢ Components }
+    requires taken { IsTaken E.follows task path.now }
     requires whole { Lacks (byte_of end) path.now }
     requires some { path.now ≢ [] }
     requires unmarked { has_failed writer.old ≡ false }
@@ -240,6 +260,85 @@ pub fn after_base<E: PathStyle, A: Allocator, W: Write>(
     answered::<E, A, W>(alloc, ItemEnd::Nul, Task::Join(base), path, writer)
 }
 
+/// Writes one path with NUL if it begins with a base, and nothing if it doesn't.
+pub fn begins_with<E: PathStyle, A: Allocator, W: Write>(
+    alloc: A,
+    base: &str,
+    path: &[u8],
+    writer: &mut Marked<W>,
+) -> Result<(), ListFault<Rejection>>
+    requires whole { Lacks 0 path.now }
+    requires some { path.now ≢ [] }
+    requires unmarked { has_failed writer.old ≡ false }
+    ensures { OnOk result ((text : List ℕ) × (((StartsWith E.follows path.now base.now
+        × (text ≡ path.now ++ 0 ∷ []))
+        ⊎ ((¬ (StartsWith E.follows path.now base.now)) × (text ≡ [])))
+        × Appends (W.contents (marked_inner writer.old)) (W.contents (marked_inner writer.new))
+        text)) }
+{
+    ask::<E, A, W>(
+        alloc,
+        Task::StartsWith(base),
+        lacking(ItemEnd::Nul),
+        path,
+        writer,
+    )
+}
+
+/// Replaces the extension of one path, which is written with NUL.
+pub fn with_extension<E: PathStyle, A: Allocator, W: Write>(
+    alloc: A,
+    extension: Extension<'_>,
+    path: &[u8],
+    writer: &mut Marked<W>,
+) -> Result<(), ListFault<Rejection>>
+    requires whole { Lacks 0 path.now }
+    requires some { path.now ≢ [] }
+    requires unmarked { has_failed writer.old ≡ false }
+    ensures { OnOk result ((made : List ℕ) × (((is_set : Bool)
+        × IsExtensionSet extension.entry.style path.now extension.entry.text.now made is_set)
+        × (Lacks 0 made
+        × Appends (W.contents (marked_inner writer.old)) (W.contents (marked_inner writer.new))
+        (made ++ 0 ∷ [])))) }
+{
+    let task = Task::WithExtension(extension);
+    answered::<E, A, W>(alloc, ItemEnd::Nul, task, path, writer)
+}
+
+/// An extension that options and operands state: no byte of it separates. It comes after the platform.
+pub fn stated_extension<'a>(given: Line<'_, 'a>) -> Option<(Extension<'a>, Os)>
+    ensures style { IfSome result (λ found. found.0.style ≡ style_of found.1) }
+    ensures text { IfSome result (λ found.
+        IsExtensionText (style_of found.1) found.0.text.now) }
+{
+    match Command::parse(given, 0) {
+        Ok(Command::Ask(Task::WithExtension(extension), os, _, _, _)) => Some((extension, os)),
+        _ => None,
+    }
+}
+
+/// Puts one path below a base that it can't leave, with the separator at its end, which is written
+/// with NUL.
+pub fn kept_below<E: PathStyle, A: Allocator, W: Write>(
+    alloc: A,
+    base: Base<'_>,
+    path: &[u8],
+    writer: &mut Marked<W>,
+) -> Result<(), ListFault<Rejection>>
+    requires whole { Lacks 0 path.now }
+    requires some { path.now ≢ [] }
+    requires unmarked { has_failed writer.old ≡ false }
+    ensures { OnOk result ((ended : List ℕ)
+        × ((IsCheckedJoinEnded (base_style base.entry) (base_path base.entry) path.now ended
+        × IsBelowBase (base_style base.entry) (base_path base.entry) ended)
+        × (Lacks 0 ended
+        × Appends (W.contents (marked_inner writer.old)) (W.contents (marked_inner writer.new))
+        (ended ++ 0 ∷ [])))) }
+{
+    let task = Task::JoinChecked(base, true);
+    answered::<E, A, W>(alloc, ItemEnd::Nul, task, path, writer)
+}
+
 /// Writes how one path is reached from a base, with NUL.
 pub fn from_base<E: PathStyle, A: Allocator, W: Write>(
     alloc: A,
@@ -333,6 +432,7 @@ pub fn requested_one<E: PathStyle, A: Allocator, W: Write>(
 pub fn joined_one<E: PathStyle, A: Allocator, W: Write>(
     alloc: A,
     base: Base<'_>,
+    keeps: bool,
     path: &[u8],
     writer: &mut Marked<W>,
 ) -> Result<(), ListFault<Rejection>>
@@ -350,7 +450,7 @@ pub fn joined_one<E: PathStyle, A: Allocator, W: Write>(
 {
     ask::<E, A, W>(
         alloc,
-        Task::JoinChecked(base),
+        Task::JoinChecked(base, keeps),
         lacking(ItemEnd::Nul),
         path,
         writer,

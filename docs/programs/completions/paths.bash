@@ -20,17 +20,19 @@ _paths() {
         name:*:-*) words='--lines --unterminated --keep-going' ;;
         stem:*:-*) words='--lines --unterminated --keep-going' ;;
         extension:*:-*) words='--lines --unterminated --keep-going' ;;
+        with-extension:*:-*) words='--lines --unterminated --keep-going' ;;
         normalize:*:-*) words='--lines --unterminated --keep-going' ;;
         clean:*:-*) words='--lines --unterminated --keep-going' ;;
-        join:*:-*) words='--checked --lines --unterminated --keep-going' ;;
+        starts-with:*:-*) words='--lines --unterminated --keep-going' ;;
+        join:*:-*) words='--checked --keep-separator --lines --unterminated --keep-going' ;;
         relative:*:-*) words='--lines --unterminated --keep-going' ;;
         absolute:*:-*) words='--lines --unterminated --keep-going' ;;
         convert:*:-*) words='--lines --unterminated --keep-going' ;;
         :*:-*) words='--lines --unterminated --keep-going -h --help -V --version' ;;
-        :0:*) words='components parent name stem extension normalize clean join relative absolute convert' ;;
-        components:1:*|parent:1:*|name:1:*|stem:1:*|extension:1:*|normalize:1:*|clean:1:*|join:1:*|relative:1:*|absolute:1:*|convert:1:*) words='unix windows wasm' ;;
+        :0:*) words='components parent name stem extension with-extension normalize clean starts-with join relative absolute convert' ;;
+        components:1:*|parent:1:*|name:1:*|stem:1:*|extension:1:*|with-extension:1:*|normalize:1:*|clean:1:*|starts-with:1:*|join:1:*|relative:1:*|absolute:1:*|convert:1:*) words='unix windows wasm' ;;
         convert:2:*) words='unix windows wasm' ;;
-        join:2:*|relative:2:*|absolute:2:*) compopt -o default 2>/dev/null; return ;;
+        starts-with:2:*|join:2:*|relative:2:*|absolute:2:*) compopt -o default 2>/dev/null; return ;;
     esac
     mapfile -t COMPREPLY < <(compgen -W "$words" -- "$word")
 }

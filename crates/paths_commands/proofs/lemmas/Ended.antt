@@ -39,7 +39,7 @@ module _ {E : Type 0} (p : Ghosts E) (style : Style) (end : ItemEnd) (task : Tas
       let whole = subst (Lacks (byte_of end)) (from start old mid answer count made.1.1) lacks in (
         answer ++ byte_of end ∷ [],
         (
-          inr (answer, (answered answer other made.1.0, (whole, refl))),
+          inr (inl (answer, (answered answer other made.1.0, (whole, refl)))),
           is ∙ ap (λ l. l ++ byte_of end ∷ []) made.1.1 ∙ append_assoc old answer (byte_of end ∷ []),
         ),
       )

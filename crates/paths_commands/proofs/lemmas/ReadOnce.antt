@@ -1,5 +1,5 @@
 -- Arguments are read in one way: as one list of options and operands, or with a fault.
-use Rattle.std.proofs.Common.{◌≡◌, inl, inr, ◌∙◌, ℕ, List, [], ◌∷◌, ◌++◌, Option, Some, None, Result, Ok, Err, get_or, refl, sym, ap, subst, arith}
+use Rattle.std.proofs.Common.{◌≡◌, inl, inr, ◌∙◌, ℕ, ◌+◌, List, [], ◌∷◌, ◌++◌, Option, Some, None, Result, Ok, Err, get_or, refl, sym, ap, subst, arith}
 use Rattle.std.specs.Prelude.{Bool, true, false}
 use Rattle.os_args.specs.Word.{Kind, Long, LongBytes, Short, ShortBytes, Value}
 use Rattle.os_args.specs.Reading.{Fault, Reading, TakesWord}
@@ -21,56 +21,63 @@ use Rattle.paths_commands.specs.Options.{IsFlagOf, has_value, name_of, spelled}
 use Rattle.paths_commands.specs.declared.command.Command.{Command}
 use Rattle.paths_commands.specs.declared.command.Command.TheVariants.{Ask, Help as HelpCommand, Version as VersionCommand}
 use Rattle.paths_commands.specs.declared.option.PathsOption.{PathsOption}
-use Rattle.paths_commands.specs.declared.option.PathsOption.TheVariants.{Help, Version, Checked, KeepGoing, Lines, Unterminated}
+use Rattle.paths_commands.specs.declared.option.PathsOption.TheVariants.{Help, Version, Checked, KeepSeparator, KeepGoing, Lines, Unterminated}
 
--- the first letter of the option's name
-abbrev letter : PathsOption → ℕ
-letter Help = 104
-letter Version = 118
-letter Checked = 99
-letter KeepGoing = 107
-letter Lines = 108
-letter Unterminated = 117
+-- the sum of the first letter of the option's name and the sixth
+abbrev letters : PathsOption → ℕ
+letters Help = 104
+letters Version = 229
+letters Checked = 200
+letters KeepSeparator = 222
+letters KeepGoing = 210
+letters Lines = 108
+letters Unterminated = 226
 
-letter_is : (option : PathsOption) → letter option ≡ get_or (name_of option) 0 0
-letter_is Help = refl
-letter_is Version = refl
-letter_is Checked = refl
-letter_is KeepGoing = refl
-letter_is Lines = refl
-letter_is Unterminated = refl
+letters_are : (option : PathsOption) → letters option ≡ get_or (name_of option) 0 0 + get_or (name_of option) 5 0
+letters_are Help = refl
+letters_are Version = refl
+letters_are Checked = refl
+letters_are KeepSeparator = refl
+letters_are KeepGoing = refl
+letters_are Lines = refl
+letters_are Unterminated = refl
 
-same_letter : (option other : PathsOption) → name_of option ≡ name_of other → letter option ≡ letter other
-same_letter option other e = letter_is option ∙ ap (λ name. get_or name 0 0) e ∙ sym (letter_is other)
+same_letters : (option other : PathsOption) → name_of option ≡ name_of other → letters option ≡ letters other
+same_letters option other e = letters_are option ∙ ap (λ name. get_or name 0 0 + get_or name 5 0) e ∙ sym (letters_are other)
 
 same_option : (option other : PathsOption) → name_of option ≡ name_of other → option ≡ other
 same_option Help Help e = refl
 same_option Version Version e = refl
 same_option Checked Checked e = refl
+same_option KeepSeparator KeepSeparator e = refl
 same_option KeepGoing KeepGoing e = refl
 same_option Lines Lines e = refl
 same_option Unterminated Unterminated e = refl
-same_option Help other e = let letters = same_letter Help other e in absurd (omega arith)
-same_option Version other e = let letters = same_letter Version other e in absurd (omega arith)
-same_option Checked other e = let letters = same_letter Checked other e in absurd (omega arith)
-same_option KeepGoing other e = let letters = same_letter KeepGoing other e in absurd (omega arith)
-same_option Lines other e = let letters = same_letter Lines other e in absurd (omega arith)
-same_option Unterminated other e = let letters = same_letter Unterminated other e in absurd (omega arith)
+same_option Help other e = let sums = same_letters Help other e in absurd (omega arith)
+same_option Version other e = let sums = same_letters Version other e in absurd (omega arith)
+same_option Checked other e = let sums = same_letters Checked other e in absurd (omega arith)
+same_option KeepSeparator other e = let sums = same_letters KeepSeparator other e in absurd (omega arith)
+same_option KeepGoing other e = let sums = same_letters KeepGoing other e in absurd (omega arith)
+same_option Lines other e = let sums = same_letters Lines other e in absurd (omega arith)
+same_option Unterminated other e = let sums = same_letters Unterminated other e in absurd (omega arith)
 
 same_flag : (option other : PathsOption) (c : ℕ) → IsFlagOf option c → IsFlagOf other c → option ≡ other
 same_flag Help Help c is of_other = refl
 same_flag Help Version c is of_other = let same : ◌≡◌ {A = ℕ} 104 86 = sym is ∙ of_other in absurd (omega arith)
 same_flag Help Checked c is of_other = absurd of_other
+same_flag Help KeepSeparator c is of_other = absurd of_other
 same_flag Help KeepGoing c is of_other = absurd of_other
 same_flag Version Help c is of_other = let same : ◌≡◌ {A = ℕ} 86 104 = sym is ∙ of_other in absurd (omega arith)
 same_flag Version Version c is of_other = refl
 same_flag Version Checked c is of_other = absurd of_other
+same_flag Version KeepSeparator c is of_other = absurd of_other
 same_flag Version KeepGoing c is of_other = absurd of_other
 same_flag Help Lines c is of_other = absurd of_other
 same_flag Help Unterminated c is of_other = absurd of_other
 same_flag Version Lines c is of_other = absurd of_other
 same_flag Version Unterminated c is of_other = absurd of_other
 same_flag Checked other c is of_other = absurd is
+same_flag KeepSeparator other c is of_other = absurd is
 same_flag KeepGoing other c is of_other = absurd is
 same_flag Lines other c is of_other = absurd is
 same_flag Unterminated other c is of_other = absurd is
@@ -241,7 +248,10 @@ module _ (given other : Line) (alike : AreAlike given other) where
     (
       (alike_has after_end (name_of_task task) os (operands_of_task task ++ operands_of paths.now) requests.1.0.0, requests.1.0.1),
       (
-        ((λ is. has Checked (requests.1.1.0.0 is)), (λ checked. requests.1.1.0.1 (had Checked checked))),
+        (
+          ((λ is. has Checked (requests.1.1.0.0.0 is)), (λ checked. requests.1.1.0.0.1 (had Checked checked))),
+          ((λ is. has KeepSeparator (requests.1.1.0.1.0 is)), (λ kept. requests.1.1.0.1.1 (had KeepSeparator kept))),
+        ),
         (
           requests.1.1.1.0,
           (

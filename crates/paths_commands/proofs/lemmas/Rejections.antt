@@ -1,5 +1,6 @@
 -- Why a path is rejected, by its task.
 use Rattle.std.proofs.Common.{◌≡◌, ℕ, List}
+use Rattle.std.specs.Prelude.{Bool}
 use Rattle.path_building.specs.declared.base.Base.{Base}
 use Rattle.os_str_bytes.specs.Platform.{Ghosts}
 use Rattle.path_rules.specs.declared.rules.Style.{Style}
@@ -41,15 +42,15 @@ unconverted_unanswered p style task to path HasNul is none = absurd none
 unconverted_unanswered p style task to path (ResultHas byte) is none = absurd none
 
 -- a path that isn't joined to the base has no result
-pub unjoined_unanswered : {E : Type 0} (p : Ghosts E) (style : Style) (task : Task) (base : Base) (path : List ℕ) (why : Rejection) → task ≡ JoinChecked base
+pub unjoined_unanswered : {E : Type 0} (p : Ghosts E) (style : Style) (task : Task) (base : Base) (keeps : Bool) (path : List ℕ) (why : Rejection) → task ≡ JoinChecked base keeps
     → IsUnjoined p style base path why → IsUnanswered p style task path why
-unjoined_unanswered p style task base path (NoString error) is none = none.1.1
-unjoined_unanswered p style task base path NoNormalForm is none = absurd none.1.1
-unjoined_unanswered p style task base path NoRelativePath is none = absurd none.1.1
-unjoined_unanswered p style task base path (NoAbsolutePath error) is none = absurd none.1.1
-unjoined_unanswered p style task base path (NoJoin error) is none = (base, (is, none))
-unjoined_unanswered p style task base path (NoJoinAt error text) is none = (base, (is, none))
-unjoined_unanswered p style task base path (NoComponent index text) is none = absurd none.1.1
-unjoined_unanswered p style task base path (NoStringThere error) is none = absurd none.1.1
-unjoined_unanswered p style task base path HasNul is none = absurd none.1.1
-unjoined_unanswered p style task base path (ResultHas byte) is none = absurd none.1.1
+unjoined_unanswered p style task base keeps path (NoString error) is none = none.1.1
+unjoined_unanswered p style task base keeps path NoNormalForm is none = absurd none.1.1
+unjoined_unanswered p style task base keeps path NoRelativePath is none = absurd none.1.1
+unjoined_unanswered p style task base keeps path (NoAbsolutePath error) is none = absurd none.1.1
+unjoined_unanswered p style task base keeps path (NoJoin error) is none = (base, (keeps, (is, none)))
+unjoined_unanswered p style task base keeps path (NoJoinAt error text) is none = (base, (keeps, (is, none)))
+unjoined_unanswered p style task base keeps path (NoComponent index text) is none = absurd none.1.1
+unjoined_unanswered p style task base keeps path (NoStringThere error) is none = absurd none.1.1
+unjoined_unanswered p style task base keeps path HasNul is none = absurd none.1.1
+unjoined_unanswered p style task base keeps path (ResultHas byte) is none = absurd none.1.1

@@ -12,8 +12,8 @@ returns-in-Ok-clause-ok g c =
     let raw : c.as_encoded_bytes.result.now ≡ path = search rules in
     let answer = c.deref.result.now in
     let bytes : answer ≡ c.in-Ok.joined.items = search rules in
-    let below = subst (λ p. IsJoinedBelow c.args.base p c.in-Ok.joined.items) raw (c.in-Ok.ensures.ok, c.in-Ok.ensures.below) in
-    on_ok_weaker c.write_answer.result (λ e. (answer, (subst (IsJoinedBelow c.args.base path) (sym bytes) below, e))) c.write_answer.ensures.ok
+    let below = subst (λ p. IsJoinedBelow c.args.base c.args.keeps p c.in-Ok.joined.items) raw c.in-Ok.ensures.ok in
+    on_ok_weaker c.write_answer.result (λ e. (answer, (subst (IsJoinedBelow c.args.base c.args.keeps path) (sym bytes) below, e))) c.write_answer.ensures.ok
 
 pub returns-in-Err : goal.returns-in-Err
 returns-in-Err g c =

@@ -1,8 +1,9 @@
 use Rattle.std.proofs.Common.{rules, ◌≡◌, ◌∷◌, [], refl}
 use Rattle.std.specs.Prelude.{false}
 use Rattle.list_programs.specs.Arguments.{HasOption, operands_of}
-use Rattle.paths_commands.specs.declared.option.PathsOption.TheVariants.{Checked}
-use Rattle.paths_commands.proofs.lemmas.Found.{task_found, unchecked_by}
+use Rattle.paths_commands.specs.declared.option.PathsOption.TheVariants.{Checked, KeepSeparator}
+use Rattle.paths_commands.specs.Task.{IsChecked, KeepsSeparator}
+use Rattle.paths_commands.proofs.lemmas.Found.{task_found, without_option}
 use Rattle.paths_commands.proofs.lemmas.Surplus.{surplus_first, surplus_second}
 use Rattle.paths_commands.proofs.command.task_of.Goals as goal
 
@@ -13,14 +14,18 @@ returns-in-Some-surplus_in-clause-misuse c =
 
 pub returns-in-None-clause-operands : goal.returns-in-None-clause-operands
 returns-in-None-clause-operands c =
-    task_found c.args.after_end c.args.given.now c.args.name false c.args.os [] (operands_of c.args.more.now) (operands_of c.args.more.now) c.without_operand.result (c.without_operand.ensures c.args.os) c.requires refl
+    task_found c.args.after_end c.args.given.now c.args.name false false c.args.os [] (operands_of c.args.more.now) (operands_of c.args.more.now) c.without_operand.result (c.without_operand.ensures c.args.os) c.requires refl
 
 pub returns-in-None-clause-checked : goal.returns-in-None-clause-checked
 returns-in-None-clause-checked c =
-    unchecked_by c.has-is_checked.result c.args.name c.without_operand.result (HasOption Checked c.args.given.now) c.in_default.ensures (c.if-not-is_placed.ensures.yes refl) (c.without_operand.ensures c.args.os).1.0 c.has-is_checked.ensures
+    without_option c.has-is_checked.result c.args.name (IsChecked c.without_operand.result) (HasOption Checked c.args.given.now) c.in_default.ensures (c.if-not-is_placed.ensures.yes refl) (c.without_operand.ensures c.args.os).1.0 c.has-is_checked.ensures
+
+pub returns-in-None-clause-keeps : goal.returns-in-None-clause-keeps
+returns-in-None-clause-keeps c =
+    without_option c.has-keeps.result c.args.name (KeepsSeparator c.without_operand.result) (HasOption KeepSeparator c.args.given.now) c.in_default.ensures (c.if-not-is_placed-2.ensures.yes refl) (c.without_operand.ensures c.args.os).1.1.0 c.has-keeps.ensures
 
 pub returns-in-None-clause-style : goal.returns-in-None-clause-style
-returns-in-None-clause-style c = (c.without_operand.ensures c.args.os).1.1.0
+returns-in-None-clause-style c = (c.without_operand.ensures c.args.os).1.1.1.0
 
 pub returns-in-Some-surplus_in-2-clause-misuse : goal.returns-in-Some-surplus_in-2-clause-misuse
 returns-in-Some-surplus_in-2-clause-misuse c =

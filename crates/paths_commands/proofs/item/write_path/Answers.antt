@@ -1,7 +1,10 @@
-use Rattle.std.proofs.Common.{rules, ◌≡◌, length}
+use Rattle.std.proofs.Common.{rules, ◌≡◌, inr, [], length, refl, sym, append-nil}
 use Rattle.platform_str.specs.Strings.{path_bytes}
 use Rattle.paths_commands.proofs.lemmas.Ended.{cut_on, ended_on, taken_on}
 use Rattle.paths_commands.proofs.item.write_path.Goals as goal
+
+pub returns-then-is_left_out-clause-ok : goal.returns-then-is_left_out-clause-ok
+returns-then-is_left_out-clause-ok g c = ([], (inr (inr (c.is_left_out.ensures.yes c.if-is_left_out.true, refl)), sym (append-nil c.args.output.now.items)))
 
 pub returns-in_default : goal.returns-in_default
 returns-in_default g c =

@@ -1,4 +1,4 @@
-use Rattle.std.proofs.Common.{◌≡◌, ℕ, List, ◌++◌, Result, OnOk, ⊎_elim, inl, inr, refl, sym, subst}
+use Rattle.std.proofs.Common.{rules, ◌≡◌, ℕ, List, ◌++◌, Result, OnOk, ⊎_elim, inl, inr, refl, sym, subst}
 use Rattle.std.proofs.lemmas.Result.{on_ok_weaker, IfErr-weaker}
 use Rattle.os_str_bytes.specs.Platform.{Ghosts}
 use Rattle.path_rules.specs.Parent.{HasFileName, HasNoFileName}
@@ -88,6 +88,16 @@ returns-in-Extension g c =
       unchanged = call.ensures.unchanged;
     }
 
+pub returns-in-WithExtension : goal.returns-in-WithExtension
+returns-in-WithExtension g c =
+    let path = path_bytes c.args.path in
+    let S = g.E.PathStyle.follows in
+    let call = c.write_extended in record {
+      ok = made g.E.Platform S c.args.task _ path c.in-WithExtension.is call.result _ _ call.ensures.ok;
+      fault = IfErr-weaker call.result _ _ (λ fault memory. inl memory) call.ensures.fault;
+      unchanged = call.ensures.unchanged;
+    }
+
 pub returns-in-Normalize : goal.returns-in-Normalize
 returns-in-Normalize g c =
     let path = path_bytes c.args.path in
@@ -106,6 +116,20 @@ returns-in-Clean g c =
     let S = g.E.PathStyle.follows in
     let call = c.write_clean in record {
       ok = made g.E.Platform S c.args.task _ path c.in-Clean.is call.result _ _ call.ensures.ok;
+      fault = IfErr-weaker call.result _ _ (λ fault memory. inl memory) call.ensures.fault;
+      unchanged = call.ensures.unchanged;
+    }
+
+pub returns-in-StartsWith : goal.returns-in-StartsWith
+returns-in-StartsWith g c =
+    let path = path_bytes c.args.path in
+    let S = g.E.PathStyle.follows in
+    let call = c.write_answer-in-StartsWith in
+    let answer = c.as_encoded_bytes.result.now in
+    let same : answer ≡ path = search rules in record {
+      ok = part g.E.Platform S c.args.task _ path c.in-StartsWith.is call.result _ _ answer
+          (c.requires _ c.in-StartsWith.is, same)
+          call.ensures.ok;
       fault = IfErr-weaker call.result _ _ (λ fault memory. inl memory) call.ensures.fault;
       unchanged = call.ensures.unchanged;
     }
@@ -129,7 +153,7 @@ returns-in-JoinChecked g c =
       fault = IfErr-weaker call.result _ _
           (λ fault. ⊎_elim (λ memory. inl memory)
           (λ none.
-          let is = unjoined_unanswered g.E.Platform S c.args.task _ path none.0 c.in-JoinChecked.is none.1.1 in
+          let is = unjoined_unanswered g.E.Platform S c.args.task _ _ path none.0 c.in-JoinChecked.is none.1.1 in
           inr (none.0, (none.1.0, is))))
           call.ensures.fault;
       unchanged = call.ensures.unchanged;
