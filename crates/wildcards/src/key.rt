@@ -122,12 +122,16 @@ fn literal_prefix<A: Allocator>(pieces: &[Piece<Item<A>>]) -> usize
     count
 }
 
-/// How many letters of a component a part states: all, or at most the first four.
+/// How many letters of a component a part states: all, or two to four of the first; else none.
 fn letter_count<A: Allocator>(part: &Part<A>) -> usize {
-    match part.text() {
-        Some(text) => text.len(),
-        None => literal_prefix(part.pieces()),
+    if let Some(text) = part.text() {
+        return text.len();
     }
+    let count = literal_prefix(part.pieces());
+    if count < 2 {
+        return 0;
+    }
+    count
 }
 
 /// The index of the part that states the most letters; that of the last one, of several.
