@@ -7,7 +7,7 @@ ghost use Rattle.wildcards.specs.declared.piece.Piece.TheVariants.{One};
 ghost use Rattle.wildcards.specs.declared.separators.Separators.TheVariants.{None};
 
 use crate::component::is_plain;
-use crate::literal::literal_text;
+use crate::literal::{is_literal, literal_text};
 use crate::options::Options;
 use crate::part::Part;
 use crate::piece::{Item, Piece};
@@ -98,14 +98,6 @@ fn joined_texts<A: Allocator + Copy>(
         left = rest;
     }
     Ok(Some(text))
-}
-
-/// Whether a piece is a literal of ASCII.
-fn is_literal<A: Allocator>(piece: &Piece<Item<A>>) -> bool {
-    match piece {
-        Piece::One(Item::Literal(letter)) => *letter < 0x80,
-        _ => false,
-    }
 }
 
 /// How many literals of ASCII pieces begin with, of at most four.

@@ -8,7 +8,7 @@ use crate::piece::{Item, Piece};
 use std::alloc::{AllocError, Allocator};
 
 /// Whether a piece is a literal of ASCII.
-fn is_ascii<A: Allocator>(piece: &Piece<Item<A>>) -> bool
+pub(crate) fn is_literal<A: Allocator>(piece: &Piece<Item<A>>) -> bool
     ensures { IsTrue result ↔ ((letter : ℕ) × ((piece.now ≡ One (Literal letter))
         × letter < 0x80)) }
 {
@@ -25,7 +25,7 @@ pub(crate) fn literal_text<A: Allocator + Copy>(
 ) -> Result<Option<Vec<u8, A>>, AllocError>
     ensures { IfOk result (λ text. spells_some pieces.entry.now text ≡ true) }
 {
-    if !pieces.iter().all(|piece| is_ascii(piece)) {
+    if !pieces.iter().all(|piece| is_literal(piece)) {
         return Ok(None);
     }
     let mut text = Vec::with_capacity(alloc, pieces.len())?;
