@@ -1,6 +1,6 @@
-use Rattle.std.proofs.Common.{◌≡◌, ◌≢◌, [], ⊎_elim, inl, inr, map, string_bytes, refl, ap, subst, Err}
+use Rattle.std.proofs.Common.{◌≡◌, ◌≢◌, [], ⊎_elim, inl, inr, map, string_bytes, refl, sym, ap, subst, Err}
 use Rattle.std.specs.Prelude.{MatchOption}
-use Rattle.os_ignore.specs.Ignores.{files_of}
+use Rattle.os_ignore.specs.Walks.{files_of_walk}
 use Rattle.program_frame.specs.Marked.{marked_inner}
 use Rattle.names_commands.specs.Command.{requested_of, options_of}
 use Rattle.names_commands.specs.Ignoring.{AreRead, text_of}
@@ -49,8 +49,8 @@ returns-clause-run g c =
     let held = subst (λ strings. MatchOption globs (strings ≡ []) (λ held. (strings ≢ []) × (held.now ≡ set))) c.as_slice-patterns.ensures.value c.set_of.ensures in
     let choose = chosen P o texts set made.0 made.1 globs (where_texts string_bytes (λ held. held.now ≡ set) c.args.request.now.patterns.items globs held) in
     let known = g.F.Files.known c.args.files.now in
-    let files = files_of c.in-Ok-read_ignore.ignore in
-    let read = subst (λ items. AreRead known requested.case_insensitive (map text_of items) files) c.as_slice.ensures.value c.in-Ok-read_ignore.ensures in
+    let files = files_of_walk c.new-walk.result in
+    let read = subst (λ items. AreRead known requested.case_insensitive (map text_of items) files) c.as_slice.ensures.value (subst (AreRead known requested.case_insensitive (map text_of c.as_slice.result.now)) (sym c.new-walk.ensures) c.in-Ok-read_ignore.ensures) in
     let input = g.R.Read.remaining (marked_inner c.args.reader.now) in
     let left = g.R.Read.remaining (marked_inner c.run_list.new.reader) in
     let old = g.W.Write.contents (marked_inner c.args.writer.now) in
