@@ -48,21 +48,21 @@ impl<'s, 'a> Command<'s, 'a> {
     /// come after `--`. It doesn't allocate.
     ///
     /// `--help` and `--version` are commands wherever they stand. Otherwise the operands are a
-    /// command, a platform and, for `with-extension`, `starts-with`, `join`, `relative`, `absolute` and
-    /// `convert`, one more. The platform may be left out, and is Unix then. The operands after these
-    /// are paths, and come after `--`. If all that come after the command's name follow `--`, and the
-    /// name doesn't, then none of them is a platform.
+    /// command, a platform and, for `with-extension`, `starts-with`, `join`, `relative`, `absolute`
+    /// and `convert`, one more. The platform may be left out, and is Unix then. The operands after
+    /// these are paths, and come after `--`. If all that come after the command's name follow `--`,
+    /// and the name doesn't, then none of them is a platform.
     ///
-    /// Options stand anywhere before `--`: `--keep-going`, `--lines`, `--unterminated`, and for `join`
-    /// `--checked`, with which it takes `--keep-separator`. Without `--lines` a NUL ends each path, and
-    /// without `--unterminated` the last path has its end, too.
+    /// Options stand anywhere before `--`: `--keep-going`, `--lines`, `--unterminated`, and for
+    /// `join` `--checked`, with which it takes `--keep-separator`. Without `--lines` a NUL ends each
+    /// path, and without `--unterminated` the last path has its end, too.
     ///
     /// # Errors
     ///
     /// What is wrong: something is missing, an argument is invalid, an option isn't for the
     /// command, or an operand is one too many. With `--checked` BASE is invalid if it is no
-    /// [`Base`]. DIR of `absolute` is invalid if it isn't absolute ([`path_rules::is_absolute`]), and
-    /// EXT of `with-extension` if it has a separator ([`Extension`]).
+    /// [`Base`]. DIR of `absolute` is invalid if it isn't absolute ([`path_rules::is_absolute`]),
+    /// and EXT of `with-extension` if it has a separator ([`Extension`]).
     ///
     /// ```
     /// use paths_commands::command::Command;

@@ -305,7 +305,7 @@ pub fn with_extension<E: PathStyle, A: Allocator, W: Write>(
     answered::<E, A, W>(alloc, ItemEnd::Nul, task, path, writer)
 }
 
-/// An extension that options and operands state: no byte of it separates. It comes after the platform.
+/// An extension that options and operands state, with the platform: no byte of it separates there.
 pub fn stated_extension<'a>(given: Line<'_, 'a>) -> Option<(Extension<'a>, Os)>
     ensures style { IfSome result (λ found. found.0.style ≡ style_of found.1) }
     ensures text { IfSome result (λ found.
