@@ -37,6 +37,8 @@ pub enum NamesOption {
     Invert,
     /// `-i`, `--ignore-case`: patterns and ignore files match without regard to case.
     IgnoreCase,
+    /// `--exclude GLOB`: leaves out the names that a pattern matches, with `--invert` too.
+    Exclude,
 }
 
 impl NamesOption {
@@ -64,6 +66,7 @@ impl NamesOption {
             NamesOption::Ignore => "--ignore",
             NamesOption::Invert => "--invert",
             NamesOption::IgnoreCase => "--ignore-case",
+            NamesOption::Exclude => "--exclude",
         }
     }
 }
@@ -85,7 +88,11 @@ impl ProgramOption for NamesOption {
 
     fn takes_value(self) -> bool {
         match self {
-            NamesOption::Max | NamesOption::Glob | NamesOption::Name | NamesOption::Ignore => true,
+            NamesOption::Max
+            | NamesOption::Glob
+            | NamesOption::Name
+            | NamesOption::Ignore
+            | NamesOption::Exclude => true,
             NamesOption::Help
             | NamesOption::Version
             | NamesOption::Sh
@@ -122,6 +129,7 @@ fn long_option(name: &str) -> Option<NamesOption>
         "ignore" => Some(NamesOption::Ignore),
         "invert" => Some(NamesOption::Invert),
         "ignore-case" => Some(NamesOption::IgnoreCase),
+        "exclude" => Some(NamesOption::Exclude),
         _ => None,
     }
 }

@@ -7,11 +7,11 @@ _names() {
     [ "${COMP_WORDS[at]}" != = ] || at=$((at - 1))
     case ${COMP_WORDS[at]} in
         --ignore) compopt -o default 2>/dev/null; return ;;
-        --glob|--name|--max) return ;;
+        --glob|--name|--exclude|--max) return ;;
     esac
     for ((i = 1; i < COMP_CWORD; i++)); do
         case ${COMP_WORDS[i]} in
-            --glob|--name|--ignore|--max)
+            --glob|--name|--exclude|--ignore|--max)
                 [ "${COMP_WORDS[i + 1]}" != = ] || ((i++))
                 ((i++))
                 ;;
@@ -26,8 +26,8 @@ _names() {
     case $word in
         -*)
             case $command in
-                list) words='--glob --name --ignore -v --invert -i --ignore-case --sh --sh-line --lines --unterminated --max' ;;
-                filter) words='--glob --name --ignore -v --invert -i --ignore-case --lines --unterminated --max' ;;
+                list) words='--glob --name --exclude --ignore -v --invert -i --ignore-case --sh --sh-line --lines --unterminated --max' ;;
+                filter) words='--glob --name --exclude --ignore -v --invert -i --ignore-case --lines --unterminated --max' ;;
                 why) words='--ignore -i --ignore-case --lines --unterminated --max' ;;
                 join) words='--sh --sh-line --lines --unterminated --empty --max' ;;
                 check) words='--lines --unterminated --max' ;;
