@@ -29,9 +29,13 @@ use Rattle.names_commands.specs.Task.{IsLine}
 use Rattle.names_commands.specs.Words.{IsWordLine}
 
 -- the name is one of these, and no line of the ignore files ignores it; or, inverted, it isn't so
-abbrev pub IsPicked : {A : Type 0} → Bool → (List ℕ → Type 0) → List (File A) → List ℕ → Type 0
-IsPicked false Chosen files name = Chosen name × (¬ (IsIgnored files name))
-IsPicked true Chosen files name = ¬ (Chosen name × (¬ (IsIgnored files name)))
+abbrev pub IsSelected : {A : Type 0} → Bool → (List ℕ → Type 0) → List (File A) → List ℕ → Type 0
+IsSelected false Chosen files name = Chosen name × (¬ (IsIgnored files name))
+IsSelected true Chosen files name = ¬ (Chosen name × (¬ (IsIgnored files name)))
+
+-- it is so, and the name is none of those that are left out in any case
+abbrev pub IsPicked : {A : Type 0} → Bool → (List ℕ → Type 0) → (List ℕ → Type 0) → List (File A) → List ℕ → Type 0
+IsPicked inverted Chosen Excluded files name = IsSelected inverted Chosen files name × (¬ (Excluded name))
 
 -- on a platform that states this of its strings:
 module _ {E : Type 0} (p : Ghosts E) where
@@ -100,13 +104,13 @@ module _ {E : Type 0} (p : Ghosts E) where
   IsChosenBy None name = Unit {0}
   IsChosenBy (Some set) name = IsMatchedBy set.now name
 
-  -- the name is picked by a set, if there is one, and by ignore files
-  abbrev pub IsPickedBy : {A : Type 0} → Bool → Option (Bor (GlobSet E A)) → List (File A) → List ℕ → Type 0
-  IsPickedBy inverted globs files = IsPicked inverted (IsChosenBy globs) files
+  -- the name is picked by a set, if there is one, and by ignore files, and another set doesn't leave it out
+  abbrev pub IsPickedBy : {A : Type 0} → Bool → Option (Bor (GlobSet E A)) → GlobSet E A → List (File A) → List ℕ → Type 0
+  IsPickedBy inverted globs excluded files = IsPicked inverted (IsChosenBy globs) (IsMatchedBy excluded) files
 
   -- what is written then, and what is done with each name
-  abbrev pub IsTextOfMatched : {A : Type 0} → Form → ItemEnd → Bool → Option (Bor (GlobSet E A)) → List (File A) → List ℕ → List ℕ → Type 0
-  IsTextOfMatched form end inverted globs files = IsTextOfPicked form end (IsPickedBy inverted globs files)
+  abbrev pub IsTextOfMatched : {A : Type 0} → Form → ItemEnd → Bool → Option (Bor (GlobSet E A)) → GlobSet E A → List (File A) → List ℕ → List ℕ → Type 0
+  IsTextOfMatched form end inverted globs excluded files = IsTextOfPicked form end (IsPickedBy inverted globs excluded files)
 
-  abbrev pub matching : {A : Type 0} → Form → ListOptions → Bool → Option (Bor (GlobSet E A)) → List (File A) → ListRules Rejection
-  matching form list inverted globs files = picking form list (IsPickedBy inverted globs files)
+  abbrev pub matching : {A : Type 0} → Form → ListOptions → Bool → Option (Bor (GlobSet E A)) → GlobSet E A → List (File A) → ListRules Rejection
+  matching form list inverted globs excluded files = picking form list (IsPickedBy inverted globs excluded files)

@@ -2,7 +2,7 @@
 use Rattle.std.specs.Prelude.{◌≡◌, ℕ, Bool, true, false, List, codes}
 use Rattle.os_args.specs.Word.{Kind, Long, LongBytes, Short, ShortBytes, Value}
 use Rattle.names_commands.specs.declared.option.NamesOption.{NamesOption}
-use Rattle.names_commands.specs.declared.option.NamesOption.TheVariants.{Help, Version, Max, Sh, ShLine, Lines, Unterminated, Empty, Glob, Name, Ignore, Invert, IgnoreCase}
+use Rattle.names_commands.specs.declared.option.NamesOption.TheVariants.{Help, Version, Max, Sh, ShLine, Lines, Unterminated, Empty, Glob, Name, Ignore, Invert, IgnoreCase, Exclude}
 
 -- the name of the option after `--`
 abbrev pub name_of : NamesOption → List ℕ
@@ -19,6 +19,7 @@ name_of Name = codes "name"
 name_of Ignore = codes "ignore"
 name_of Invert = codes "invert"
 name_of IgnoreCase = codes "ignore-case"
+name_of Exclude = codes "exclude"
 
 -- the option as it is written
 abbrev pub word_of : NamesOption → List ℕ
@@ -35,6 +36,7 @@ word_of Name = codes "--name"
 word_of Ignore = codes "--ignore"
 word_of Invert = codes "--invert"
 word_of IgnoreCase = codes "--ignore-case"
+word_of Exclude = codes "--exclude"
 
 -- this character after `-` is the option, too: h, V, v and i
 abbrev pub IsFlagOf : NamesOption → ℕ → Type 0
@@ -51,6 +53,7 @@ IsFlagOf Name c = ⊥
 IsFlagOf Ignore c = ⊥
 IsFlagOf Invert c = c ≡ 0x76
 IsFlagOf IgnoreCase c = c ≡ 0x69
+IsFlagOf Exclude c = ⊥
 
 -- the argument is the option
 abbrev pub spelled : NamesOption → Kind → Type 0
@@ -75,3 +78,4 @@ has_value Name = true
 has_value Ignore = true
 has_value Invert = false
 has_value IgnoreCase = false
+has_value Exclude = true

@@ -1,5 +1,6 @@
 -- The whole program, from the words after its name to its exit status.
 use Rattle.std.specs.Prelude.{◌≡◌, ◌⊎◌, ◌+◌, ℕ, Bool, List, drop, Option, None, Some, IfSome, Result, Ok, Err, ⊤, length, take, codes}
+use Rattle.std.specs.List.{AllByRecursion}
 use Rattle.std.specs.Io.KnownBytes.{Appends, IsAtEnd}
 use Rattle.std.specs.Fmt.InlineText.{inline_text}
 use Rattle.os_str_bytes.specs.Platform.{Ghosts}
@@ -40,7 +41,7 @@ use Rattle.names_commands.specs.declared.fault.CommandFault.TheVariants.{Unreada
 use Rattle.names_commands.specs.declared.matching.Form.{Form}
 use Rattle.names_commands.specs.Caret.{IsPointed}
 use Rattle.names_commands.specs.Ignoring.{AreRead, IsFileIn, IsFirstUnread}
-use Rattle.names_commands.specs.Matching.{picking, AreWrittenOut, IsChosen, IsFirstFault, IsPicked}
+use Rattle.names_commands.specs.Matching.{picking, AreWrittenOut, IsChosen, IsFirstFault, IsMatched, IsPattern, IsPicked}
 use Rattle.names_commands.specs.Pick.{added_before, typed_fault}
 use Rattle.names_commands.specs.Why.{deciding}
 use Rattle.names_commands.specs.Command.{Requested, IsRequestFor, IsRejected, Line, options_of}
@@ -88,9 +89,15 @@ IsFaultOfOne known number value fault = (fault ≡ OfList (Run Memory)) ⊎ (((f
 abbrev pub IsOfPattern : ℕ → ℕ → List ℕ → PatternFault → Fault → Type 0
 IsOfPattern added number text fault why = (lines : _) × IsPointed (drop added text) (typed_fault added fault).index (inline_text lines) × (why ≡ Words (Pattern number (typed_fault added fault) lines))
 
--- why patterns are rejected, the first `plain` of which come before those of `--name`: the fault of the first that has one
-abbrev pub IsOfPatterns : {E : Type 0} → Ghosts E → GlobOptions → ℕ → List (List ℕ) → Fault → Type 0
-IsOfPatterns p o plain texts why = (index : ℕ) × (fault : PatternFault) × (first : IsFirstFault p o texts index fault) × IsOfPattern (added_before plain index) (index + 1) first.text fault why
+-- why patterns are rejected, before which others are counted, and the first `plain` of which come before those of `--name`: the fault of the first that has one
+abbrev pub IsOfPatterns : {E : Type 0} → Ghosts E → GlobOptions → ℕ → ℕ → List (List ℕ) → Fault → Type 0
+IsOfPatterns p o before plain texts why = (index : ℕ) × (fault : PatternFault) × (first : IsFirstFault p o texts index fault) × IsOfPattern (added_before plain index) (before + index + 1) first.text fault why
+
+-- why the patterns of a request are rejected: the first that has a fault, of those that pick names and then of those that leave them out
+abbrev pub IsOfGlobs : {E : Type 0} → Ghosts E → GlobOptions → Requested → Fault → Type 0
+IsOfGlobs p o requested why =
+    IsOfPatterns p o 0 requested.plain requested.globs why
+    ⊎ (AllByRecursion (IsPattern p o) requested.globs × IsOfPatterns p o (length requested.globs) (length requested.excluded) requested.excluded why)
 
 -- the result where this is the first entry of an archive that is rejected, if one is
 abbrev pub tar_outcome : Option (ListFault Rejection) → Result ⊤ Fault
@@ -123,11 +130,11 @@ module _ (known : KnownFiles) (A : Type 0) where
   abbrev pub IsFaultOf : Bool → List (List ℕ) → Fault → Type 0
   IsFaultOf folds values fault = (fault ≡ OfList (Run Memory)) ⊎ ((why : CommandFault) × IsFileFault folds values why × (fault ≡ Words why))
 
-  -- the run ends with the first ignore file that can't be read. Or it writes these names, but for those that the files ignore, or, inverted, the others, on a platform that states this of its strings, from a list that is written so
-  abbrev pub RunsBut : {E : Type 0} → Ghosts E → Form → ListOptions → Bool → Bool → (List ℕ → Type 0) → List (List ℕ) → Doing
-  RunsBut p shape list inverted folds Chosen values input left old new answer =
+  -- the run ends with the first ignore file that can't be read. Or it writes these names, but for those that the files ignore, or, inverted, the others, without those that are left out in any case, on a platform that states this of its strings, from a list that is written so
+  abbrev pub RunsBut : {E : Type 0} → Ghosts E → Form → ListOptions → Bool → Bool → (List ℕ → Type 0) → (List ℕ → Type 0) → List (List ℕ) → Doing
+  RunsBut p shape list inverted folds Chosen Excluded values input left old new answer =
       ((why : CommandFault) × IsFileFault folds values why × EndsAtOnce (Words why) input left old new answer)
-      ⊎ ((files : List (File A)) × AreRead known folds values files × Runs (picking p shape list (IsPicked inverted Chosen files)) OfList input left old new answer)
+      ⊎ ((files : List (File A)) × AreRead known folds values files × Runs (picking p shape list (IsPicked inverted Chosen Excluded files)) OfList input left old new answer)
 
   -- where this is requested, on a platform that states this of its strings:
   module _ {E : Type 0} (p : Ghosts E) (requested : Requested) where
@@ -137,11 +144,11 @@ module _ (known : KnownFiles) (A : Type 0) where
         ((why : CommandFault) × IsFileFault requested.case_insensitive requested.files why × EndsAtOnce (Words why) input left old new answer)
         ⊎ ((files : List (File A)) × AreRead known requested.case_insensitive requested.files files × Runs (deciding p requested.list requested.files files) OfList input left old new answer)
 
-    -- the run ends with the first of the patterns that has a fault. Or it writes in this form the names that one of them matches, or all where there are none, but for those that the files ignore; or, inverted, the others
+    -- the run ends with the first of the patterns that has a fault. Or it writes in this form the names that one of them matches, or all where there are none, but for those that the files ignore; or, inverted, the others. It never writes those that a pattern of names to leave out matches
     abbrev pub RunsPicked : Os → Form → Doing
     RunsPicked os shape input left old new answer =
-        ((index : ℕ) × (fault : PatternFault) × (first : IsFirstFault p (options_of os requested.case_insensitive) requested.globs index fault) × (why : Fault) × IsOfPattern (added_before requested.plain index) (index + 1) first.text fault why × EndsAtOnce why input left old new answer)
-        ⊎ ((written : List (List (List Mark))) × AreWrittenOut p (options_of os requested.case_insensitive) requested.globs written × RunsBut p shape requested.list requested.inverted requested.case_insensitive (IsChosen p (options_of os requested.case_insensitive) written) requested.files input left old new answer)
+        ((why : Fault) × IsOfGlobs p (options_of os requested.case_insensitive) requested why × EndsAtOnce why input left old new answer)
+        ⊎ ((written : List (List (List Mark))) × (excluded : List (List (List Mark))) × AreWrittenOut p (options_of os requested.case_insensitive) requested.globs written × (AreWrittenOut p (options_of os requested.case_insensitive) requested.excluded excluded × RunsBut p shape requested.list requested.inverted requested.case_insensitive (IsChosen p (options_of os requested.case_insensitive) written) (IsMatched p (options_of os requested.case_insensitive) excluded) requested.files input left old new answer))
 
     -- what is done with a list
     abbrev pub DoesWork : Os → Work → Doing

@@ -9,7 +9,7 @@ use crate::fitting::{fits, ignores, no_operand, words};
 use crate::given::{LONGEST_NAME, empty_line, form_of, listed, picks, platform_of};
 use crate::matching::Form;
 use crate::option::NamesOption;
-use crate::pick::patterns_of;
+use crate::pick::{excluded_of, patterns_of};
 use crate::task::{EmptyLine, Task};
 use list_programs::arguments::{Given, has, next_operand, values};
 use list_programs::misuse::Misuse;
@@ -40,6 +40,8 @@ pub struct Request<'a, A: Allocator = Global> {
     pub inverted: bool,
     /// Whether patterns and ignore files match without regard to case.
     pub case_insensitive: bool,
+    /// The patterns of `--exclude`. A name that one of them matches is left out in any case.
+    pub excluded: Vec<String<A>, A>,
 }
 
 /// Why options and operands make up no request.
@@ -117,6 +119,7 @@ impl<'a, A: Allocator + Copy> Request<'a, A> {
         let files = values(alloc, given, NamesOption::Ignore)?;
         let inverted = has(given, NamesOption::Invert);
         let case_insensitive = has(given, NamesOption::IgnoreCase);
+        let excluded = excluded_of(alloc, given)?;
         Ok(Request {
             command,
             list,
@@ -125,6 +128,7 @@ impl<'a, A: Allocator + Copy> Request<'a, A> {
             files,
             inverted,
             case_insensitive,
+            excluded,
         })
     }
 
@@ -140,6 +144,7 @@ impl<'a, A: Allocator + Copy> Request<'a, A> {
             files: Vec::new(alloc),
             inverted: false,
             case_insensitive: false,
+            excluded: Vec::new(alloc),
         }
     }
 }
@@ -210,6 +215,7 @@ impl Name {
             NamesOption::Ignore => matches!(self, Name::List | Name::Filter | Name::Why),
             NamesOption::Invert => matches!(self, Name::List | Name::Filter),
             NamesOption::IgnoreCase => matches!(self, Name::List | Name::Filter | Name::Why),
+            NamesOption::Exclude => matches!(self, Name::List | Name::Filter),
         }
     }
 }
@@ -311,7 +317,7 @@ impl Command {
         if picked {
             Ok(Command::On(os, Work::Picked(Form::Name)))
         } else {
-            Err(Misuse::Missing("GLOB, --glob, --name or --ignore"))
+            Err(Misuse::Missing("GLOB, --glob, --name, --ignore or --exclude"))
         }
     }
 

@@ -98,7 +98,7 @@ fn options_pick<'a>(
         return Ok(true);
     }
     if has(given, NamesOption::Invert) {
-        return Err(Misuse::Missing("GLOB, --glob, --name or --ignore"));
+        return Err(Misuse::Missing("GLOB, --glob, --name, --ignore or --exclude"));
     }
     Ok(false)
 }
@@ -110,6 +110,7 @@ fn an_option_picks(given: Line<'_, '_>) -> bool
     has(given, NamesOption::Glob)
         || has(given, NamesOption::Ignore)
         || has(given, NamesOption::Name)
+        || has(given, NamesOption::Exclude)
 }
 
 /// How words of a shell are written, and the option for it.

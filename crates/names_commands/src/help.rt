@@ -24,10 +24,11 @@ Options may stand anywhere; -- ends them.
 
   --glob GLOB      list, filter: pick the names that GLOB matches, beside those of other GLOBs
   --name GLOB      list, filter: pick by the last component, in any folder: --glob '**/GLOB'
+  --exclude GLOB   list, filter: leave out the names that GLOB matches, with -v too: '**/*.o' in any folder
   --ignore FILE    list, filter: leave out what the .gitignore file FILE ignores (unix, wasm)
                    with DIR=FILE, as that of the folder DIR does
                    why: the names that a line of it decides, after that line
-  -v, --invert     list, filter: pick the others
+  -v, --invert     list, filter: pick the others, which --glob, --name and --ignore leave out
   -i, --ignore-case
                    list, filter, why: GLOB and FILE match without regard to case
   --sh             list, join: words that every POSIX shell reads as the names (unix)

@@ -4,7 +4,7 @@ ghost use Rattle.os_ignore.specs.Walks.{files_of_walk};
 ghost use Rattle.os_ignore.specs.declared.file.File.{File};
 ghost use Rattle.os_str_bytes.specs.Strings.{bytes};
 ghost use Rattle.names_commands.specs.Names.{IsNoName};
-ghost use Rattle.names_commands.specs.Matching.{IsChosenBy, IsPickedBy, IsTextOfMatched, matching};
+ghost use Rattle.names_commands.specs.Matching.{IsChosenBy, IsPickedBy, IsSelected, IsTextOfMatched, matching};
 ghost use Rattle.names_commands.specs.declared.matching.Matching.{Matching as MatchingOf};
 
 use crate::fault::Rejection;
@@ -39,6 +39,8 @@ pub struct Matching<'g, E: Platform, A: Allocator = Global> {
     pub globs: Option<&'g GlobSet<E, A>>,
     /// Whether the other names are picked.
     pub inverted: bool,
+    /// Those that a pattern of this set matches aren't picked in any case.
+    pub excluded: &'g GlobSet<E, A>,
     /// How each name is written.
     pub form: Form,
     /// How the list is written.
@@ -63,38 +65,46 @@ impl<'g, E: Platform, A: Allocator + Copy> Matching<'g, E, A> {
     /// [`AllocError`] if the allocation for the name or for the directories above it fails.
     ///
     /// ```
+    /// use glob_patterns::{GlobOptions, GlobSet, Separators};
     /// use names_commands::matching::{Form, Matching};
     /// use os_ignore::Walk;
     /// use os_str_bytes::{OsStr, Unix};
     /// use list_programs::options::ListOptions;
     ///
     /// let ignore = Ignore::new(alloc, b"*.o\nout/\n")?;
+    /// let options = GlobOptions::new(Separators::Slash);
+    /// let excluded = GlobSet::new(alloc, options, &[OsStr::<Unix>::new("**/*.bak")])?;
     /// let names = Matching {
     ///     globs: None,
     ///     inverted: false,
+    ///     excluded: &excluded,
     ///     form: Form::Name,
     ///     list: ListOptions::new(255),
     /// };
     /// let mut walk = Walk::new(alloc, &ignore);
-    /// assert!(rt; names.picks(&mut walk, OsStr::<Unix>::new("./a.c"))?);
+    /// assert!(rt; names.picks(&mut walk, OsStr::new("./a.c"))?);
     /// assert!(rt; !names.picks(&mut walk, OsStr::new("./a.o"))?);
+    /// assert!(rt; !names.picks(&mut walk, OsStr::new("./a.bak"))?);
     /// assert!(rt; names.picks(&mut walk, OsStr::new("out"))?);
     /// assert!(rt; !names.picks(&mut walk, OsStr::new("out/"))?);
     /// ```
     pub fn picks(&self, walk: &mut Walk<'_, A>, name: OsStr<'_, E>) -> Result<bool, AllocError>
         ensures picks { IfOk result (λ picks. IsTrue picks
             ↔ IsPickedBy ⟦<E as Platform>⟧ self.now.inverted self.now.globs
-            (files_of_walk walk.old) (bytes name.entry)) }
+            self.now.excluded.now (files_of_walk walk.old) (bytes name.entry)) }
         ensures files { files_of_walk walk.new ≡ files_of_walk walk.old }
     {
+        if self.excluded.is_match(name) {
+            return Ok(false);
+        }
         let matches = self.matches(walk, name)?;
         Ok(turned(self.inverted, matches))
     }
 
-    /// Whether the name is picked where the others aren't.
+    /// Whether the name is picked where the others aren't, and none is left out in any case.
     fn matches(&self, walk: &mut Walk<'_, A>, name: OsStr<'_, E>) -> Result<bool, AllocError>
         ensures matches { IfOk result (λ matches. IsTrue matches
-            ↔ IsPickedBy ⟦<E as Platform>⟧ false self.now.globs
+            ↔ IsSelected false (IsChosenBy ⟦<E as Platform>⟧ self.now.globs)
             (files_of_walk walk.old) (bytes name.entry)) }
         ensures files { files_of_walk walk.new ≡ files_of_walk walk.old }
     {
@@ -130,7 +140,8 @@ impl<'g, E: Platform, B: Allocator + Copy> ListTask for Picker<'g, E, B> {
 
     ghost plan = { λ p. (p.names, files_of_walk p.walk) };
 
-    ghost rules = { λ p. matching ⟦<E as Platform>⟧ p.0.form p.0.list p.0.inverted p.0.globs p.1 };
+    ghost rules = { λ p. matching ⟦<E as Platform>⟧ p.0.form p.0.list p.0.inverted p.0.globs
+        p.0.excluded.now p.1 };
 
     fn end(&self) -> ItemEnd {
         self.names.list.end
@@ -168,7 +179,7 @@ fn write_matching<E: Platform, A: Allocator, B: Allocator + Copy>(
 ) -> Result<(), ItemFault<Rejection>>
     ensures ok { OnOk result ((text : List ℕ)
         × (IsTextOfMatched ⟦<E as Platform>⟧ names.now.form names.now.list.end names.now.inverted
-        names.now.globs (files_of_walk walk.old)
+        names.now.globs names.now.excluded.now (files_of_walk walk.old)
         item.now text × (output.new.items ≡ output.old.items ++ text))) }
     ensures fault { IfErr result (λ fault. IsNoName ⟦<E as Platform>⟧ item.now fault) }
     ensures unchanged { OnErr result (output.new.items ≡ output.old.items) }

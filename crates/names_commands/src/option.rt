@@ -37,6 +37,8 @@ pub enum NamesOption {
     Invert,
     /// `-i`, `--ignore-case`: match without regard to case.
     IgnoreCase,
+    /// `--exclude GLOB`: leave out the names that a pattern matches.
+    Exclude,
 }
 
 impl NamesOption {
@@ -64,6 +66,7 @@ impl NamesOption {
             NamesOption::Ignore => "--ignore",
             NamesOption::Invert => "--invert",
             NamesOption::IgnoreCase => "--ignore-case",
+            NamesOption::Exclude => "--exclude",
         }
     }
 }
@@ -98,6 +101,7 @@ impl ProgramOption for NamesOption {
             NamesOption::Ignore => true,
             NamesOption::Invert => false,
             NamesOption::IgnoreCase => false,
+            NamesOption::Exclude => true,
         }
     }
 
@@ -125,6 +129,7 @@ fn long_option(name: &str) -> Option<NamesOption>
         "ignore" => Some(NamesOption::Ignore),
         "invert" => Some(NamesOption::Invert),
         "ignore-case" => Some(NamesOption::IgnoreCase),
+        "exclude" => Some(NamesOption::Exclude),
         _ => None,
     }
 }

@@ -1,5 +1,5 @@
 //! Runs over names that are picked by patterns and ignore files.
-ghost use Rattle.std.specs.Prelude.{◌≡◌, ◌≢◌, ◌⊎◌, [], map, string_bytes, false, MatchOption, MatchResult};
+ghost use Rattle.std.specs.Prelude.{◌≡◌, ◌≢◌, ◌⊎◌, ◌+◌, ◌<◌, ◌^◌, [], length, map, string_bytes, false, MatchOption, MatchResult};
 ghost use Rattle.program_frame.specs.Marked.{has_failed};
 ghost use Rattle.list_programs.specs.ProgramFault.{BlamesEnds};
 ghost use Rattle.program_frame.specs.declared.fault.Failure.TheVariants.{Memory};
@@ -7,7 +7,7 @@ ghost use Rattle.list_programs.specs.declared.fault.ListFault.TheVariants.{Run};
 ghost use Rattle.list_programs.specs.declared.program_fault.Fault.TheVariants.{List as OfList};
 ghost use Rattle.names_commands.specs.Command.{requested_of};
 ghost use Rattle.names_commands.specs.Matching.{IsSetOf};
-ghost use Rattle.names_commands.specs.Program.{Did, IsOfPattern, IsOfPatterns, RunsPicked, UnlessOutOfMemory};
+ghost use Rattle.names_commands.specs.Program.{Did, IsOfGlobs, IsOfPattern, IsOfPatterns, RunsPicked, UnlessOutOfMemory};
 
 use crate::caret::pointed;
 use crate::command::Request;
@@ -49,8 +49,8 @@ pub(crate) fn run_picked<E: Platform, F: Files, A: Allocator + Copy, R: Read, W:
     let patterns = request.patterns.as_slice();
     let case_insensitive = request.case_insensitive;
     let options = options_of(os, case_insensitive);
-    let set = match compiled::<E, A>(alloc, options, patterns, request.plain) {
-        Ok(set) => set,
+    let (set, excluded) = match sets_of::<E, A>(alloc, options, request) {
+        Ok(sets) => sets,
         Err(fault) => return Err(fault),
     };
     let reading = IgnoreOptions { case_insensitive };
@@ -61,6 +61,7 @@ pub(crate) fn run_picked<E: Platform, F: Files, A: Allocator + Copy, R: Read, W:
     let names = Matching {
         globs: set_of(patterns, &set),
         inverted: request.inverted,
+        excluded: &excluded,
         form,
         list: request.list,
     };
@@ -68,17 +69,46 @@ pub(crate) fn run_picked<E: Platform, F: Files, A: Allocator + Copy, R: Read, W:
     run_list(alloc, &mut Picker { names, walk }, reader, writer)
 }
 
-/// The set of patterns.
+/// The sets of the patterns that pick names, and of those that leave them out.
+fn sets_of<E: Platform, A: Allocator + Copy>(
+    alloc: A,
+    options: GlobOptions,
+    request: &Request<'_, A>,
+) -> Result<(GlobSet<E, A>, GlobSet<E, A>), Fault>
+    ensures { MatchResult result
+        (λ sets. IsSetOf ⟦<E as Platform>⟧ A options (requested_of request.now).globs sets.0
+        × IsSetOf ⟦<E as Platform>⟧ A options (requested_of request.now).excluded sets.1)
+        (λ fault. (fault ≡ OfList (Run Memory))
+        ⊎ IsOfGlobs ⟦<E as Platform>⟧ options (requested_of request.now) fault) }
+{
+    let globs = request.patterns.as_slice();
+    let excluded = request.excluded.as_slice();
+    let set = match compiled::<E, A>(alloc, options, 0, request.plain, globs) {
+        Ok(set) => set,
+        Err(fault) => return Err(fault),
+    };
+    let before = globs.len();
+    let plain = excluded.len();
+    match compiled::<E, A>(alloc, options, before, plain, excluded) {
+        Ok(left_out) => Ok((set, left_out)),
+        Err(fault) => Err(fault),
+    }
+}
+
+/// The set of patterns, before which `before` others are counted, and the first `plain` of which come
+/// before those of `--name`.
 fn compiled<E: Platform, A: Allocator + Copy>(
     alloc: A,
     options: GlobOptions,
-    patterns: &[String<A>],
+    before: usize,
     plain: usize,
+    patterns: &[String<A>],
 ) -> Result<GlobSet<E, A>, Fault>
+    requires { before + length patterns.now < 2 ^ 64 }
     ensures { MatchResult result
         (λ set. IsSetOf ⟦<E as Platform>⟧ A options (map string_bytes patterns.now) set)
-        (λ fault. (fault ≡ OfList (Run Memory))
-        ⊎ IsOfPatterns ⟦<E as Platform>⟧ options plain (map string_bytes patterns.now) fault) }
+        (λ fault. (fault ≡ OfList (Run Memory)) ⊎ IsOfPatterns ⟦<E as Platform>⟧ options before
+        plain (map string_bytes patterns.now) fault) }
 {
     let Ok(strings) = strings_of::<E, A>(alloc, patterns) else {
         return Err(Fault::List(ListFault::Run(Failure::Memory)));
@@ -89,7 +119,7 @@ fn compiled<E: Platform, A: Allocator + Copy>(
         Err(GlobSetError::Pattern(index, fault)) => {
             let pattern = globs[index].as_encoded_bytes();
             let added = added_before(plain, index);
-            Err(rejection(alloc, added, index + 1, pattern, fault))
+            Err(rejection(alloc, added, before + index + 1, pattern, fault))
         }
         Err(GlobSetError::Memory) => Err(Fault::List(ListFault::Run(Failure::Memory))),
     }

@@ -1,9 +1,10 @@
 //! The patterns that pick names.
 ghost use Rattle.std.specs.Prelude.{◌≡◌, ◌++◌, ◌∷◌, [], map, length, drop, string_bytes, IfOk, OnOk};
 ghost use Rattle.os_str_bytes.specs.Strings.{bytes};
-ghost use Rattle.list_programs.specs.Arguments.{operands_of, text_of};
+ghost use Rattle.list_programs.specs.Arguments.{AreValues, operands_of, text_of};
 ghost use Rattle.names_commands.specs.Operands.{IsGlobOperand};
 ghost use Rattle.names_commands.specs.Pick.{ArePatterns, added_before, glob_words, in_any_folder, typed_fault};
+ghost use Rattle.names_commands.specs.declared.option.NamesOption.TheVariants.{Exclude};
 
 use crate::command::Line;
 use crate::given::platform_of;
@@ -31,6 +32,20 @@ pub(crate) fn patterns_of<A: Allocator + Copy>(
     let plain = count_of(&texts);
     push_names(alloc, &of_names, &mut texts)?;
     Ok((texts, plain))
+}
+
+/// The patterns of names that are left out.
+pub(crate) fn excluded_of<A: Allocator + Copy>(
+    alloc: A,
+    given: Line<'_, '_>,
+) -> Result<Vec<String<A>, A>, AllocError>
+    ensures { IfOk result (λ excluded. AreValues Exclude given.now
+        (map string_bytes excluded.items)) }
+{
+    let globs = values(alloc, given, NamesOption::Exclude)?;
+    let mut texts = Vec::new(alloc);
+    push_globs(alloc, &globs, &mut texts)?;
+    Ok(texts)
 }
 
 /// The operand after the command and the platform, which is a pattern.

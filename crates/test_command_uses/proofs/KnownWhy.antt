@@ -41,7 +41,7 @@ use Rattle.os_args.specs.Views.{fault_of}
 use Rattle.list_programs.specs.Arguments.{AreGiven, HasOption}
 use Rattle.test_command_uses.specs.OneFile.{IsExplainedBy, IsReasonOf, explaining, only, usual}
 use Rattle.test_command_uses.proofs.GivenWords.{OneValue, OneWord, are_asking, no_fault_of}
-use Rattle.test_command_uses.proofs.KnownIgnore.{at_top, first, given_of, is_unix, is_usual, later, no_help, no_version, not_stated, not_wasm, not_windows, one_file, only_read, states_one, usual_list}
+use Rattle.test_command_uses.proofs.KnownIgnore.{at_top, first, given_of, has_operands, is_case, is_unix, is_usual, later, no_help, no_version, not_wasm, not_windows, one_file, only_read, states_one, usual_list}
 use Rattle.test_command_uses.proofs.KnownNames.{all_whole, one_ended}
 
 not_list : codes "why" ≡ codes "list" → ⊥
@@ -77,7 +77,7 @@ not_tar e =
 module _ (known : KnownFiles) (A : Type 0) (file : List ℕ) (input left old new : Option (List ℕ)) (answer : Result ⊤ Fault) where
   -- the lines of these files that decide names are written
   abbrev Reasons : ListOptions → Bool → List (List ℕ) → Type 0
-  Reasons list folds files = UnlessOutOfMemory (RunsReasons known A (strings Unix) (record { command = On Unix Why; list = list; plain = 0; globs = []; files = files; inverted = false; case_insensitive = folds })) input left old new answer
+  Reasons list folds files = UnlessOutOfMemory (RunsReasons known A (strings Unix) (record { command = On Unix Why; list = list; plain = 0; globs = []; files = files; inverted = false; case_insensitive = folds; excluded = [] })) input left old new answer
 
   -- the line of the file that decides each name is written
   abbrev pub Explains : Type 0
@@ -85,17 +85,16 @@ module _ (known : KnownFiles) (A : Type 0) (file : List ℕ) (input left old new
 
   module _ (command platform value : Bor (List ℕ)) (is_command : command.now ≡ codes "why") (is_platform : platform.now ≡ codes "unix") (is_file : value.now ≡ file) where
     abbrev given : Line
-    given = given_of command platform value
+    given = given_of false command platform value
 
     decided : (requested : Requested) → requested.list ≡ usual → StatesPicks given requested → DoesWork known A (strings Unix) requested Unix Why input left old new answer → Explains
     decided requested is_usual states runs =
-        let files_are : requested.files ≡ file ∷ [] = one_file command platform value requested.files states.1.0 ∙ ap (λ x. x ∷ []) is_file in
-        let cased = not_stated command platform value option.IgnoreCase (λ e. cc) requested.case_insensitive states.1.1.1 in
+        let files_are : requested.files ≡ file ∷ [] = one_file false command platform value requested.files states.1.0 ∙ ap (λ x. x ∷ []) is_file in
+        let cased = is_case false command platform value requested.case_insensitive states.1.1.1.0 in
         subst (λ m. Reasons m false (file ∷ [])) is_usual (subst (λ folds. Reasons requested.list folds (file ∷ [])) cased (subst (λ files. Reasons requested.list requested.case_insensitive files) files_are runs))
 
-    -- the operands are those of one command
     operands : HasOperands given name.Why Unix []
-    operands = (platform.now ∷ [], (ap (λ x. x ∷ platform.now ∷ []) is_command, inl (ap (λ x. x ∷ []) is_platform)))
+    operands = has_operands false command platform value name.Why is_command is_platform
 
     is_word : (c : DeclaredName) (os : Os) (more : List (List ℕ)) → HasOperands given c os more → codes "why" ≡ name_word c
     is_word c os more has = sym is_command ∙ first has.1.0
@@ -115,7 +114,7 @@ module _ (known : KnownFiles) (A : Type 0) (file : List ℕ) (input left old new
     by_work os (Picked form.Line) requested listed states m does = absurd (not_list (is_word name.List os m.0.0 m.0.1.0))
     by_work os (Picked (form.Word words)) requested listed states m does = absurd (not_list (is_word name.List os m.0.0 m.0.1.0))
     by_work os (Picked form.Name) requested listed states m does = absurd (not_filter (is_word name.Filter os m.0 m.1.0))
-    by_work os Why requested listed states m does = by_platform os requested (is_unix command platform value is_platform os [] (subst (λ after. HasPlatform after os []) (sym (later m.0.1.0)) m.0.1.1)).0 listed states does
+    by_work os Why requested listed states m does = by_platform os requested (is_unix false command platform value is_platform os [] (subst (λ after. HasPlatform after os []) (sym (later m.0.1.0)) m.0.1.1)).0 listed states does
 
     by_command : (command : Command) (requested : Requested) → requested.list ≡ usual → StatesPicks given requested → MakesUp given command → DoesCommand known A requested command input left old new answer → Explains
     by_command (On os work) requested listed states m does = by_work os work requested listed states m does
@@ -123,19 +122,19 @@ module _ (known : KnownFiles) (A : Type 0) (file : List ℕ) (input left old new
     by_command Version requested listed states m does = absurd m
 
     by_request : (requested : Requested) → IsRequestFor given requested → Does known A requested input left old new answer → Explains
-    by_request requested (inl requests) does = absurd (no_help command platform value requests.0)
+    by_request requested (inl requests) does = absurd (no_help false command platform value requests.0)
     by_request requested (inr requests) does = by requests.1
       where
         by : ((HasOption option.Version given × (requested.command ≡ Version)) ⊎ ((¬ (HasOption option.Version given)) × (IsListed given requested.list × (MakesUp given requested.command × StatesPicks given requested)))) → Explains
-        by (inl v) = absurd (no_version command platform value v.0)
-        by (inr c) = by_command requested.command requested (usual_list command platform value requested.list c.1.0) c.1.1.1 c.1.1.0 does
+        by (inl v) = absurd (no_version false command platform value v.0)
+        by (inr c) = by_command requested.command requested (usual_list false command platform value requested.list c.1.0) c.1.1.1 c.1.1.0 does
 
     -- some command has them
     makes_up : MakesUp given (On Unix Why)
     makes_up = (operands, ((tt, (tt, (tt, tt))), (inr (inr (inl refl)), tt)))
 
     some : (requested : Requested) × IsRequestFor given requested
-    some = (record { command = On Unix Why; list = usual; plain = 0; globs = []; files = value.now ∷ []; inverted = false; case_insensitive = false }, inr (no_help command platform value, inr (no_version command platform value, (is_usual command platform value, (makes_up, states_one command platform value is_platform (On Unix Why) usual)))))
+    some = (record { command = On Unix Why; list = usual; plain = 0; globs = []; files = value.now ∷ []; inverted = false; case_insensitive = false; excluded = [] }, inr (no_help false command platform value, inr (no_version false command platform value, (is_usual false command platform value, (makes_up, states_one false command platform value is_platform (On Unix Why) usual)))))
 
     not_rejected : RejectsLine known A given input left old new answer → ⊥
     not_rejected r = r.2.0.0.no_request some.0 some.1
@@ -150,12 +149,12 @@ explains one_word one_value known A file words input left old new answer are run
   where
     line : (given : Line) → AreGiven spelled has_value (explaining file) given → RunsLine known A given input left old new answer → Explains known A file input left old new answer
     line given read runs =
-        let is = are_asking one_word one_value name.Why file given read in
+        let is = are_asking one_word one_value name.Why false file given read in
         of_line known A file input left old new answer is.command is.platform is.value is.command_is is.platform_is is.value_is (subst (λ g. RunsLine known A g input left old new answer) is.given_are runs)
 
     by : RunsTo known A (explaining file) input left old new answer → Explains known A file input left old new answer
     by (inl memory) = inl memory
-    by (inr (inl rejected)) = absurd (no_fault_of one_word one_value name.Why file (fault_of rejected.0) rejected.2.0.0)
+    by (inr (inl rejected)) = absurd (no_fault_of one_word one_value name.Why false file (fault_of rejected.0) rejected.2.0.0)
     by (inr (inr does)) = line does.0 does.1.0 does.1.1
 
 drop_none : (n : ℕ) (value : List ℕ) (after : List (List ℕ)) → drop n [] ≡ value ∷ after → ⊥
@@ -196,7 +195,7 @@ module _ (A : Type 0) (file bytes item : List ℕ) (plain : Lacks 0x3D file) (wh
   run_written files read (Ok done) is =
       let w = is.written in
       let said = known_decided files w.0 w.1.0 in
-      (w.0, (record { files = files; only = only_read file bytes files plain read; numbers = said.numbers; decided = said.decided; reason = reason_of files w.0 said.numbers said.text_is }, w.1.1))
+      (w.0, (record { files = files; only = only_read false file bytes files plain read; numbers = said.numbers; decided = said.decided; reason = reason_of files w.0 said.numbers said.text_is }, w.1.1))
 
   written : (answer : Result ⊤ Fault) → Explains (only file bytes) A file (Some (item ++ 0 ∷ [])) left old new answer → Written answer
   written answer (inl memory) = err_written answer _ memory.0

@@ -3,8 +3,8 @@ use Rattle.std.proofs.Common.{◌≡◌, ◌⊎◌, inl, inr, ℕ, List, Option,
 use Rattle.std.specs.Prelude.{⊤, IfErr, IsTrue, ◌↔◌}
 use Rattle.names_commands.specs.Command.{Requested, IsRequestFor, IsListed, IsRequestError, Line, MakesUp, StatesPicks}
 use Rattle.names_commands.specs.declared.command.Command.TheVariants.{Version as VersionCommand}
-use Rattle.names_commands.specs.declared.option.NamesOption.TheVariants.{Help, IgnoreCase, Version}
-use Rattle.list_programs.specs.Arguments.{HasOption}
+use Rattle.names_commands.specs.declared.option.NamesOption.TheVariants.{Exclude, Help, IgnoreCase, Version}
+use Rattle.list_programs.specs.Arguments.{AreValues, HasOption}
 use Rattle.names_commands.specs.declared.command.RequestError.{RequestError}
 use Rattle.names_commands.specs.declared.command.RequestError.TheVariants.{Misuse, Memory as NoMemory}
 use Rattle.program_frame.specs.declared.fault.Failure.TheVariants.{Memory}
@@ -35,6 +35,15 @@ never_rejected given (Ok found) error requested requests = tt
 never_rejected given (Err (Misuse misuse)) error requested requests = absurd (error.no_request requested requests)
 never_rejected given (Err NoMemory) error requested requests = refl
 
+-- such a request states its patterns of names to leave out, where no help and no version is requested
+pub excluded_stated : (given : Line) (requested : Requested) → ¬ (HasOption Help given) → ¬ (HasOption Version given) → IsRequestFor given requested → AreValues Exclude given requested.excluded
+excluded_stated given requested no_help no_version (inl help) = absurd (no_help help.0)
+excluded_stated given requested no_help no_version (inr requests) = by requests.1
+  where
+    by : ((HasOption Version given × (requested.command ≡ VersionCommand)) ⊎ ((¬ (HasOption Version given)) × (IsListed given requested.list × (MakesUp given requested.command × StatesPicks given requested)))) → AreValues Exclude given requested.excluded
+    by (inl version) = absurd (no_version version.0)
+    by (inr c) = c.1.1.1.1.1.1.1
+
 -- a request is without regard to case exactly where the option for that is given, and no help and no version is requested
 pub case_stated : (given : Line) (requested : Requested) → ¬ (HasOption Help given) → ¬ (HasOption Version given) → IsRequestFor given requested → IsTrue requested.case_insensitive ↔ HasOption IgnoreCase given
 case_stated given requested no_help no_version (inl help) = absurd (no_help help.0)
@@ -42,4 +51,4 @@ case_stated given requested no_help no_version (inr requests) = by requests.1
   where
     by : ((HasOption Version given × (requested.command ≡ VersionCommand)) ⊎ ((¬ (HasOption Version given)) × (IsListed given requested.list × (MakesUp given requested.command × StatesPicks given requested)))) → IsTrue requested.case_insensitive ↔ HasOption IgnoreCase given
     by (inl version) = absurd (no_version version.0)
-    by (inr c) = c.1.1.1.1.1.1
+    by (inr c) = c.1.1.1.1.1.1.0

@@ -1,6 +1,6 @@
 -- What the program `names` does where there is one file.
-use Rattle.std.specs.Prelude.{◌≡◌, ◌≢◌, ◌⊎◌, ℕ, List, [], ◌∷◌, ◌++◌, codes, Option, None, Some, Result, Err, ⊤}
-use Rattle.os_ignore.specs.Ignores.{HasText, IsOnly}
+use Rattle.std.specs.Prelude.{◌≡◌, ◌≢◌, ◌⊎◌, ℕ, Bool, true, false, List, [], ◌∷◌, ◌++◌, codes, Option, None, Some, Result, Err, ⊤}
+use Rattle.os_ignore.specs.Ignores.{HasText, IsAddedTo}
 use Rattle.os_ignore.specs.declared.file.File.{File}
 use Rattle.os_quote.specs.Escape.{IsLineEscape}
 use Rattle.os_str_bytes.specs.UnixPlatform.TheImpl as unix
@@ -40,22 +40,27 @@ only name bytes = record {
   fails = λ other. ⊥;
 }
 
--- the words of this command for names of Unix, with the ignore file of this name
-abbrev pub asking : Name → List ℕ → List (List ℕ)
-asking command file = name_word command ∷ codes "unix" ∷ codes "--ignore" ∷ file ∷ []
+-- the word that disregards case, or none
+abbrev pub case_words : Bool → List (List ℕ)
+case_words true = codes "-i" ∷ []
+case_words false = []
+
+-- the words of this command for names of Unix, with the ignore file of this name, without regard to case or with
+abbrev pub asking : Name → Bool → List ℕ → List (List ℕ)
+asking command folds file = name_word command ∷ codes "unix" ∷ codes "--ignore" ∷ file ∷ case_words folds
 
 -- the words that filter names by it
-abbrev pub filtering : List ℕ → List (List ℕ)
-filtering file = asking Filter file
+abbrev pub filtering : Bool → List ℕ → List (List ℕ)
+filtering folds file = asking Filter folds file
 
 -- the words that request the line of it that decides a name
 abbrev pub explaining : List ℕ → List (List ℕ)
-explaining file = asking Why file
+explaining file = asking Why false file
 
--- nothing is written for the name if the lines of an ignore file with this content ignore it, and else the name and NUL
-pub record IsFilteredBy (A : Type 0) (content name text : List ℕ) : Type 0 where
+-- nothing is written for the name if the lines of an ignore file with this content, in which case is folded or matters, ignore it, and else the name and NUL
+pub record IsFilteredBy (A : Type 0) (folds : Bool) (content name text : List ℕ) : Type 0 where
   pub files : List (File A)
-  pub only : IsOnly content files
+  pub only : IsAddedTo folds [] content [] files
   pub ignored : IsIgnored files name → text ≡ []
   pub kept : ¬ (IsIgnored files name) → text ≡ name ++ 0 ∷ []
 
@@ -67,7 +72,7 @@ IsReasonOf file files name text (Some at) = (pattern : List ℕ) × (shown_file 
 -- this is written for the name if an ignore file of this name with this content decides names
 pub record IsExplainedBy (A : Type 0) (file content name text : List ℕ) : Type 0 where
   pub files : List (File A)
-  pub only : IsOnly content files
+  pub only : IsAddedTo false [] content [] files
   pub numbers : Option (ℕ × ℕ)
   pub decided : IsDecided files name numbers
   pub reason : IsReasonOf file files name text numbers

@@ -1,5 +1,5 @@
 //! Names that an ignore file leaves out, where the one file that there is is a value.
-ghost use Rattle.std.specs.Prelude.{◌≡◌, ◌≢◌, ◌∷◌, ◌++◌, [], ℕ, List, false, IsOk, OnOk};
+ghost use Rattle.std.specs.Prelude.{◌≡◌, ◌≢◌, ◌∷◌, ◌++◌, [], ℕ, List, false, true, IsOk, OnOk};
 ghost use Rattle.std.specs.Io.KnownBytes.{Appends};
 ghost use Rattle.std.specs.Process.{exit_status};
 ghost use Rattle.list_programs.specs.Items.{Lacks};
@@ -55,12 +55,38 @@ pub fn left_out<A: Allocator + Copy, W: Output, E: Messages>(
     writer: &mut Marked<W>,
     errors: &mut E,
 ) -> Result<(), Fault>
-    requires words { words_after_name arguments ≡ filtering file.name.now }
+    requires words { words_after_name arguments ≡ filtering false file.name.now }
     requires plain { Lacks 0x3D file.name.now }
     requires whole { Lacks 0 name.now }
     requires ended { names.now ≡ name.now ++ 0 ∷ [] }
     requires unmarked { has_failed writer.old ≡ false }
-    ensures { OnOk result ((text : List ℕ) × (IsFilteredBy A file.entry.bytes.now name.now text
+    ensures { OnOk result ((text : List ℕ) × (IsFilteredBy A false file.entry.bytes.now name.now text
+        × Appends (W.contents (marked_inner writer.old)) (W.contents (marked_inner writer.new))
+        text)) }
+{
+    one_outcome();
+    let mut reader = Marked::new(names);
+    let names = Names::new(file);
+    execute(&names, alloc, Ok(arguments), &mut reader, writer, errors).outcome()
+}
+
+/// Filters such a list without regard to case: the last word is `-i`.
+pub fn left_out_in_either_case<A: Allocator + Copy, W: Output, E: Messages>(
+    alloc: A,
+    file: OneFile<'_>,
+    arguments: Args,
+    name: &[u8],
+    names: &[u8],
+    writer: &mut Marked<W>,
+    errors: &mut E,
+) -> Result<(), Fault>
+    requires words { words_after_name arguments ≡ filtering true file.name.now }
+    requires plain { Lacks 0x3D file.name.now }
+    requires whole { Lacks 0 name.now }
+    requires ended { names.now ≡ name.now ++ 0 ∷ [] }
+    requires unmarked { has_failed writer.old ≡ false }
+    ensures { OnOk result ((text : List ℕ)
+        × (IsFilteredBy A true file.entry.bytes.now name.now text
         × Appends (W.contents (marked_inner writer.old)) (W.contents (marked_inner writer.new))
         text)) }
 {
@@ -107,7 +133,7 @@ pub fn unended_by_program<A: Allocator + Copy, W: Output, E: Messages>(
     writer: &mut Marked<W>,
     errors: &mut E,
 ) -> Result<(), Fault>
-    requires words { words_after_name arguments ≡ filtering file.name.now }
+    requires words { words_after_name arguments ≡ filtering false file.name.now }
     requires plain { Lacks 0x3D file.name.now }
     requires whole { Lacks 0 name.now }
     requires some { name.now ≢ [] }
@@ -132,7 +158,7 @@ pub fn unread<P: Eprint, A: Allocator + Copy, R: Read, W: Output, E: Messages>(
     writer: &mut Marked<W>,
     errors: &mut E,
 ) -> (Result<(), Fault>, ExitCode)
-    requires words { words_after_name arguments ≡ filtering other.now }
+    requires words { words_after_name arguments ≡ filtering false other.now }
     requires plain { Lacks 0x3D other.now }
     requires another { other.now ≢ file.name.now }
     requires reader_unmarked { has_failed reader.old ≡ false }

@@ -20,11 +20,12 @@ pub use archives::{sizeless_first, sparse_first};
 pub use arguments::{
     last_limit, only_operand, options_of_names, patterns_of_options, requests_help,
 };
-pub use ignoring::{OneFile, left_out, unread};
+pub use ignoring::{OneFile, left_out, left_out_in_either_case, unread};
 pub use marks::{closed_by_a_flush, closed_by_a_write, closed_by_no_bytes, marked_by_no_bytes};
 pub use names::{
-    check_one, empty_line, ends, escape_of, filtered, first_names_again, known_request,
-    line_before, line_of, list_of_two, names_again, returned_line, unended_line, unended_name,
+    check_one, empty_line, ends, escape_of, excluded_globs, filtered, first_names_again,
+    known_request, line_before, line_of, list_of_two, names_again, picks_excluded, returned_line,
+    unended_line, unended_name,
 };
 pub use paths::{
     answered, begins_with, components_of, joined_one, kept_below, kept_separator, line_with_nul,

@@ -1,12 +1,12 @@
 //! Lists of names: the arguments of requests, what runs write and reject, and the way back.
-ghost use Rattle.std.specs.Prelude.{◌≡◌, ◌≢◌, ◌≤◌, ◌∷◌, ◌++◌, ◌⊎◌, [], ℕ, List, true, false, ◌↔◌, IsOk, IsTrue, IfErr, IfOk, IfSome, OnErr, OnOk, length};
+ghost use Rattle.std.specs.Prelude.{◌≡◌, ◌≢◌, ◌≤◌, ◌∷◌, ◌++◌, ◌⊎◌, [], ℕ, List, true, false, ◌↔◌, IsOk, IsTrue, IfErr, IfOk, IfSome, OnErr, OnOk, length, map, string_bytes};
 ghost use Rattle.std.specs.Io.KnownBytes.{Appends};
 ghost use Rattle.os_command_line.specs.ShellWriting.{quoted_word};
 ghost use Rattle.os_ignore.specs.Walks.{files_of_walk};
 ghost use Rattle.os_quote.specs.Escape.{IsLineEscape};
 ghost use Rattle.os_str_bytes.specs.EncodingError.{EncodingError};
 ghost use Rattle.os_str_bytes.specs.Strings.{bytes};
-ghost use Rattle.list_programs.specs.Arguments.{HasOption};
+ghost use Rattle.list_programs.specs.Arguments.{AreValues, HasOption};
 ghost use Rattle.list_programs.specs.Items.{Lacks};
 ghost use Rattle.list_programs.specs.ListOptions.{byte_of};
 ghost use Rattle.list_programs.specs.ListRun.{IsOutput, StopsOn};
@@ -16,14 +16,14 @@ ghost use Rattle.list_programs.specs.declared.fault.ListFault.TheVariants.{Rejec
 ghost use Rattle.list_programs.specs.declared.options.ItemEnd.{ItemEnd as ItemEndOf};
 ghost use Rattle.names_commands.specs.Back.{listing, listing_words, AreFirst, IsCompleted};
 ghost use Rattle.names_commands.specs.Command.{Requested, IsRequestFor};
-ghost use Rattle.names_commands.specs.Matching.{IsPickedBy};
+ghost use Rattle.names_commands.specs.Matching.{IsMatchedBy, IsPickedBy};
 ghost use Rattle.names_commands.specs.Task.{rules_of};
 ghost use Rattle.names_commands.specs.Words.{AreNamesOf};
 ghost use Rattle.test_command_uses.specs.OneFile.{unended, usual};
 ghost use Rattle.names_commands.specs.declared.command.RequestError.TheVariants.{Memory as NoMemory};
 ghost use Rattle.names_commands.specs.declared.fault.Rejection.{Rejection};
 ghost use Rattle.names_commands.specs.declared.fault.Rejection.TheVariants.{NoString};
-ghost use Rattle.names_commands.specs.declared.option.NamesOption.TheVariants.{Help, IgnoreCase, Version};
+ghost use Rattle.names_commands.specs.declared.option.NamesOption.TheVariants.{Exclude, Help, IgnoreCase, Version};
 
 use list_programs::arguments::Given;
 use list_programs::fault::ListFault;
@@ -35,6 +35,7 @@ use names_commands::fault::Rejection;
 use names_commands::laws::{names_come_back, names_come_back_from_words};
 use names_commands::matching::{Form, Picker};
 use names_commands::task::{EmptyLine, OnPlatform, Settings, Task, WordForm};
+use os_ignore::Walk;
 use os_str_bytes::{OsStr, Platform, Unix};
 use program_frame::marked::Marked;
 use std::alloc::{AllocError, Allocator};
@@ -95,6 +96,35 @@ pub fn is_case_insensitive<'a, A: Allocator + Copy>(
         Ok(request) => Ok(request.case_insensitive),
         Err(error) => Err(error),
     }
+}
+
+/// The patterns of names that the request leaves out, which options and operands make up.
+pub fn excluded_globs<'a, A: Allocator + Copy>(
+    alloc: A,
+    given: Line<'_, 'a>,
+) -> Result<Vec<String<A>, A>, RequestError<'a>>
+    requires help { ¬ (HasOption Help given.now) }
+    requires version { ¬ (HasOption Version given.now) }
+    ensures { IfOk result
+        (λ globs. AreValues Exclude given.entry.now (map string_bytes globs.items)) }
+{
+    match Request::parse(alloc, given) {
+        Ok(request) => Ok(request.excluded),
+        Err(error) => Err(error),
+    }
+}
+
+/// Whether a name is picked that a pattern of names to leave out matches: it isn't, inverted or not.
+pub fn picks_excluded<E: Platform, A: Allocator + Copy>(
+    names: Matching<'_, E, A>,
+    walk: &mut Walk<'_, A>,
+    name: OsStr<'_, E>,
+) -> Result<bool, AllocError>
+    requires files { files_of_walk walk.old ≡ files_of names.ignore.now }
+    requires excluded { IsMatchedBy ⟦<E as Platform>⟧ names.excluded.now (bytes name) }
+    ensures { IfOk result (λ picks. ¬ (IsTrue picks)) }
+{
+    names.picks(walk, name)
 }
 
 /// A run over bytes.
@@ -322,10 +352,10 @@ pub fn filtered<E: Platform, A: Allocator, B: Allocator + Copy, W: Write>(
     requires unmarked { has_failed writer.old ≡ false }
     ensures { OnOk result ((text : List ℕ)
         × (((IsPickedBy ⟦<E as Platform>⟧ picker.entry.names.inverted picker.entry.names.globs
-        (files_of_walk picker.entry.walk) name.now
+        picker.entry.names.excluded.now (files_of_walk picker.entry.walk) name.now
         × (text ≡ name.now ++ 0 ∷ []))
         ⊎ ((¬ (IsPickedBy ⟦<E as Platform>⟧ picker.entry.names.inverted picker.entry.names.globs
-        (files_of_walk picker.entry.walk)
+        picker.entry.names.excluded.now (files_of_walk picker.entry.walk)
         name.now)) × (text ≡ [])))
         × Appends (W.contents (marked_inner writer.old)) (W.contents (marked_inner writer.new))
         text)) }

@@ -9,6 +9,7 @@ complete -c names -n '__fish_use_subcommand' -a tar -d 'print the names of the e
 complete -c names -n '__fish_seen_subcommand_from list filter why join check tar; and not __fish_seen_subcommand_from unix windows wasm' -a 'unix windows wasm'
 complete -c names -n '__fish_seen_subcommand_from list filter' -l glob -x -d 'pick the names that a pattern matches'
 complete -c names -n '__fish_seen_subcommand_from list filter' -l name -x -d 'pick the names whose last component a pattern matches'
+complete -c names -n '__fish_seen_subcommand_from list filter' -l exclude -x -d 'leave out the names that a pattern matches'
 complete -c names -n '__fish_seen_subcommand_from list filter why' -l ignore -rF -d 'leave out what an ignore file ignores'
 complete -c names -n '__fish_seen_subcommand_from list filter' -s v -l invert -d 'pick the others'
 complete -c names -n '__fish_seen_subcommand_from list filter why' -s i -l ignore-case -d 'match without regard to case'

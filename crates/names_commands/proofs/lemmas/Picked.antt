@@ -31,7 +31,7 @@ use Rattle.list_programs.specs.declared.program_fault.Fault.TheVariants.{List as
 use Rattle.os_ignore.specs.declared.file.File.{File}
 use Rattle.program_frame.specs.Files.{KnownFiles}
 use Rattle.names_commands.specs.Ignoring.{IsIgnored}
-use Rattle.names_commands.specs.Matching.{picking, AreWrittenOut, IsChosen, IsChosenBy, IsFirstFault, IsMatched, IsMatchedBy, IsPattern, IsPicked, IsTextOfPicked}
+use Rattle.names_commands.specs.Matching.{picking, AreWrittenOut, IsChosen, IsChosenBy, IsFirstFault, IsMatched, IsMatchedBy, IsPattern, IsPicked, IsSelected, IsTextOfPicked}
 use Rattle.names_commands.specs.Program.{Fault, RunsBut}
 
 module _ {E : Type 0} (p : Ghosts E) (form : Form) (list : ListOptions) (Picked Other : List ℕ → Type 0) (same : (name : List ℕ) → Picked name ↔ Other name) where
@@ -96,29 +96,45 @@ where_texts f Is (x ∷ xs) None h = absurd (not_nil h)
 where_texts f Is [] (Some y) h = absurd (h.0 refl)
 where_texts f Is (x ∷ xs) (Some y) h = (λ e. not_nil e, h.1)
 
--- some of the names are picked of those that two conditions choose alike
-picked_alike : {A : Type 0} (inverted : Bool) (Chosen Other : List ℕ → Type 0) (files : List (File A)) → ((name : List ℕ) → Chosen name ↔ Other name) → (name : List ℕ) → IsPicked inverted Chosen files name ↔ IsPicked inverted Other files name
-picked_alike false Chosen Other files same name = (λ k. ((same name).0 k.0, k.1), λ k. ((same name).1 k.0, k.1))
-picked_alike true Chosen Other files same name = (λ k other. k ((same name).1 other.0, other.1), λ k other. k ((same name).0 other.0, other.1))
+-- where two conditions choose the same names, and two others leave the same names out:
+module _ (Chosen Other Excluded Left : List ℕ → Type 0) (same : (name : List ℕ) → Chosen name ↔ Other name) (same_left : (name : List ℕ) → Excluded name ↔ Left name) where
+  -- the same are selected
+  selected_alike : {A : Type 0} (inverted : Bool) (files : List (File A)) (name : List ℕ) → IsSelected inverted Chosen files name ↔ IsSelected inverted Other files name
+  selected_alike false files name = (λ k. ((same name).0 k.0, k.1), λ k. ((same name).1 k.0, k.1))
+  selected_alike true files name = (λ k other. k ((same name).1 other.0, other.1), λ k other. k ((same name).0 other.0, other.1))
 
-pub same_but : {E : Type 0} (known : KnownFiles) (A : Type 0) (p : Ghosts E) (form : Form) (list : ListOptions) (inverted folds : Bool) (Chosen Other : List ℕ → Type 0) → ((name : List ℕ) → Chosen name ↔ Other name)
-    → (names : List (List ℕ)) (input left old new : Option (List ℕ)) (answer : Result ⊤ Fault) → RunsBut known A p form list inverted folds Chosen names input left old new answer → RunsBut known A p form list inverted folds Other names input left old new answer
-same_but known A p form list inverted folds Chosen Other same names input left old new answer (inl fault) = inl fault
-same_but known A p form list inverted folds Chosen Other same names input left old new answer (inr k) = inr (k.0, k.1, same_runs p form list (IsPicked inverted Chosen k.0) (IsPicked inverted Other k.0) (picked_alike inverted Chosen Other k.0 same) OfList input left old new answer k.2)
+  -- and picked
+  picked_alike : {A : Type 0} (inverted : Bool) (files : List (File A)) (name : List ℕ) → IsPicked inverted Chosen Excluded files name ↔ IsPicked inverted Other Left files name
+  picked_alike inverted files name =
+      let selected = selected_alike inverted files name in
+      (λ k. (selected.0 k.0, λ left. k.1 ((same_left name).1 left)), λ k. (selected.1 k.0, λ left. k.1 ((same_left name).0 left)))
 
--- a name that is chosen is picked where the files don't ignore its text
-pub picked_shown : {A : Type 0} (Chosen : List ℕ → Type 0) (files : List (File A)) (name text : List ℕ) (shown : Bool) → text ≡ name → Chosen name
-    → ((shown ≡ true) ↔ (¬ (IsIgnored files text))) → ((shown ≡ true) ↔ IsPicked false Chosen files name)
-picked_shown Chosen files name text shown t chosen said = (
+  pub same_but : {E : Type 0} (known : KnownFiles) (A : Type 0) (p : Ghosts E) (form : Form) (list : ListOptions) (inverted folds : Bool) (names : List (List ℕ)) (input left old new : Option (List ℕ)) (answer : Result ⊤ Fault)
+      → RunsBut known A p form list inverted folds Chosen Excluded names input left old new answer → RunsBut known A p form list inverted folds Other Left names input left old new answer
+  same_but known A p form list inverted folds names input left old new answer (inl fault) = inl fault
+  same_but known A p form list inverted folds names input left old new answer (inr k) = inr (k.0, k.1, same_runs p form list (IsPicked inverted Chosen Excluded k.0) (IsPicked inverted Other Left k.0) (picked_alike inverted k.0) OfList input left old new answer k.2)
+
+-- a name that is chosen is selected where the files don't ignore its text
+pub selected_shown : {A : Type 0} (Chosen : List ℕ → Type 0) (files : List (File A)) (name text : List ℕ) (shown : Bool) → text ≡ name → Chosen name
+    → ((shown ≡ true) ↔ (¬ (IsIgnored files text))) → ((shown ≡ true) ↔ IsSelected false Chosen files name)
+selected_shown Chosen files name text shown t chosen said = (
   λ yes. (chosen, subst (λ n. ¬ (IsIgnored files n)) t (said.0 yes)),
   λ k. said.1 (subst (λ n. ¬ (IsIgnored files n)) (sym t) k.1),
 )
 
--- a name is picked, inverted, where it doesn't match
-pub picked_turned : {A : Type 0} (inverted : Bool) (Chosen : List ℕ → Type 0) (files : List (File A)) (name : List ℕ) (matches picks : Bool) → picks ≡ cond inverted (not matches) matches → ((matches ≡ true) ↔ IsPicked false Chosen files name) → ((picks ≡ true) ↔ IsPicked inverted Chosen files name)
-picked_turned false Chosen files name matches picks e said = (λ yes. said.0 (sym e ∙ yes), λ k. e ∙ said.1 k)
-picked_turned true Chosen files name true picks e said = (λ yes. let never : true ≡ false = sym yes ∙ e in absurd (cc), λ k. absurd (k (said.0 refl)))
-picked_turned true Chosen files name false picks e said = (λ yes k. let never : false ≡ true = said.1 k in cc, λ k. e)
+-- a name is selected, inverted, where it doesn't match
+pub selected_turned : {A : Type 0} (inverted : Bool) (Chosen : List ℕ → Type 0) (files : List (File A)) (name : List ℕ) (matches picks : Bool) → picks ≡ cond inverted (not matches) matches → ((matches ≡ true) ↔ IsSelected false Chosen files name) → ((picks ≡ true) ↔ IsSelected inverted Chosen files name)
+selected_turned false Chosen files name matches picks e said = (λ yes. said.0 (sym e ∙ yes), λ k. e ∙ said.1 k)
+selected_turned true Chosen files name true picks e said = (λ yes. let never : true ≡ false = sym yes ∙ e in absurd (cc), λ k. absurd (k (said.0 refl)))
+selected_turned true Chosen files name false picks e said = (λ yes k. let never : false ≡ true = said.1 k in cc, λ k. e)
+
+-- a selected name is picked where it isn't left out
+pub picked_unless : {A : Type 0} (inverted : Bool) (Chosen Excluded : List ℕ → Type 0) (files : List (File A)) (name : List ℕ) (picks : Bool) → ((picks ≡ true) ↔ IsSelected inverted Chosen files name) → ¬ (Excluded name) → (picks ≡ true) ↔ IsPicked inverted Chosen Excluded files name
+picked_unless inverted Chosen Excluded files name picks said other = (λ yes. (said.0 yes, other), λ k. said.1 k.0)
+
+-- and where it is, it isn't picked
+pub never_picked : {A : Type 0} (inverted : Bool) (Chosen Excluded : List ℕ → Type 0) (files : List (File A)) (name : List ℕ) → Excluded name → (false ≡ true) ↔ IsPicked inverted Chosen Excluded files name
+never_picked inverted Chosen Excluded files name excluded = (λ yes. let never : false ≡ true = yes in absurd (cc), λ k. absurd (k.1 excluded))
 
 module _ {E A : Type 0} (p : Ghosts E) (o : GlobOptions) where
   abbrev AreCompiled : List (List ℕ) → List (Pattern A) → Type 0
@@ -137,6 +153,11 @@ module _ {E A : Type 0} (p : Ghosts E) (o : GlobOptions) where
   are_written [] ps c = refl
   are_written (t ∷ texts) [] c = absurd c
   are_written (t ∷ texts) (q ∷ ps) c = (one_written t q.choices.items c.0, are_written texts ps c.1)
+
+  pub all_fine : (texts : List (List ℕ)) (ps : List (Pattern A)) → AreCompiled texts ps → AllByRecursion (IsPattern p o) texts
+  all_fine [] ps c = tt
+  all_fine (t ∷ texts) [] c = absurd c
+  all_fine (t ∷ texts) (q ∷ ps) c = ((c.0.are.are.written_out, one_written t q.choices.items c.0), all_fine texts ps c.1)
 
   -- a compiled pattern matches what its text does
   module _ (name : List ℕ) where
@@ -161,7 +182,7 @@ module _ {E A : Type 0} (p : Ghosts E) (o : GlobOptions) where
 
   module _ (texts : List (List ℕ)) (set : GlobSet E A) (same : set.set.options ≡ options_of o) (c : AreCompiled texts set.set.patterns.items) where
     -- a compiled set matches what one of its texts does
-    matched : (name : List ℕ) → IsMatchedBy p set name ↔ IsMatched p o (written_of texts set.set.patterns.items c) name
+    pub matched : (name : List ℕ) → IsMatchedBy p set name ↔ IsMatched p o (written_of texts set.set.patterns.items c) name
     matched name = (
       λ m. hit_matches name texts set.set.patterns.items c m.0 (subst (λ z. IsHit z set.set.patterns.items (letters_of p.units name) m.0) same m.1),
       λ m.

@@ -4,9 +4,9 @@ use Rattle.os_ignore.specs.Walks.{files_of_walk}
 use Rattle.program_frame.specs.Marked.{marked_inner}
 use Rattle.names_commands.specs.Command.{requested_of, options_of}
 use Rattle.names_commands.specs.Ignoring.{AreRead, text_of}
-use Rattle.names_commands.specs.Matching.{IsChosen, IsChosenBy, IsSetOf}
-use Rattle.names_commands.specs.Program.{IsFaultOf, IsOfPatterns}
-use Rattle.names_commands.proofs.lemmas.Picked.{are_written, chosen, same_but, where_texts, written_of}
+use Rattle.names_commands.specs.Matching.{IsChosen, IsChosenBy, IsMatched, IsMatchedBy, IsSetOf}
+use Rattle.names_commands.specs.Program.{IsFaultOf, IsOfGlobs}
+use Rattle.names_commands.proofs.lemmas.Picked.{are_written, chosen, matched, same_but, where_texts, written_of}
 use Rattle.names_commands.proofs.patterns.run_picked.Goals as goal
 
 pub returns-in-Err-clause-run : goal.returns-in-Err-clause-run
@@ -15,10 +15,7 @@ returns-in-Err-clause-run g c =
     let fault = c.in-Err.fault in
     ⊎_elim
     (λ memory. inl (ap Err memory, (refl, refl)))
-    (λ of.
-    let its = subst (λ o. IsOfPatterns g.E.Platform o requested.plain (map string_bytes c.as_slice-patterns.result.now) fault) c.options_of-options.ensures of in
-    let shown = subst (λ items. IsOfPatterns g.E.Platform (options_of c.args.os requested.case_insensitive) requested.plain (map string_bytes items) fault) c.as_slice-patterns.ensures.value its in
-    inr (inl (shown.0, shown.1, shown.2, fault, shown.3, (refl, (refl, refl)))))
+    (λ of. inr (inl (fault, subst (λ o. IsOfGlobs g.E.Platform o requested fault) c.options_of-options.ensures of, (refl, (refl, refl)))))
     c.in-Err.ensures
 
 pub returns-in-Err-read_ignore-clause-run : goal.returns-in-Err-read_ignore-clause-run
@@ -26,13 +23,19 @@ returns-in-Err-read_ignore-clause-run g c =
     let P = g.E.Platform in
     let requested = requested_of c.args.request.now in
     let o = options_of c.args.os requested.case_insensitive in
-    let set = c.in-Ok.set in
-    let compiled = subst (λ z. IsSetOf P g.row.A.Denot z (map string_bytes c.as_slice-patterns.result.now) set) c.options_of-options.ensures c.in-Ok.ensures in
-    let made = subst (λ items. IsSetOf P g.row.A.Denot o (map string_bytes items) set) c.as_slice-patterns.ensures.value compiled in
+    let set = c.in-Ok.sets.0 in
+    let excluded = c.in-Ok.sets.1 in
+    let made = subst (λ z. IsSetOf P g.row.A.Denot z requested.globs set) c.options_of-options.ensures c.in-Ok.ensures.0 in
+    let left_out = subst (λ z. IsSetOf P g.row.A.Denot z requested.excluded excluded) c.options_of-options.ensures c.in-Ok.ensures.1 in
     let why = subst (λ items. IsFaultOf (g.F.Files.known c.args.files.now) g.row.A.Denot requested.case_insensitive (map text_of items) c.in-Err-read_ignore.fault) c.as_slice.ensures.value c.in-Err-read_ignore.ensures in
     ⊎_elim
     (λ memory. inl (ap Err memory, (refl, refl)))
-    (λ of. inr (inr (written_of P o requested.globs set.set.patterns.items made.1, are_written P o requested.globs set.set.patterns.items made.1, inl (of.0, of.1, (ap Err of.2, (refl, refl))))))
+    (λ of. inr (inr (
+      written_of P o requested.globs set.set.patterns.items made.1,
+      written_of P o requested.excluded excluded.set.patterns.items left_out.1,
+      are_written P o requested.globs set.set.patterns.items made.1,
+      (are_written P o requested.excluded excluded.set.patterns.items left_out.1, inl (of.0, of.1, (ap Err of.2, (refl, refl)))),
+    )))
     why
 
 pub returns-clause-run : goal.returns-clause-run
@@ -41,13 +44,16 @@ returns-clause-run g c =
     let requested = requested_of c.args.request.now in
     let o = options_of c.args.os requested.case_insensitive in
     let texts = requested.globs in
-    let set = c.in-Ok.set in
-    let compiled = subst (λ z. IsSetOf P g.row.A.Denot z (map string_bytes c.as_slice-patterns.result.now) set) c.options_of-options.ensures c.in-Ok.ensures in
-    let made = subst (λ items. IsSetOf P g.row.A.Denot o (map string_bytes items) set) c.as_slice-patterns.ensures.value compiled in
+    let set = c.in-Ok.sets.0 in
+    let excluded = c.in-Ok.sets.1 in
+    let made = subst (λ z. IsSetOf P g.row.A.Denot z texts set) c.options_of-options.ensures c.in-Ok.ensures.0 in
+    let left_out = subst (λ z. IsSetOf P g.row.A.Denot z requested.excluded excluded) c.options_of-options.ensures c.in-Ok.ensures.1 in
     let written = written_of P o texts set.set.patterns.items made.1 in
+    let without = written_of P o requested.excluded excluded.set.patterns.items left_out.1 in
     let globs = c.set_of.result in
     let held = subst (λ strings. MatchOption globs (strings ≡ []) (λ held. (strings ≢ []) × (held.now ≡ set))) c.as_slice-patterns.ensures.value c.set_of.ensures in
     let choose = chosen P o texts set made.0 made.1 globs (where_texts string_bytes (λ held. held.now ≡ set) c.args.request.now.patterns.items globs held) in
+    let leave = matched P o requested.excluded excluded left_out.0 left_out.1 in
     let known = g.F.Files.known c.args.files.now in
     let files = files_of_walk c.new-walk.result in
     let read = subst (λ items. AreRead known requested.case_insensitive (map text_of items) files) c.as_slice.ensures.value (subst (AreRead known requested.case_insensitive (map text_of c.as_slice.result.now)) (sym c.new-walk.ensures) c.in-Ok-read_ignore.ensures) in
@@ -55,4 +61,5 @@ returns-clause-run g c =
     let left = g.R.Read.remaining (marked_inner c.run_list.new.reader) in
     let old = g.W.Write.contents (marked_inner c.args.writer.now) in
     let new = g.W.Write.contents (marked_inner c.run_list.new.writer) in
-    inr (inr (written, are_written P o texts set.set.patterns.items made.1, same_but known g.row.A.Denot P c.args.form requested.list requested.inverted requested.case_insensitive (IsChosenBy P globs) (IsChosen P o written) choose requested.files input left old new c.run_list.result (inr (files, read, c.run_list.ensures.run))))
+    let ran = same_but (IsChosenBy P globs) (IsChosen P o written) (IsMatchedBy P excluded) (IsMatched P o without) choose leave known g.row.A.Denot P c.args.form requested.list requested.inverted requested.case_insensitive requested.files input left old new c.run_list.result (inr (files, read, c.run_list.ensures.run)) in
+    inr (inr (written, without, are_written P o texts set.set.patterns.items made.1, (are_written P o requested.excluded excluded.set.patterns.items left_out.1, ran)))

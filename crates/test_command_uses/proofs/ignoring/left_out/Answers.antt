@@ -6,6 +6,6 @@ use Rattle.test_command_uses.proofs.ignoring.left_out.Goals as goal
 pub returns : goal.returns
 returns g c =
     let file = c.args.file in
-    program_written c.one_outcome.ensures.next c.one_outcome.ensures.value g.row.A.Denot file.name.now file.bytes.now c.args.name.now c.requires.whole _ c.requires.words _ _ _ c.args.names.now
+    program_written c.one_outcome.ensures.next c.one_outcome.ensures.value g.row.A.Denot false file.name.now file.bytes.now c.args.name.now c.requires.whole _ c.requires.words _ _ _ c.args.names.now
     (outcome_of c.execute.result) c.outcome.result c.requires.plain c.requires.ended c.outcome.ensures
     (rw (c.new-names.ensures, c.new-reader.ensures.inner) at (of_run c.execute.ensures.run))
