@@ -20,9 +20,10 @@ use wildcards::{Pattern, PatternSet};
 /// [`Glob`](crate::Glob).
 ///
 /// Patterns are looked up by the literal parts that a path must have to match them: the whole path,
-/// the end of its last component, or a component. Only the patterns found are tried, each at most
-/// once. So a path takes at most the time that it takes with each pattern alone. A set takes the
-/// memory of its patterns, and some more for each pattern that they are written out as.
+/// the end of its last component, or a component or its first letters. Only the patterns found are
+/// tried, each at most once. A path of which many different components are looked up and found is
+/// read again after each of them. A set takes the memory of its patterns, and some more for each
+/// pattern that they are written out as.
 #[derive(Drop)]
 pub struct GlobSet<E: Platform, A: Allocator = Global> {
     set: PatternSet<A>,

@@ -17,8 +17,8 @@ use std::alloc::{AllocError, Allocator, Global};
 
 /// A set of patterns. A path is matched only with the choices whose literal parts it has. Each
 /// choice is listed once: by its whole text, by a component or its first letters, or by the
-/// extension or the last letters of its last component. So a path takes at most the time that
-/// matching it with each choice in turn takes.
+/// extension or the last letters of its last component. So a path is matched with a choice at most
+/// once. What comes after a component that is such a text is read again, to find the last one.
 #[derive(Drop)]
 pub struct PatternSet<A: Allocator = Global> {
     options: Options,
