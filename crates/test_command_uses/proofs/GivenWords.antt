@@ -4,7 +4,7 @@ use Rattle.std.specs.Prelude.{codes}
 use Rattle.std.specs.Str.{IsUtf8}
 use Rattle.std.specs.List.{AllByRecursion}
 use Rattle.std.proofs.lemmas.List.Elements.{All-from_recursion}
-use Rattle.std.proofs.lemmas.Str.{IsUtf8-from_ascii}
+use Rattle.std.proofs.lemmas.Str.{IsUtf8-from_ascii, encode_ascii}
 use Rattle.std.proofs.lemmas.Str.Ascii.{IsAscii-from_all}
 use denote.Ref.{Bor}
 use Rattle.wtf8_core.specs.Occurrence.{IsPrefix, OccursNowhere}
@@ -186,7 +186,7 @@ module _ (command : Name) (file : List ℕ) where
       some = λ e. nil_is (sym e);
       one_dash = no_dash command true file 105 [] (omega arith);
       no_number = λ never. let no : false ≡ true = never in absurd (cc);
-      flag = (refl, refl);
+      flag = (refl, sym (ap (λ x. x ++ []) (encode_ascii 105 (omega arith))));
     }));
     same = refl;
   })

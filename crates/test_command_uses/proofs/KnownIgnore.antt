@@ -5,7 +5,6 @@ use Rattle.std.specs.List.{AllByRecursion}
 use Rattle.std.specs.Io.KnownBytes.{Appends}
 use denote.Ref.{Bor}
 use Rattle.glob_patterns.specs.declared.options.GlobOptions.{GlobOptions}
-use Rattle.glob_text.specs.Marks.{Mark}
 use Rattle.os_ignore.specs.Ignores.{IsAddedTo}
 use Rattle.os_ignore.specs.declared.file.File.{File}
 use Rattle.program_frame.specs.Ended.{status_after}
@@ -276,9 +275,6 @@ IsLeftBy folds files = IsPicked false (IsChosen (strings Unix) (options_of Unix 
 
 module _ (known : KnownFiles) (A : Type 0) (folds : Bool) (file : List ℕ) (input left old new : Option (List ℕ)) (answer : Result ⊤ Fault) where
   -- they are written
-  abbrev Writes : ListOptions → Bool → Bool → List (List (List Mark)) → List (List (List Mark)) → List (List ℕ) → Type 0
-  Writes list inverted folded written excluded files = RunsBut known A (strings Unix) Name list inverted folded (IsChosen (strings Unix) (options_of Unix folded) written) (IsMatched (strings Unix) (options_of Unix folded) excluded) files input left old new answer
-
   abbrev pub Filters : Type 0
   Filters = UnlessOutOfMemory (RunsBut known A (strings Unix) Name usual false folds (IsChosen (strings Unix) (options_of Unix folds) []) (IsMatched (strings Unix) (options_of Unix folds) []) (file ∷ [])) input left old new answer
 
@@ -296,12 +292,12 @@ module _ (known : KnownFiles) (A : Type 0) (folds : Bool) (file : List ℕ) (inp
   ran requested globs excluded list kept cased files (inr compiled) =
       let none : compiled.0 ≡ [] = subst (λ texts. AreWrittenOut (strings Unix) (options_of Unix requested.case_insensitive) texts compiled.0) globs compiled.2 in
       let without : compiled.1 ≡ [] = subst (λ texts. AreWrittenOut (strings Unix) (options_of Unix requested.case_insensitive) texts compiled.1) excluded compiled.3.0 in
-      inr (subst (λ f. Writes usual false folds [] [] f) files
-      (subst (λ v. Writes usual v folds [] [] requested.files) kept
-      (subst (λ m. Writes m requested.inverted folds [] [] requested.files) list
-      (subst (λ w. Writes requested.list requested.inverted folds w [] requested.files) none
-      (subst (λ w. Writes requested.list requested.inverted folds compiled.0 w requested.files) without
-      (subst (λ z. Writes requested.list requested.inverted z compiled.0 compiled.1 requested.files) cased compiled.3.1))))))
+      inr (subst (λ f. RunsBut known A (strings Unix) Name usual false folds (IsChosen (strings Unix) (options_of Unix folds) []) (IsMatched (strings Unix) (options_of Unix folds) []) f input left old new answer) files
+      (subst (λ v. RunsBut known A (strings Unix) Name usual v folds (IsChosen (strings Unix) (options_of Unix folds) []) (IsMatched (strings Unix) (options_of Unix folds) []) requested.files input left old new answer) kept
+      (subst (λ m. RunsBut known A (strings Unix) Name m requested.inverted folds (IsChosen (strings Unix) (options_of Unix folds) []) (IsMatched (strings Unix) (options_of Unix folds) []) requested.files input left old new answer) list
+      (subst (λ w. RunsBut known A (strings Unix) Name requested.list requested.inverted folds (IsChosen (strings Unix) (options_of Unix folds) w) (IsMatched (strings Unix) (options_of Unix folds) []) requested.files input left old new answer) none
+      (subst (λ w. RunsBut known A (strings Unix) Name requested.list requested.inverted folds (IsChosen (strings Unix) (options_of Unix folds) compiled.0) (IsMatched (strings Unix) (options_of Unix folds) w) requested.files input left old new answer) without
+      (subst (λ z. RunsBut known A (strings Unix) Name requested.list requested.inverted z (IsChosen (strings Unix) (options_of Unix z) compiled.0) (IsMatched (strings Unix) (options_of Unix z) compiled.1) requested.files input left old new answer) cased compiled.3.1))))))
 
   module _ (command platform value : Bor (List ℕ)) (is_command : command.now ≡ codes "filter") (is_platform : platform.now ≡ codes "unix") (is_file : value.now ≡ file) where
     abbrev given : Line

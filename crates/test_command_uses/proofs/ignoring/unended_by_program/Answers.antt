@@ -1,3 +1,4 @@
+use Rattle.std.proofs.Common.{false}
 use Rattle.program_frame.specs.Ended.{outcome_of}
 use Rattle.test_command_uses.proofs.KnownIgnore.{program_unended}
 use Rattle.test_command_uses.proofs.Requested.{of_run}

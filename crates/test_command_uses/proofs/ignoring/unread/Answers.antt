@@ -1,3 +1,4 @@
+use Rattle.std.proofs.Common.{false}
 use Rattle.program_frame.specs.Ended.{outcome_of}
 use Rattle.program_frame.specs.Marked.{marked_inner}
 use Rattle.test_command_uses.proofs.KnownIgnore.{end_of, status_unread}
