@@ -3,6 +3,7 @@
 use crate::globs::{MACHINE, PATHS, Paths, cut};
 use crate::inputs::Random;
 use crate::ours;
+use crate::ours::Patterns as Ours;
 use crate::table::Bench;
 use globset::{GlobBuilder, GlobSet, GlobSetBuilder};
 use std::collections::HashSet;
@@ -15,10 +16,15 @@ const COUNTS: [usize; 4] = [1, 10, 100, 1000];
 /// Makes so many patterns.
 type Patterns = fn(usize) -> Vec<String>;
 
-/// With how often all paths are matched in a run of 1,000 of them, and of fewer by their number, so that it
-/// weighs little that ours compiles them in each run.
-const KINDS: [(&str, Patterns, usize); 3] =
-    [("`**/*.ext`", extensions, 100), ("literal paths", literals, 100), ("a mix", mix, 1)];
+/// With whether they match without regard to case, and with how often all paths are matched in a run of 1,000 of
+/// them, and of fewer by their number, so that it weighs little that ours compiles them in each run.
+const KINDS: [(&str, Patterns, bool, usize); 5] = [
+    ("`**/*.ext`", extensions, false, 100),
+    ("literal paths", literals, false, 100),
+    ("a mix", mix, false, 1),
+    ("`**/*.EXT` without case", upper_extensions, true, 100),
+    ("a mix without case", mix, true, 1),
+];
 
 /// The sets of globset that are timed, of each kind and count. Each is made once, since it takes globset some
 /// ten seconds to make one of 1,000 of a mix.
@@ -27,23 +33,23 @@ static ASKED: [[OnceLock<GlobSet>; COUNTS.len()]; KINDS.len()] =
 
 pub fn time(bench: &mut Bench) {
     bench.table("Patterns in sets beside globset", "a path");
-    for ((kind, patterns, most), asked) in KINDS.into_iter().zip(&ASKED) {
+    for ((kind, patterns, folds, most), asked) in KINDS.into_iter().zip(&ASKED) {
         for (count, asked) in COUNTS.into_iter().zip(asked) {
             let input = format!("{kind}, {count}");
             if bench.wants("matches", &input) || bench.wants("is_match", &input) {
                 let patterns = patterns(count);
-                let theirs = asked.get_or_init(|| compiled(&patterns));
-                set(bench, &input, &patterns, theirs, (most * count / 1000).max(1));
+                let theirs = asked.get_or_init(|| compiled(&patterns, folds));
+                set(bench, &input, (&patterns, folds), theirs, (most * count / 1000).max(1));
             }
         }
     }
     bench.table("Patterns into sets beside globset", "a pattern");
-    for (kind, patterns, _) in KINDS {
-        let counts = if kind == "a mix" { [1, 10, 100, 300] } else { COUNTS };
+    for (kind, patterns, folds, _) in KINDS {
+        let counts = if kind.starts_with("a mix") { [1, 10, 100, 300] } else { COUNTS };
         for count in counts {
             let input = format!("{kind}, {count}");
             if bench.wants("new", &input) {
-                made(bench, &input, &patterns(count));
+                made(bench, &input, &patterns(count), folds);
             }
         }
     }
@@ -161,17 +167,18 @@ fn one(bench: &mut Bench, input: &str, pattern: &str, path: &str) {
     );
 }
 
-fn set(bench: &mut Bench, input: &str, patterns: &[String], theirs: &GlobSet, times: usize) {
+fn set(bench: &mut Bench, input: &str, (patterns, folds): (&[String], bool), theirs: &GlobSet, times: usize) {
     let (all, lens) = (patterns.concat(), patterns.iter().map(String::len).collect::<Vec<_>>());
+    let asked = Ours { text: &all, lens: &lens, folds };
     let Paths { all: paths, lens: path_lens, ended, .. } = &*PATHS;
-    let ours = black_box(ours::set_matches as fn(&str, &[usize], &str, &[usize], usize) -> usize);
+    let ours = black_box(ours::set_matches as fn(Ours, &str, &[usize], usize) -> usize);
     let mut found = Vec::new();
     bench.line(
         "matches",
         input,
         path_lens.len() * times,
         [
-            Some(&mut || ours(black_box(&all), &lens, paths, path_lens, times) as u64),
+            Some(&mut || ours(black_box(asked), paths, path_lens, times) as u64),
             Some(&mut || {
                 (0..times).flat_map(|_| cut(ended, path_lens)).fold(0, |sum, path| {
                     theirs.matches_into(path, &mut found);
@@ -181,13 +188,13 @@ fn set(bench: &mut Bench, input: &str, patterns: &[String], theirs: &GlobSet, ti
             None,
         ],
     );
-    let ours = black_box(ours::set_is_match as fn(&str, &[usize], &str, &[usize], usize) -> usize);
+    let ours = black_box(ours::set_is_match as fn(Ours, &str, &[usize], usize) -> usize);
     bench.line(
         "is_match",
         input,
         path_lens.len() * times,
         [
-            Some(&mut || ours(black_box(&all), &lens, paths, path_lens, times) as u64),
+            Some(&mut || ours(black_box(asked), paths, path_lens, times) as u64),
             Some(&mut || {
                 (0..times).flat_map(|_| cut(ended, path_lens)).filter(|path| theirs.is_match(path)).count() as u64
             }),
@@ -198,14 +205,14 @@ fn set(bench: &mut Bench, input: &str, patterns: &[String], theirs: &GlobSet, ti
 
 /// A set of one pattern, which is compiled and dropped.
 fn new(bench: &mut Bench, input: &str, pattern: &str) {
-    let ours = black_box(ours::set_new as fn(&str, &[usize]) -> bool);
+    let ours = black_box(ours::set_new as fn(Ours) -> bool);
     bench.line(
         "new",
         input,
         1,
         [
-            Some(&mut || u64::from(ours(black_box(pattern), &[pattern.len()]))),
-            Some(&mut || u64::from(!black_box(compiled(&[black_box(pattern).to_owned()])).is_empty())),
+            Some(&mut || u64::from(ours(black_box(Ours { text: pattern, lens: &[pattern.len()], folds: false })))),
+            Some(&mut || u64::from(!black_box(compiled(&[black_box(pattern).to_owned()], false)).is_empty())),
             None,
         ],
     );
@@ -219,15 +226,16 @@ fn matched(bench: &mut Bench, input: &str, patterns: &[String], path: &str) {
     let (all, lens) = (patterns.concat(), patterns.iter().map(String::len).collect::<Vec<_>>());
     let paths = vec![path.len(); ((1 << 18) / path.len() / patterns.len()).max(20)];
     let texts = path.repeat(paths.len());
-    let theirs = compiled(patterns);
+    let theirs = compiled(patterns, false);
+    let asked = Ours { text: &all, lens: &lens, folds: false };
     let mut found = Vec::new();
-    let ours = black_box(ours::set_matches as fn(&str, &[usize], &str, &[usize], usize) -> usize);
+    let ours = black_box(ours::set_matches as fn(Ours, &str, &[usize], usize) -> usize);
     bench.line(
         "matches",
         input,
         paths.len(),
         [
-            Some(&mut || ours(black_box(&all), &lens, &texts, &paths, 1) as u64),
+            Some(&mut || ours(black_box(asked), &texts, &paths, 1) as u64),
             Some(&mut || {
                 paths.iter().fold(0, |sum, _| {
                     theirs.matches_into(black_box(path), &mut found);
@@ -240,25 +248,27 @@ fn matched(bench: &mut Bench, input: &str, patterns: &[String], path: &str) {
 }
 
 /// Sets that are compiled of texts, and dropped.
-fn made(bench: &mut Bench, input: &str, patterns: &[String]) {
+fn made(bench: &mut Bench, input: &str, patterns: &[String], folds: bool) {
     let (all, lens) = (patterns.concat(), patterns.iter().map(String::len).collect::<Vec<_>>());
-    let ours = black_box(ours::set_new as fn(&str, &[usize]) -> bool);
+    let asked = Ours { text: &all, lens: &lens, folds };
+    let ours = black_box(ours::set_new as fn(Ours) -> bool);
     bench.line(
         "new",
         input,
         patterns.len(),
         [
-            Some(&mut || u64::from(ours(black_box(&all), &lens))),
-            Some(&mut || u64::from(!black_box(compiled(black_box(patterns))).is_empty())),
+            Some(&mut || u64::from(ours(black_box(asked)))),
+            Some(&mut || u64::from(!black_box(compiled(black_box(patterns), folds)).is_empty())),
             None,
         ],
     );
 }
 
-fn compiled(patterns: &[String]) -> GlobSet {
+fn compiled(patterns: &[String], folds: bool) -> GlobSet {
     let mut builder = GlobSetBuilder::new();
     for pattern in patterns {
-        builder.add(GlobBuilder::new(pattern).literal_separator(true).build().expect("a pattern of globset"));
+        let glob = GlobBuilder::new(pattern).literal_separator(true).case_insensitive(folds).build();
+        builder.add(glob.expect("a pattern of globset"));
     }
     builder.build().expect("a set of globset")
 }
@@ -286,6 +296,11 @@ fn distinct(parts: impl Iterator<Item = &'static str>) -> Vec<&'static str> {
 /// So many of the parts, evenly chosen.
 fn chosen(parts: &[&'static str], count: usize) -> Vec<&'static str> {
     (0..count).map(|index| parts[index * parts.len() / count]).collect()
+}
+
+/// Extensions in capital letters.
+fn upper_extensions(count: usize) -> Vec<String> {
+    extensions(count).iter().map(|pattern| pattern.to_ascii_uppercase()).collect()
 }
 
 fn extensions(count: usize) -> Vec<String> {

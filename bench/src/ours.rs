@@ -48,12 +48,14 @@ mod exports {
             patterns_len: usize,
             pattern_lens: *const usize,
             pattern_count: usize,
+            folds: bool,
         ) -> bool;
         pub fn port_set_matches(
             patterns: *const u8,
             patterns_len: usize,
             pattern_lens: *const usize,
             pattern_count: usize,
+            folds: bool,
             bytes: *const u8,
             len: usize,
             lens: *const usize,
@@ -65,6 +67,7 @@ mod exports {
             patterns_len: usize,
             pattern_lens: *const usize,
             pattern_count: usize,
+            folds: bool,
             bytes: *const u8,
             len: usize,
             lens: *const usize,
@@ -250,19 +253,27 @@ pub fn matches(pattern: &str, slash: bool, texts: &str, lens: &[usize]) -> usize
     }
 }
 
-/// The patterns of these lengths make up `patterns`.
-pub fn set_new(patterns: &str, pattern_lens: &[usize]) -> bool {
-    unsafe { exports::port_set_new(patterns.as_ptr(), patterns.len(), pattern_lens.as_ptr(), pattern_lens.len()) }
+/// Patterns of these lengths make up a text; they may match without regard to case.
+#[derive(Clone, Copy)]
+pub struct Patterns<'a> {
+    pub text: &'a str,
+    pub lens: &'a [usize],
+    pub folds: bool,
 }
 
-/// So do the patterns, and the texts of their lengths make up `texts`.
-pub fn set_matches(patterns: &str, pattern_lens: &[usize], texts: &str, lens: &[usize], times: usize) -> usize {
+pub fn set_new(of: Patterns) -> bool {
+    unsafe { exports::port_set_new(of.text.as_ptr(), of.text.len(), of.lens.as_ptr(), of.lens.len(), of.folds) }
+}
+
+/// The texts of these lengths make up `texts`.
+pub fn set_matches(of: Patterns, texts: &str, lens: &[usize], times: usize) -> usize {
     unsafe {
         exports::port_set_matches(
-            patterns.as_ptr(),
-            patterns.len(),
-            pattern_lens.as_ptr(),
-            pattern_lens.len(),
+            of.text.as_ptr(),
+            of.text.len(),
+            of.lens.as_ptr(),
+            of.lens.len(),
+            of.folds,
             texts.as_ptr(),
             texts.len(),
             lens.as_ptr(),
@@ -273,13 +284,14 @@ pub fn set_matches(patterns: &str, pattern_lens: &[usize], texts: &str, lens: &[
 }
 
 /// The same.
-pub fn set_is_match(patterns: &str, pattern_lens: &[usize], texts: &str, lens: &[usize], times: usize) -> usize {
+pub fn set_is_match(of: Patterns, texts: &str, lens: &[usize], times: usize) -> usize {
     unsafe {
         exports::port_set_is_match(
-            patterns.as_ptr(),
-            patterns.len(),
-            pattern_lens.as_ptr(),
-            pattern_lens.len(),
+            of.text.as_ptr(),
+            of.text.len(),
+            of.lens.as_ptr(),
+            of.lens.len(),
+            of.folds,
             texts.as_ptr(),
             texts.len(),
             lens.as_ptr(),

@@ -34,23 +34,30 @@ pub extern "C" fn port_matches(
 }
 
 /// Whether a set is made of the patterns, which are the bytes, cut into pieces of these lengths,
-/// where `/` separates: each is well formed, and no allocation failed.
+/// where `/` separates, without regard to case if `folds` is set: each is well formed, and no
+/// allocation failed.
 #[unsafe(no_mangle)]
-pub extern "C" fn port_set_new(alloc: Global, patterns: &[u8], pattern_lens: &[usize]) -> bool
+pub extern "C" fn port_set_new(
+    alloc: Global,
+    patterns: &[u8],
+    pattern_lens: &[usize],
+    folds: bool,
+) -> bool
     requires { Fit pattern_lens.now patterns.now }
 {
-    set_of(alloc, patterns, pattern_lens).is_some()
+    set_of(alloc, patterns, pattern_lens, folds).is_some()
 }
 
-/// Tests all strings against all patterns `times` times, where `/` separates, and returns the
-/// number of matches, modulo 2^64. Returns `usize::MAX` where a pattern isn't well formed, or an
-/// allocation failed. The patterns are compiled once, and are the bytes, cut into pieces of these
-/// lengths, as the strings are.
+/// Tests all strings against all patterns `times` times, where `/` separates, without regard to case
+/// if `folds` is set, and returns the number of matches, modulo 2^64. Returns `usize::MAX` where a
+/// pattern isn't well formed, or an allocation failed. The patterns are compiled once, and are the
+/// bytes, cut into pieces of these lengths, as the strings are.
 #[unsafe(no_mangle)]
 pub extern "C" fn port_set_matches(
     alloc: Global,
     patterns: &[u8],
     pattern_lens: &[usize],
+    folds: bool,
     raw: &[u8],
     lens: &[usize],
     times: usize,
@@ -58,7 +65,7 @@ pub extern "C" fn port_set_matches(
     requires patterns { Fit pattern_lens.now patterns.now }
     requires strings { Fit lens.now raw.now }
 {
-    let Some(set) = set_of(alloc, patterns, pattern_lens) else {
+    let Some(set) = set_of(alloc, patterns, pattern_lens, folds) else {
         return usize::MAX;
     };
     let mut found = Vec::new(alloc);
@@ -81,6 +88,7 @@ pub extern "C" fn port_set_is_match(
     alloc: Global,
     patterns: &[u8],
     pattern_lens: &[usize],
+    folds: bool,
     raw: &[u8],
     lens: &[usize],
     times: usize,
@@ -88,7 +96,7 @@ pub extern "C" fn port_set_is_match(
     requires patterns { Fit pattern_lens.now patterns.now }
     requires strings { Fit lens.now raw.now }
 {
-    let Some(set) = set_of(alloc, patterns, pattern_lens) else {
+    let Some(set) = set_of(alloc, patterns, pattern_lens, folds) else {
         return usize::MAX;
     };
     let mut count: usize = 0;
@@ -141,13 +149,15 @@ fn set_is_match(set: &GlobSet<Unix>, raw: &[u8], lens: &[usize]) -> usize
 }
 
 /// The set of the patterns of these lengths.
-fn set_of(alloc: Global, patterns: &[u8], lens: &[usize]) -> Option<GlobSet<Unix>>
+fn set_of(alloc: Global, patterns: &[u8], lens: &[usize], folds: bool) -> Option<GlobSet<Unix>>
     requires { Fit lens.now patterns.now }
 {
+    let mut options = options(true);
+    options.case_insensitive = folds;
     let Ok(strings) = strings_of(alloc, patterns, lens) else {
         return None;
     };
-    match GlobSet::new(alloc, options(true), &strings) {
+    match GlobSet::new(alloc, options, &strings) {
         Ok(set) => Some(set),
         Err(_) => None,
     }
