@@ -11,5 +11,6 @@ pub mod Names
 pub mod WordsBack
 pub mod Decided
 pub mod Pointed
+pub mod Placed
 pub mod Wide
 pub mod Entries

@@ -1,5 +1,6 @@
 -- What the options and operands of the command line request.
-use Rattle.std.specs.Prelude.{◌≡◌, ◌≢◌, ◌⊎◌, ◌↔◌, ℕ, ◌<◌, ◌^◌, Bool, true, false, IsTrue, List, [], ◌∷◌, map, string_bytes, None, Some, codes}
+use Rattle.std.specs.Prelude.{◌≡◌, ◌≢◌, ◌⊎◌, ◌↔◌, ℕ, ◌<◌, ◌^◌, Bool, true, false, IsTrue, List, [], ◌∷◌, ◌++◌, map, string_bytes, None, Some, codes}
+use Rattle.std.specs.List.{AllByRecursion}
 use Rattle.std.specs.Str.Parse.{IsNumeral, digits_value, without_leading_plus}
 use Rattle.glob_patterns.specs.declared.options.GlobOptions.{GlobOptions}
 use Rattle.glob_patterns.specs.Options.{usual_options}
@@ -18,6 +19,7 @@ use Rattle.list_programs.specs.declared.misuse.Misuse.{Misuse}
 use Rattle.list_programs.specs.declared.misuse.Misuse.TheVariants.{Argument, Missing, Invalid, Misplaced}
 use Rattle.program_frame.specs.declared.os.Os.{Os}
 use Rattle.program_frame.specs.declared.os.Os.TheVariants.{Unix, Windows, Wasm}
+use Rattle.names_commands.specs.Ignoring.{IsPlaced}
 use Rattle.names_commands.specs.Operands.{HasPlatform}
 use Rattle.names_commands.specs.Options.{word_of}
 use Rattle.names_commands.specs.Pick.{ArePatterns, TakesIgnore}
@@ -241,9 +243,9 @@ requested_of request = record {
   excluded = map string_bytes request.excluded.items;
 }
 
--- these state the patterns, the ignore files, whether the other names are picked, whether case is disregarded, and the patterns of names that are left out
+-- these state the patterns, the ignore files, each in a directory of the tree, whether the other names are picked, whether case is disregarded, and the patterns of names that are left out
 abbrev pub StatesPicks : Line → Requested → Type 0
-StatesPicks given a = ArePatterns given a.plain a.globs × (AreValues option.Ignore given a.files × ((IsTrue a.inverted ↔ HasOption option.Invert given) × ((IsTrue a.case_insensitive ↔ HasOption option.IgnoreCase given) × AreValues option.Exclude given a.excluded)))
+StatesPicks given a = ArePatterns given a.plain a.globs × ((AreValues option.Ignore given a.files × AllByRecursion IsPlaced a.files) × ((IsTrue a.inverted ↔ HasOption option.Invert given) × ((IsTrue a.case_insensitive ↔ HasOption option.IgnoreCase given) × AreValues option.Exclude given a.excluded)))
 
 -- these make up the request: help, wherever its option is; the version; or a command
 abbrev pub IsRequestFor : Line → Requested → Type 0
@@ -261,11 +263,12 @@ IsMissing given what =
     ⊎ (((what ≡ codes "GLOB, --glob, --name, --ignore or --exclude") × ((command : Name) × (os : Os) × (HasOperands given command os [] × (NeedsPick given command × (¬ (SomePicked given []))))))
     ⊎ ((what ≡ codes "--ignore") × ((os : Os) × (HasOperands given name.Why os [] × (¬ (HasOption option.Ignore given))))))
 
--- which word is no command or no number of bytes
+-- which word is no command or no number of bytes, or states an ignore file in no directory of the tree
 abbrev pub IsInvalid : Line → List ℕ → List ℕ → Type 0
 IsInvalid given what word =
     ((what ≡ codes "command") × (((command : Name) → word ≢ name_word command) × ((more : List (List ℕ)) × (operands_of given ≡ word ∷ more))))
-    ⊎ ((what ≡ codes "number of bytes") × (LastValue option.Max given None (Some word) × ((max : ℕ) → ¬ (IsLimit word max))))
+    ⊎ (((what ≡ codes "number of bytes") × (LastValue option.Max given None (Some word) × ((max : ℕ) → ¬ (IsLimit word max))))
+    ⊎ ((what ≡ codes "DIR of --ignore") × ((before : List (List ℕ)) × (after : List (List ℕ)) × (AreValues option.Ignore given (before ++ word ∷ after) × (¬ (IsPlaced word))))))
 
 -- the platform takes the option: words of a shell are for Unix, and ignore files aren't for Windows
 abbrev pub IsForPlatform : Os → NamesOption → Type 0

@@ -1,7 +1,8 @@
 -- Which names ignore files leave out.
-use Rattle.std.specs.Prelude.{◌≡◌, ◌≢◌, ◌⊎◌, ◌+◌, ℕ, Bool, true, false, nat_eq, ◌&&◌, cond, List, [], ◌∷◌, ◌++◌, map, length}
+use Rattle.std.specs.Prelude.{◌≡◌, ◌≢◌, ◌⊎◌, ◌+◌, ℕ, Bool, true, false, nat_eq, ◌&&◌, cond, List, [], ◌∷◌, ◌++◌, map, length, codes}
 use Rattle.std.specs.List.{AllByRecursion}
 use denote.Ref.{Bor}
+use Rattle.os_ignore.specs.Components.{pieces}
 use Rattle.os_ignore.specs.Ignores.{IsAddedTo}
 use Rattle.os_ignore.specs.Verdicts.{IsVerdict, is_ignored}
 use Rattle.os_ignore.specs.declared.file.File.{File}
@@ -25,6 +26,22 @@ abbrev pub IsDirectory : List ℕ → List ℕ → Type 0
 IsDirectory word directory =
     ((word ≡ 0x2E ∷ []) × (directory ≡ []))
     ⊎ ((word ≢ 0x2E ∷ []) × ((is_dir : Bool) × IsPath (without_dot word) directory is_dir))
+
+-- a component is no name: it is empty, `.` or `..`
+abbrev pub IsNoName : List ℕ → Type 0
+IsNoName component = (component ≡ []) ⊎ ((component ≡ codes ".") ⊎ (component ≡ codes ".."))
+
+-- the path leads down from the top of the tree: each of its components is a name
+abbrev pub LeadsDown : List ℕ → Type 0
+LeadsDown path = AllByRecursion (λ component. ¬ (IsNoName component)) (pieces 0x2F path)
+
+-- the word is a directory of the tree: `.` and `./` and nothing are its top, and else it is a path that leads down from there, with or without `./` before it and `/` at its end
+abbrev pub IsInside : List ℕ → Type 0
+IsInside word = (word ≡ codes ".") ⊎ ((without_dot word ≡ []) ⊎ ((path : List ℕ) × (is_dir : Bool) × (IsPath (without_dot word) path is_dir × LeadsDown path)))
+
+-- a value of `--ignore` is FILE, or DIR=FILE with a directory of the tree
+abbrev pub IsPlaced : List ℕ → Type 0
+IsPlaced value = (word name : List ℕ) → IsCutAt 0x3D value word name → IsInside word
 
 -- a value of `--ignore` states an ignore file and its directory: FILE is at the top of the tree, and DIR=FILE in DIR, which ends at the first `=`
 abbrev pub IsFileIn : List ℕ → List ℕ → List ℕ → Type 0

@@ -7,6 +7,7 @@ ghost use Rattle.names_commands.specs.declared.command.Name.TheVariants.{Filter 
 
 use crate::fitting::{fits, ignores, no_operand, words};
 use crate::given::{LONGEST_NAME, empty_line, form_of, listed, picks, platform_of};
+use crate::ignoring::first_outside;
 use crate::matching::Form;
 use crate::option::NamesOption;
 use crate::pick::{excluded_of, patterns_of};
@@ -117,6 +118,9 @@ impl<'a, A: Allocator + Copy> Request<'a, A> {
         };
         let (patterns, plain) = patterns_of(alloc, given)?;
         let files = values(alloc, given, NamesOption::Ignore)?;
+        if let Some(value) = first_outside(&files) {
+            return Err(RequestError::Misuse(Misuse::Invalid("DIR of --ignore", value)));
+        }
         let inverted = has(given, NamesOption::Invert);
         let case_insensitive = has(given, NamesOption::IgnoreCase);
         let excluded = excluded_of(alloc, given)?;

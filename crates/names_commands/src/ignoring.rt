@@ -1,9 +1,10 @@
 //! Names that ignore files leave out.
-ghost use Rattle.std.specs.Prelude.{◌≡◌, ◌↔◌, ◌⊎◌, ◌+◌, ◌<◌, ◌∷◌, [], ℕ, List, map, length, drop, IsTrue, IfErr, IfOk, IfSome, MatchOption, MatchResult, OnOk};
+ghost use Rattle.std.specs.Prelude.{◌≡◌, ◌↔◌, ◌⊎◌, ◌+◌, ◌<◌, ◌∷◌, ◌++◌, [], ℕ, List, map, length, drop, IsTrue, IfErr, IfOk, IfSome, MatchOption, MatchResult, OnOk};
+ghost use Rattle.std.specs.List.{AllByRecursion};
 ghost use Rattle.std.specs.Str.{IsUtf8};
 ghost use Rattle.os_ignore.specs.Ignores.{IsAddedTo, files_of};
 ghost use Rattle.os_ignore.specs.Walks.{files_of_walk};
-ghost use Rattle.names_commands.specs.Ignoring.{AreRead, IsDirectory, IsFileIn, IsIgnored, IsPath, text_of, without_dot};
+ghost use Rattle.names_commands.specs.Ignoring.{AreRead, IsDirectory, IsFileIn, IsIgnored, IsInside, IsNoName, IsPath, IsPlaced, LeadsDown, text_of, without_dot};
 ghost use Rattle.names_commands.specs.Why.{IsDecided, numbers_of};
 ghost use Rattle.program_frame.specs.declared.fault.Failure.TheVariants.{Memory};
 ghost use Rattle.list_programs.specs.declared.fault.ListFault.TheVariants.{Run};
@@ -154,6 +155,65 @@ fn directory_of(word: &[u8]) -> &[u8]
     }
     let (path, _) = path_of(without_dot(word));
     path
+}
+
+/// The first value of `--ignore` that states an ignore file in no directory of the tree.
+pub(crate) fn first_outside<'a>(values: &[&'a str]) -> Option<&'a str>
+    ensures { MatchOption result (AllByRecursion IsPlaced (map text_of values.now))
+        (λ value. (before : List (List ℕ)) × ((after : List (List ℕ))
+        × ((map text_of values.now ≡ before ++ value.now ∷ after) × (¬ (IsPlaced value.now))))) }
+{
+    let mut passed = 0;
+    while let Some(value) = value_at(values, passed) {
+        if !is_placed(value.as_bytes()) {
+            return Some(value);
+        }
+        passed += 1;
+    }
+    None
+}
+
+/// Whether a value of `--ignore` states a file in a directory of the tree.
+fn is_placed(value: &[u8]) -> bool
+    ensures { IsTrue result ↔ IsPlaced value.now }
+{
+    match split_at_end(b'=', value) {
+        Some((directory, _)) => is_inside(directory),
+        None => true,
+    }
+}
+
+/// Whether a word is a directory of the tree.
+fn is_inside(word: &[u8]) -> bool
+    ensures { IsTrue result ↔ IsInside word.now }
+{
+    let below = without_dot(word);
+    let (path, _) = path_of(below);
+    word == b".".as_slice() || below.is_empty() || leads_down(path)
+}
+
+/// Whether each component of a path is a name.
+fn leads_down(path: &[u8]) -> bool
+    ensures { IsTrue result ↔ LeadsDown path.now }
+{
+    let mut left = path;
+    while let Some((first, rest)) = split_at_end(b'/', left) {
+        if is_no_name(first) {
+            return false;
+        }
+        left = rest;
+    }
+    !is_no_name(left)
+}
+
+/// Whether a component is empty, `.` or `..`.
+fn is_no_name(component: &[u8]) -> bool
+    ensures { IsTrue result ↔ IsNoName component.now }
+{
+    if component.is_empty() {
+        return true;
+    }
+    component == b".".as_slice() || component == b"..".as_slice()
 }
 
 /// Reads the ignore file with this number, which a value states, and adds it to those before it.

@@ -10,6 +10,7 @@ use Rattle.os_ignore.specs.declared.file.File.{File}
 use Rattle.program_frame.specs.Ended.{status_after}
 use Rattle.program_frame.specs.Files.{KnownFiles}
 use Rattle.list_programs.proofs.lemmas.Items.{has_end}
+use Rattle.names_commands.proofs.lemmas.Placed.{placed_whole}
 use Rattle.list_programs.specs.Items.{Lacks}
 use Rattle.program_frame.specs.Os.{os_word}
 use Rattle.list_programs.specs.ListRun.{IsRun, answer_of}
@@ -148,6 +149,11 @@ case_is true false is = let never : false ≡ true = is.1 (inl refl) in absurd (
 case_is false true is = absurd (is.0 refl)
 case_is false false is = refl
 
+-- a value without `=` is the name of a file at the top
+pub at_top : (value directory name : List ℕ) → Lacks 0x3D value → IsFileIn value directory name → (directory ≡ []) × (name ≡ value)
+at_top value directory name lacks (inl plain) = plain.1
+at_top value directory name lacks (inr placed) = absurd (has_end 0x3D value placed.0 name placed.1.0 lacks)
+
 -- the file is the only one that the options state, and there is no pattern
 module _ (folds : Bool) (command platform value : Bor (List ℕ)) where
   abbrev pub given_of : Line
@@ -263,10 +269,10 @@ module _ (folds : Bool) (command platform value : Bor (List ℕ)) where
   no_operand is own has = has.2.1 ∙ ap first_of (is_unix is has.0 has.1 has.2.0).1
 
   -- no pattern is stated, and this ignore file
-  pub states_one : platform.now ≡ codes "unix" → (requested : Command) (list : ListOptions) → StatesPicks given_of (record { command = requested; list = list; plain = 0; globs = []; files = value.now ∷ []; inverted = false; case_insensitive = folds; excluded = [] })
-  states_one is requested list = (
+  pub states_one : platform.now ≡ codes "unix" → Lacks 0x3D value.now → (requested : Command) (list : ListOptions) → StatesPicks given_of (record { command = requested; list = list; plain = 0; globs = []; files = value.now ∷ []; inverted = false; case_insensitive = folds; excluded = [] })
+  states_one is plain requested list = (
     ([], [], [], ((Unix, [], (has_unix is, refl)), (none_stated option.Glob (λ e. cc), (none_stated option.Name (λ e. cc), (refl, refl))))),
-    (inr (λ v h. h, inr (λ v h. h, inl (value.now, [], ((refl, refl), (none_in_case folds option.Ignore, refl))))), (none_inverted, (states_case, none_stated option.Exclude (λ e. cc)))),
+    ((inr (λ v h. h, inr (λ v h. h, inl (value.now, [], ((refl, refl), (none_in_case folds option.Ignore, refl))))), (placed_whole value.now plain, tt)), (none_inverted, (states_case, none_stated option.Exclude (λ e. cc)))),
   )
 
 -- all names are picked, but for those that the files ignore
@@ -299,7 +305,7 @@ module _ (known : KnownFiles) (A : Type 0) (folds : Bool) (file : List ℕ) (inp
       (subst (λ w. RunsBut known A (strings Unix) Name requested.list requested.inverted folds (IsChosen (strings Unix) (options_of Unix folds) compiled.0) (IsMatched (strings Unix) (options_of Unix folds) w) requested.files input left old new answer) without
       (subst (λ z. RunsBut known A (strings Unix) Name requested.list requested.inverted z (IsChosen (strings Unix) (options_of Unix z) compiled.0) (IsMatched (strings Unix) (options_of Unix z) compiled.1) requested.files input left old new answer) cased compiled.3.1))))))
 
-  module _ (command platform value : Bor (List ℕ)) (is_command : command.now ≡ codes "filter") (is_platform : platform.now ≡ codes "unix") (is_file : value.now ≡ file) where
+  module _ (command platform value : Bor (List ℕ)) (is_command : command.now ≡ codes "filter") (is_platform : platform.now ≡ codes "unix") (is_file : value.now ≡ file) (plain : Lacks 0x3D file) where
     abbrev given : Line
     given = given_of folds command platform value
 
@@ -311,7 +317,7 @@ module _ (known : KnownFiles) (A : Type 0) (folds : Bool) (file : List ℕ) (inp
         let more : patterns.1 ≡ [] = no_values folds command platform value option.Glob (λ e. cc) patterns.1 patterns.3.1.0 in
         let of_names : patterns.2 ≡ [] = no_values folds command platform value option.Name (λ e. cc) patterns.2 patterns.3.1.1.0 in
         let globs_are : requested.globs ≡ [] = patterns.3.1.1.1.0 ∙ ap (λ x. (x ++ patterns.1) ++ map in_any_folder patterns.2) own ∙ ap (λ x. x ++ map in_any_folder patterns.2) more ∙ ap (map in_any_folder) of_names in
-        let files_are : requested.files ≡ file ∷ [] = one_file folds command platform value requested.files states.1.0 ∙ ap (λ x. x ∷ []) is_file in
+        let files_are : requested.files ≡ file ∷ [] = one_file folds command platform value requested.files states.1.0.0 ∙ ap (λ x. x ∷ []) is_file in
         let excluded : requested.excluded ≡ [] = no_values folds command platform value option.Exclude (λ e. cc) requested.excluded states.1.1.1.1 in
         ran requested globs_are excluded is_usual (not_inverted folds command platform value requested.inverted states.1.1.0) (is_case folds command platform value requested.case_insensitive states.1.1.1.0) files_are runs
 
@@ -356,7 +362,7 @@ module _ (known : KnownFiles) (A : Type 0) (folds : Bool) (file : List ℕ) (inp
     makes_up = ([], (operands, ((tt, (tt, (tt, case_fits folds name.Filter tt))), (tt, (inr (inr (inl (inr (inr (inl refl))))), λ h. tt)))))
 
     some : (requested : Requested) × IsRequestFor given requested
-    some = (record { command = On Unix (Picked Name); list = usual; plain = 0; globs = []; files = value.now ∷ []; inverted = false; case_insensitive = folds; excluded = [] }, inr (no_help folds command platform value, inr (no_version folds command platform value, (is_usual folds command platform value, (makes_up, states_one folds command platform value is_platform (On Unix (Picked Name)) usual)))))
+    some = (record { command = On Unix (Picked Name); list = usual; plain = 0; globs = []; files = value.now ∷ []; inverted = false; case_insensitive = folds; excluded = [] }, inr (no_help folds command platform value, inr (no_version folds command platform value, (is_usual folds command platform value, (makes_up, states_one folds command platform value is_platform (subst (Lacks 0x3D) (sym is_file) plain) (On Unix (Picked Name)) usual)))))
 
     not_rejected : RejectsLine known A given input left old new answer → ⊥
     not_rejected r = r.2.0.0.no_request some.0 some.1
@@ -366,23 +372,18 @@ module _ (known : KnownFiles) (A : Type 0) (folds : Bool) (file : List ℕ) (inp
     of_line (inr does) = by_request does.0 does.1.0 does.1.1
 
 -- what the program does for the words
-pub filters : OneWord → OneValue → (known : KnownFiles) (A : Type 0) (folds : Bool) (file : List ℕ) (words : List (List ℕ)) (input left old new : Option (List ℕ)) (answer : Result ⊤ Fault) → words ≡ filtering folds file → RunsTo known A words input left old new answer → Filters known A folds file input left old new answer
-filters one_word one_value known A folds file words input left old new answer are runs = by (subst (λ w. RunsTo known A w input left old new answer) are runs)
+pub filters : OneWord → OneValue → (known : KnownFiles) (A : Type 0) (folds : Bool) (file : List ℕ) → Lacks 0x3D file → (words : List (List ℕ)) (input left old new : Option (List ℕ)) (answer : Result ⊤ Fault) → words ≡ filtering folds file → RunsTo known A words input left old new answer → Filters known A folds file input left old new answer
+filters one_word one_value known A folds file plain words input left old new answer are runs = by (subst (λ w. RunsTo known A w input left old new answer) are runs)
   where
     line : (given : Line) → AreGiven spelled has_value (filtering folds file) given → RunsLine known A given input left old new answer → Filters known A folds file input left old new answer
     line given read runs =
         let is = are_asking one_word one_value name.Filter folds file given read in
-        of_line known A folds file input left old new answer is.command is.platform is.value is.command_is is.platform_is is.value_is (subst (λ g. RunsLine known A g input left old new answer) is.given_are runs)
+        of_line known A folds file input left old new answer is.command is.platform is.value is.command_is is.platform_is is.value_is plain (subst (λ g. RunsLine known A g input left old new answer) is.given_are runs)
 
     by : RunsTo known A (filtering folds file) input left old new answer → Filters known A folds file input left old new answer
     by (inl memory) = inl memory
     by (inr (inl rejected)) = absurd (no_fault_of one_word one_value name.Filter folds file (fault_of rejected.0) rejected.2.0.0)
     by (inr (inr does)) = line does.0 does.1.0 does.1.1
-
--- a value without `=` is the name of a file at the top
-pub at_top : (value directory name : List ℕ) → Lacks 0x3D value → IsFileIn value directory name → (directory ≡ []) × (name ≡ value)
-at_top value directory name lacks (inl plain) = plain.1
-at_top value directory name lacks (inr placed) = absurd (has_end 0x3D value placed.0 name placed.1.0 lacks)
 
 -- the file that was read is the only one
 module _ {A : Type 0} (folds : Bool) (name bytes : List ℕ) where
@@ -476,11 +477,11 @@ module _ (A : Type 0) (folds : Bool) (file bytes name : List ℕ) (whole : Lacks
 module _ (one_word : OneWord) (one_value : OneValue) (A : Type 0) (folds : Bool) (file bytes name : List ℕ) (whole : Lacks 0 name) (words : List (List ℕ)) (words_are : words ≡ filtering folds file) (left old new : Option (List ℕ)) where
   pub program_written : {X : Type 0} (names : List ℕ) (outcome answer : Result ⊤ Fault) → Lacks 0x3D file → names ≡ name ++ 0 ∷ [] → answer ≡ outcome → ((outcome ≡ Err (OfList (Run Memory))) × X) ⊎ RunsTo (only file bytes) A words (Some names) left old new outcome → OnOk answer ((text : List ℕ) × (IsFilteredBy A folds bytes name text × Appends old new text))
   program_written names outcome answer plain ended e (inl memory) = err_written A folds file bytes name plain whole left old new answer _ (e ∙ memory.0)
-  program_written names outcome answer plain ended e (inr runs) = subst (Written A folds file bytes name plain whole left old new) (sym e) (written A folds file bytes name plain whole left old new outcome (subst (λ n. Filters (only file bytes) A folds file (Some n) left old new outcome) ended (filters one_word one_value (only file bytes) A folds file words (Some names) left old new outcome words_are runs)))
+  program_written names outcome answer plain ended e (inr runs) = subst (Written A folds file bytes name plain whole left old new) (sym e) (written A folds file bytes name plain whole left old new outcome (subst (λ n. Filters (only file bytes) A folds file (Some n) left old new outcome) ended (filters one_word one_value (only file bytes) A folds file plain words (Some names) left old new outcome words_are runs)))
 
-  pub program_unended : {X : Type 0} (outcome answer : Result ⊤ Fault) → name ≢ [] → answer ≡ outcome → ((outcome ≡ Err (OfList (Run Memory))) × X) ⊎ RunsTo (only file bytes) A words (Some name) left old new outcome → ¬ (IsOk answer)
-  program_unended outcome answer some e (inl memory) = not_err A folds file bytes name whole some left old new answer _ (e ∙ memory.0)
-  program_unended outcome answer some e (inr runs) = λ ok. not_written A folds file bytes name whole some left old new outcome (filters one_word one_value (only file bytes) A folds file words (Some name) left old new outcome words_are runs) (subst IsOk e ok)
+  pub program_unended : {X : Type 0} (outcome answer : Result ⊤ Fault) → Lacks 0x3D file → name ≢ [] → answer ≡ outcome → ((outcome ≡ Err (OfList (Run Memory))) × X) ⊎ RunsTo (only file bytes) A words (Some name) left old new outcome → ¬ (IsOk answer)
+  program_unended outcome answer plain some e (inl memory) = not_err A folds file bytes name whole some left old new answer _ (e ∙ memory.0)
+  program_unended outcome answer plain some e (inr runs) = λ ok. not_written A folds file bytes name whole some left old new outcome (filters one_word one_value (only file bytes) A folds file plain words (Some name) left old new outcome words_are runs) (subst IsOk e ok)
 
 -- the status where there is no such file
 pub status_unread : (outcome answer : Result ⊤ Fault) (status : ℕ) → answer ≡ outcome → status ≡ status_after (status_of words_status) outcome
@@ -493,4 +494,4 @@ pub end_of : OneWord → OneValue → (A : Type 0) (folds : Bool) (file bytes ot
     → ((outcome ≡ Err (OfList (Run Memory))) × ((read ≡ reader) × (wrote ≡ writer))) ⊎ RunsTo (only file bytes) A words (reads reader) (reads read) (writes writer) (writes wrote) outcome
     → EndsUnread (reads reader) (reads read) (writes writer) (writes wrote) outcome
 end_of one_word one_value A folds file bytes other plain differs words are reads writes reader read writer wrote outcome (inl memory) = record { fault = inr memory.0; kept = ap reads memory.1.0; nothing = ap writes memory.1.1 }
-end_of one_word one_value A folds file bytes other plain differs words are reads writes reader read writer wrote outcome (inr runs) = ends_unread A folds file bytes other plain differs (reads reader) (reads read) (writes writer) (writes wrote) outcome (filters one_word one_value (only file bytes) A folds other words (reads reader) (reads read) (writes writer) (writes wrote) outcome are runs)
+end_of one_word one_value A folds file bytes other plain differs words are reads writes reader read writer wrote outcome (inr runs) = ends_unread A folds file bytes other plain differs (reads reader) (reads read) (writes writer) (writes wrote) outcome (filters one_word one_value (only file bytes) A folds other plain words (reads reader) (reads read) (writes writer) (writes wrote) outcome are runs)

@@ -83,13 +83,13 @@ module _ (known : KnownFiles) (A : Type 0) (file : List ℕ) (input left old new
   abbrev pub Explains : Type 0
   Explains = Reasons usual false (file ∷ [])
 
-  module _ (command platform value : Bor (List ℕ)) (is_command : command.now ≡ codes "why") (is_platform : platform.now ≡ codes "unix") (is_file : value.now ≡ file) where
+  module _ (command platform value : Bor (List ℕ)) (is_command : command.now ≡ codes "why") (is_platform : platform.now ≡ codes "unix") (is_file : value.now ≡ file) (plain : Lacks 0x3D file) where
     abbrev given : Line
     given = given_of false command platform value
 
     decided : (requested : Requested) → requested.list ≡ usual → StatesPicks given requested → DoesWork known A (strings Unix) requested Unix Why input left old new answer → Explains
     decided requested is_usual states runs =
-        let files_are : requested.files ≡ file ∷ [] = one_file false command platform value requested.files states.1.0 ∙ ap (λ x. x ∷ []) is_file in
+        let files_are : requested.files ≡ file ∷ [] = one_file false command platform value requested.files states.1.0.0 ∙ ap (λ x. x ∷ []) is_file in
         let cased = is_case false command platform value requested.case_insensitive states.1.1.1.0 in
         subst (λ m. Reasons m false (file ∷ [])) is_usual (subst (λ folds. Reasons requested.list folds (file ∷ [])) cased (subst (λ files. Reasons requested.list requested.case_insensitive files) files_are runs))
 
@@ -134,7 +134,7 @@ module _ (known : KnownFiles) (A : Type 0) (file : List ℕ) (input left old new
     makes_up = (operands, ((tt, (tt, (tt, tt))), (inr (inr (inl refl)), tt)))
 
     some : (requested : Requested) × IsRequestFor given requested
-    some = (record { command = On Unix Why; list = usual; plain = 0; globs = []; files = value.now ∷ []; inverted = false; case_insensitive = false; excluded = [] }, inr (no_help false command platform value, inr (no_version false command platform value, (is_usual false command platform value, (makes_up, states_one false command platform value is_platform (On Unix Why) usual)))))
+    some = (record { command = On Unix Why; list = usual; plain = 0; globs = []; files = value.now ∷ []; inverted = false; case_insensitive = false; excluded = [] }, inr (no_help false command platform value, inr (no_version false command platform value, (is_usual false command platform value, (makes_up, states_one false command platform value is_platform (subst (Lacks 0x3D) (sym is_file) plain) (On Unix Why) usual)))))
 
     not_rejected : RejectsLine known A given input left old new answer → ⊥
     not_rejected r = r.2.0.0.no_request some.0 some.1
@@ -144,13 +144,13 @@ module _ (known : KnownFiles) (A : Type 0) (file : List ℕ) (input left old new
     of_line (inr does) = by_request does.0 does.1.0 does.1.1
 
 -- what the program does for the words
-explains : OneWord → OneValue → (known : KnownFiles) (A : Type 0) (file : List ℕ) (words : List (List ℕ)) (input left old new : Option (List ℕ)) (answer : Result ⊤ Fault) → words ≡ explaining file → RunsTo known A words input left old new answer → Explains known A file input left old new answer
-explains one_word one_value known A file words input left old new answer are runs = by (subst (λ w. RunsTo known A w input left old new answer) are runs)
+explains : OneWord → OneValue → (known : KnownFiles) (A : Type 0) (file : List ℕ) → Lacks 0x3D file → (words : List (List ℕ)) (input left old new : Option (List ℕ)) (answer : Result ⊤ Fault) → words ≡ explaining file → RunsTo known A words input left old new answer → Explains known A file input left old new answer
+explains one_word one_value known A file plain words input left old new answer are runs = by (subst (λ w. RunsTo known A w input left old new answer) are runs)
   where
     line : (given : Line) → AreGiven spelled has_value (explaining file) given → RunsLine known A given input left old new answer → Explains known A file input left old new answer
     line given read runs =
         let is = are_asking one_word one_value name.Why false file given read in
-        of_line known A file input left old new answer is.command is.platform is.value is.command_is is.platform_is is.value_is (subst (λ g. RunsLine known A g input left old new answer) is.given_are runs)
+        of_line known A file input left old new answer is.command is.platform is.value is.command_is is.platform_is is.value_is plain (subst (λ g. RunsLine known A g input left old new answer) is.given_are runs)
 
     by : RunsTo known A (explaining file) input left old new answer → Explains known A file input left old new answer
     by (inl memory) = inl memory
@@ -206,4 +206,4 @@ module _ (A : Type 0) (file bytes item : List ℕ) (plain : Lacks 0x3D file) (wh
 module _ (one_word : OneWord) (one_value : OneValue) (A : Type 0) (file bytes item : List ℕ) (plain : Lacks 0x3D file) (whole : Lacks 0 item) (words : List (List ℕ)) (words_are : words ≡ explaining file) (left old new : Option (List ℕ)) where
   pub program_explained : {X : Type 0} (names : List ℕ) (outcome answer : Result ⊤ Fault) → names ≡ item ++ 0 ∷ [] → answer ≡ outcome → ((outcome ≡ Err (OfList (Run Memory))) × X) ⊎ RunsTo (only file bytes) A words (Some names) left old new outcome → OnOk answer ((text : List ℕ) × (IsExplainedBy A file bytes item text × Appends old new text))
   program_explained names outcome answer ended e (inl memory) = err_written A file bytes item plain whole left old new answer _ (e ∙ memory.0)
-  program_explained names outcome answer ended e (inr runs) = subst (Written A file bytes item plain whole left old new) (sym e) (written A file bytes item plain whole left old new outcome (subst (λ n. Explains (only file bytes) A file (Some n) left old new outcome) ended (explains one_word one_value (only file bytes) A file words (Some names) left old new outcome words_are runs)))
+  program_explained names outcome answer ended e (inr runs) = subst (Written A file bytes item plain whole left old new) (sym e) (written A file bytes item plain whole left old new outcome (subst (λ n. Explains (only file bytes) A file (Some n) left old new outcome) ended (explains one_word one_value (only file bytes) A file plain words (Some names) left old new outcome words_are runs)))

@@ -14,7 +14,7 @@ use Rattle.names_commands.specs.Why.{LinesAreKnown, numbers_of}
 
 -- what is so of all elements is so of one, and of all with one more between
 module _ {X : Type 0} (P : X → Type 0) where
-  within : (front : List X) (x : X) (back : List X) → AllByRecursion P (front ++ x ∷ back) → P x
+  pub within : (front : List X) (x : X) (back : List X) → AllByRecursion P (front ++ x ∷ back) → P x
   within [] x back a = a.0
   within (y ∷ front) x back a = within front x back a.1
 

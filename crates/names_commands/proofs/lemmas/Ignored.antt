@@ -18,7 +18,7 @@ use Rattle.names_commands.specs.declared.fault.CommandFault.TheVariants.{NoFile,
 use Rattle.names_commands.proofs.lemmas.Picks.{pushed}
 
 -- a name is one path
-one_path : (name p q : List ℕ) (d e : Bool) → IsPath name p d → IsPath name q e → (p ≡ q) × (d ≡ e)
+pub one_path : (name p q : List ℕ) (d e : Bool) → IsPath name p d → IsPath name q e → (p ≡ q) × (d ≡ e)
 one_path name p q true true a b = (append_cancel_right p q (0x2F ∷ []) (sym a ∙ b), refl)
 one_path name p q true false a b = absurd (b.1 p a)
 one_path name p q false true a b = absurd (a.1 q b)

@@ -1,6 +1,7 @@
 -- Options and operands that make up a command have nothing wrong with them.
 use Rattle.std.proofs.Common.{◌≡◌, ◌⊎◌, ℕ, nat_eq, cond, List, [], ◌∷◌, get_or, Bool, true, false, Option, Some, None, inl, inr, refl, sym, ap, ◌∙◌, subst}
-use Rattle.list_programs.specs.Arguments.{HasOption, HasValue, IsOf, LastValue}
+use Rattle.std.specs.List.{AllByRecursion}
+use Rattle.list_programs.specs.Arguments.{AreValues, HasOption, HasValue, IsOf, LastValue}
 use Rattle.program_frame.specs.Os.{os_word}
 use Rattle.list_programs.specs.declared.arguments.Given.{Given}
 use Rattle.list_programs.specs.declared.arguments.Given.TheVariants.{Operand, Flag, Valued}
@@ -9,6 +10,7 @@ use Rattle.list_programs.specs.declared.misuse.Misuse.TheVariants.{Argument, Mis
 use Rattle.program_frame.specs.declared.os.Os.{Os}
 use Rattle.program_frame.specs.declared.os.Os.TheVariants.{Unix, Windows, Wasm}
 use Rattle.names_commands.specs.Command.{Requested, IsRequestFor, AtMostOne, Fits, FitsOne, HasOperands, IsForPlatform, IsInvalid, IsLimit, IsListed, IsMax, IsMisplaced, IsMissing, IsMisuse, IsTooMany, Line, Lists, MakesUp, MakesUpWork, NeedsPick, NoWords, Picks, SomePicked, StatesPicks, TakesOption, name_word}
+use Rattle.names_commands.specs.Ignoring.{IsPlaced}
 use Rattle.names_commands.specs.Operands.{HasPlatform, LacksPlatform}
 use Rattle.names_commands.specs.Pick.{TakesIgnore}
 use Rattle.names_commands.specs.declared.command.Command.{Command}
@@ -22,6 +24,7 @@ use Rattle.names_commands.specs.declared.option.NamesOption.{NamesOption}
 use Rattle.names_commands.specs.declared.option.NamesOption.TheVariants as option
 use Rattle.names_commands.specs.declared.task.Task.TheVariants.{ListAll, ListWords, Check, Join, JoinWords}
 use Rattle.names_commands.proofs.lemmas.Commands.{none_picked}
+use Rattle.names_commands.proofs.lemmas.Placed.{value_in}
 
 head_is : {X : Type 0} {x y : X} {xs ys : List X} → x ∷ xs ≡ y ∷ ys → x ≡ y
 head_is e = cc
@@ -229,15 +232,16 @@ module _ (given : Line) (m : IsMade given) where
       k.1.2.1.1 (subst (SomePicked given) same.1.1 (m.needs (subst (NeedsPick given) (sym same.0) k.1.2.1.0)))
   not_missing what (inr (inr k)) = k.1.1.1 (m.states (one_command given m.command name.Why m.os k.1.0 m.more [] m.operands k.1.1.0).0)
 
-  not_invalid : (max : ℕ) → IsMax given max → (what word : List ℕ) → IsInvalid given what word → ⊥
-  not_invalid max limit what word (inl k) = k.1.0 m.command (head_is (sym k.1.1.1 ∙ m.operands.1.0))
-  not_invalid max (inl limit) what word (inr k) =
+  not_invalid : (max : ℕ) → IsMax given max → (files : List (List ℕ)) → AreValues option.Ignore given files × AllByRecursion IsPlaced files → (what word : List ℕ) → IsInvalid given what word → ⊥
+  not_invalid max limit files placed what word (inl k) = k.1.0 m.command (head_is (sym k.1.1.1 ∙ m.operands.1.0))
+  not_invalid max (inl limit) files placed what word (inr (inl k)) =
       let never = one_last option.Max given None None (Some word) limit.0 k.1.0 in
       cc
-  not_invalid max (inr limit) what word (inr k) =
+  not_invalid max (inr limit) files placed what word (inr (inl k)) =
       let same = one_last option.Max given None (Some limit.0) (Some word) limit.1.0 k.1.0 in
       let is : limit.0 ≡ word = cc in
       k.1.1 max (subst (λ n. IsLimit n max) is limit.1.1)
+  not_invalid max limit files placed what word (inr (inr k)) = k.1.2.1 (value_in option.Ignore IsPlaced given files k.1.0 k.1.1 word placed.0 placed.1 k.1.2.0)
 
   not_misplaced : (word where_to : List ℕ) → IsMisplaced given word where_to → ⊥
   not_misplaced word where_to k = by k.unfit
@@ -261,11 +265,11 @@ module _ (given : Line) (m : IsMade given) where
       by command os more (inr k) (inl f) = k.0 (subst (λ c. TakesOption c option.Glob) (one_command given m.command command m.os os m.more (word ∷ more) m.operands k.1).0 f.0)
       by command os more (inr k) (inr f) = not_nil (sym f.1 ∙ (one_command given m.command command m.os os m.more (word ∷ more) m.operands k.1).1.1)
 
-  not_wrong : (max : ℕ) → IsMax given max → (wrong : misuse.Misuse) → IsMisuse given wrong → ⊥
-  not_wrong max limit (Argument error) k = not_too_many k.0 k.1.0
-  not_wrong max limit (Missing what) k = not_missing what.now k
-  not_wrong max limit (Invalid what word) k = not_invalid max limit what.now word.now k
-  not_wrong max limit (Misplaced word where_to) k = not_misplaced word.now where_to.now k
+  not_wrong : (max : ℕ) → IsMax given max → (files : List (List ℕ)) → AreValues option.Ignore given files × AllByRecursion IsPlaced files → (wrong : misuse.Misuse) → IsMisuse given wrong → ⊥
+  not_wrong max limit files placed (Argument error) k = not_too_many k.0 k.1.0
+  not_wrong max limit files placed (Missing what) k = not_missing what.now k
+  not_wrong max limit files placed (Invalid what word) k = not_invalid max limit files placed what.now word.now k
+  not_wrong max limit files placed (Misplaced word where_to) k = not_misplaced word.now where_to.now k
 
 -- what is wrong makes up no request, where no help and no version is requested
 pub no_request : (given : Line) → ¬ (HasOption option.Help given) → ¬ (HasOption option.Version given) → (wrong : misuse.Misuse) → IsMisuse given wrong → (requested : Requested) → ¬ (IsRequestFor given requested)
@@ -274,4 +278,4 @@ no_request given help version wrong k requested (inr h) = by h.1
   where
     by : ((HasOption option.Version given × (requested.command ≡ Version)) ⊎ ((¬ (HasOption option.Version given)) × (IsListed given requested.list × (MakesUp given requested.command × StatesPicks given requested)))) → ⊥
     by (inl v) = version v.0
-    by (inr c) = not_wrong given (made given requested.command c.1.1.0) c.1.0.0 c.1.0.1.0 wrong k
+    by (inr c) = not_wrong given (made given requested.command c.1.1.0) c.1.0.0 c.1.0.1.0 requested.files c.1.1.1.1.0 wrong k

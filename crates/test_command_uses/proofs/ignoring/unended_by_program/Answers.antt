@@ -8,5 +8,5 @@ pub returns : goal.returns
 returns g c =
     let file = c.args.file in
     program_unended c.one_outcome.ensures.next c.one_outcome.ensures.value g.row.A.Denot false file.name.now file.bytes.now c.args.name.now c.requires.whole _ c.requires.words _ _ _
-    (outcome_of c.execute.result) c.outcome.result c.requires.some c.outcome.ensures
+    (outcome_of c.execute.result) c.outcome.result c.requires.plain c.requires.some c.outcome.ensures
     (rw (c.new-names.ensures, c.new-reader.ensures.inner) at (of_run c.execute.ensures.run))
