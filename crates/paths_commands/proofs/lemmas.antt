@@ -1,5 +1,6 @@
 pub mod After
 pub mod Answers
+pub mod Commons
 pub mod Ended
 pub mod Found
 pub mod InMemory

@@ -28,7 +28,7 @@ use Rattle.paths_commands.specs.declared.command.Name.TheVariants as task_name
 use Rattle.paths_commands.specs.declared.option.PathsOption.{PathsOption}
 use Rattle.paths_commands.specs.declared.option.PathsOption.TheVariants as option
 use Rattle.paths_commands.specs.declared.task.Task.{Task}
-use Rattle.paths_commands.specs.declared.task.Task.TheVariants.{Components, Parent, Name as LastName, Stem, Extension, WithExtension, Normalize, Clean, StartsWith, Join, JoinChecked, Relative, Absolute, Convert}
+use Rattle.paths_commands.specs.declared.task.Task.TheVariants.{Components, Common, Parent, Name as LastName, Stem, Extension, WithExtension, Normalize, Clean, StartsWith, Join, JoinChecked, Relative, Absolute, Convert}
 
 -- options and operands, as they were given
 abbrev pub Line : Type 0
@@ -46,6 +46,7 @@ AreAfterEnd (word ∷ words) count = ((word ≡ codes "--") × (count ≡ length
 -- the task's operand is valid by these rules: a base or an extension that was tested follows them, and a directory is absolute
 abbrev pub HasStyle : Style → Task → Type 0
 HasStyle style Components = Unit {0}
+HasStyle style Common = Unit {0}
 HasStyle style Parent = Unit {0}
 HasStyle style LastName = Unit {0}
 HasStyle style Stem = Unit {0}
@@ -69,6 +70,7 @@ IsTaskOf name is_checked keeps os operands task =
 -- the task of this name needs an operand, which is called this
 abbrev pub Needs : Name → List ℕ → Type 0
 Needs task_name.Components what = ⊥
+Needs task_name.Common what = ⊥
 Needs task_name.Parent what = ⊥
 Needs task_name.Name what = ⊥
 Needs task_name.Stem what = ⊥
@@ -85,6 +87,7 @@ Needs task_name.Convert what = what ≡ codes "platform to convert to"
 -- how many operands the task of this name needs
 abbrev pub needed_count : Name → ℕ
 needed_count task_name.Components = 0
+needed_count task_name.Common = 0
 needed_count task_name.Parent = 0
 needed_count task_name.Name = 0
 needed_count task_name.Stem = 0

@@ -1,16 +1,19 @@
 -- The whole program, from the arguments after its name to its exit status.
 use Rattle.std.specs.Prelude.{◌≡◌, ◌≢◌, ◌⊎◌, ℕ, ◌<◌, Bool, true, false, List, [], ◌∷◌, ◌++◌, Option, Some, Result, Ok, Err, ⊤, IfErr, IsOk, length, take, codes}
+use Rattle.std.specs.Io.KnownBytes.{Appends}
+use Rattle.std.specs.List.{AllByRecursion}
 use Rattle.os_args.specs.Views.{fault_of}
 use Rattle.os_args.specs.declared.error.ArgumentError.{ArgumentError}
 use Rattle.os_str_bytes.specs.Wasm.{Wasm}
 use Rattle.os_str_bytes.specs.WasmPlatform.TheImpl as wasm
 use Rattle.platform_str.specs.declared.os_str.OsStr.{OsStr}
 use Rattle.list_programs.specs.Arguments.{HasFault, operands_of}
+use Rattle.list_programs.specs.Items.{Lacks}
 use Rattle.list_programs.specs.ListRun.{Runs}
 use Rattle.list_programs.specs.ProgramFault.{EndsRunOf}
 use Rattle.list_programs.specs.Rules.{ListRules, passing}
 use Rattle.program_frame.specs.Strings.{strings}
-use Rattle.program_frame.specs.Written.{WritesText}
+use Rattle.program_frame.specs.Written.{AppendsBeginning, WritesText}
 use Rattle.program_frame.specs.declared.fault.Failure.TheVariants.{Memory, Read, Write}
 use Rattle.list_programs.specs.declared.fault.ListFault.TheVariants.{Run}
 use Rattle.list_programs.specs.declared.options.ItemEnd.{ItemEnd}
@@ -23,8 +26,10 @@ use Rattle.list_programs.specs.declared.misuse.Misuse as misuse
 use Rattle.list_programs.specs.declared.misuse.Misuse.TheVariants.{Argument}
 use Rattle.program_frame.specs.declared.os.Os.{Os}
 use Rattle.paths_commands.specs.Command.{AreRead, IsRequestFor, IsMisuse, Line, RequestNothing, RequestsNothing, longest_path}
+use Rattle.paths_commands.specs.Common.{IsCommonText, IsUncommon}
 use Rattle.paths_commands.specs.Fault.{IsOfMisuse}
 use Rattle.paths_commands.specs.Options.{has_value, spelled}
+use Rattle.path_rules.specs.declared.rules.Style.{Style}
 use Rattle.paths_commands.specs.Styles.{style_of}
 use Rattle.paths_commands.specs.Task.{rules_of}
 use Rattle.paths_commands.specs.declared.command.Command.{Command}
@@ -33,6 +38,7 @@ use Rattle.paths_commands.specs.declared.fault.CommandFault.{CommandFault}
 use Rattle.paths_commands.specs.declared.fault.CommandFault.TheVariants.{PassedOver}
 use Rattle.paths_commands.specs.declared.fault.Rejection.{Rejection}
 use Rattle.paths_commands.specs.declared.task.Task.{Task}
+use Rattle.paths_commands.specs.declared.task.Task.TheVariants.{Common}
 
 -- what keeps the program from its output
 abbrev pub Fault : Type 0
@@ -72,15 +78,47 @@ abbrev pub WritesTextFrom : List ℕ → Doing
 WritesTextFrom start input left old new answer =
     (left ≡ input) × ((text : List ℕ) × ((take (length start) text ≡ start) × WritesText text (OfList (Run Write)) old new answer))
 
--- the task's result for a list of paths of the platform that is written so, where this byte ends each result and paths that are rejected may be passed over
-abbrev pub RunsTask : Bool → Os → Task → ListOptions → ItemEnd → Doing
-RunsTask false os task list end input left old new answer = Runs (rules_on os task list end) OfList input left old new answer
-RunsTask true os task list end input left old new answer = RunsPast (rules_on os task list end) input left old new answer
+-- the task's results for the paths of a list that is written so, where this byte ends each result and paths that are rejected may be passed over
+abbrev pub RunsEach : Bool → Os → Task → ListOptions → ItemEnd → Doing
+RunsEach false os task list end input left old new answer = Runs (rules_on os task list end) OfList input left old new answer
+RunsEach true os task list end input left old new answer = RunsPast (rules_on os task list end) input left old new answer
 
 -- a list of these paths, each ended by NUL
 abbrev pub list_text : List (List ℕ) → List ℕ
 list_text [] = []
 list_text (path ∷ paths) = (path ++ 0 ∷ []) ++ list_text paths
+
+-- these are the paths of a list, each ended by NUL
+abbrev pub AreListed : List ℕ → List (List ℕ) → Type 0
+AreListed held paths = AllByRecursion (Lacks 0) paths × ((rest : List ℕ) × (Lacks 0 rest × (held ≡ list_text paths ++ rest)))
+
+-- a run with this result has read all paths, some of which it may have passed over
+abbrev pub HasReadAll : Result ⊤ Fault → Type 0
+HasReadAll (Ok done) = Unit {0}
+HasReadAll (Err (OfList why)) = ⊥
+HasReadAll (Err (Words why)) = Unit {0}
+
+-- the result where a run over the paths ends early, or memory is refused
+abbrev pub EndsEarly : Result ⊤ Fault → Result ⊤ Fault → Type 0
+EndsEarly ran answer = (answer ≡ Err (OfList (Run Memory))) ⊎ ((¬ (HasReadAll ran)) × ((ran ≢ Err (OfList (Run Write))) × (answer ≡ ran)))
+
+-- what `common` writes for paths after a run that has read all, and its result
+abbrev pub WritesCommon : Style → ItemEnd → List (List ℕ) → Result ⊤ Fault → Option (List ℕ) → Option (List ℕ) → Result ⊤ Fault → Type 0
+WritesCommon style end paths ran old new answer =
+    ((text : List ℕ) × (IsCommonText style end paths text × (((answer ≡ ran) × Appends old new text) ⊎ ((answer ≡ Err (OfList (Run Write))) × AppendsBeginning old new text))))
+    ⊎ ((why : CommandFault) × (IsUncommon style end paths why × ((answer ≡ Err (Words why)) × (new ≡ old))))
+
+-- the common base of the paths that a run accepts. It is written once all are read
+abbrev pub RunsCommon : Bool → Os → ListOptions → ItemEnd → Doing
+RunsCommon keeps_going os list end input left old new answer =
+    (held : List ℕ) × ((ran : Result ⊤ Fault) × (RunsEach keeps_going os Common list Nul input left (Some []) (Some held) ran
+    × (((new ≡ old) × EndsEarly ran answer) ⊎ (HasReadAll ran × ((paths : List (List ℕ)) × (AreListed held paths × WritesCommon (style_of os) end paths ran old new answer))))))
+
+-- the result of the command for a list of paths of the platform: what the task writes for each, or their common base
+abbrev pub RunsTask : Bool → Os → Task → ListOptions → ItemEnd → Doing
+RunsTask keeps_going os task list end input left old new answer =
+    ((task ≢ Common) × RunsEach keeps_going os task list end input left old new answer)
+    ⊎ ((task ≡ Common) × RunsCommon keeps_going os list end input left old new answer)
 
 -- how such a list is written
 abbrev pub of_given : ListOptions

@@ -45,11 +45,12 @@ use Rattle.paths_commands.specs.declared.fault.Rejection.TheVariants as rejectio
 use Rattle.paths_commands.specs.declared.command.Name.{Name as DeclaredName}
 use Rattle.paths_commands.specs.declared.command.Name.TheVariants as name
 use Rattle.paths_commands.specs.declared.task.Task.{Task}
-use Rattle.paths_commands.specs.declared.task.Task.TheVariants.{Components, Parent, Name, Stem, Extension, WithExtension, Normalize, Clean, StartsWith, Join, JoinChecked, Relative, Absolute, Convert}
+use Rattle.paths_commands.specs.declared.task.Task.TheVariants.{Components, Common, Parent, Name, Stem, Extension, WithExtension, Normalize, Clean, StartsWith, Join, JoinChecked, Relative, Absolute, Convert}
 
 -- the name of the task
 abbrev pub name_of : Task → DeclaredName
 name_of Components = name.Components
+name_of Common = name.Common
 name_of Parent = name.Parent
 name_of Name = name.Name
 name_of Stem = name.Stem
@@ -67,6 +68,7 @@ name_of (Convert to) = name.Convert
 -- the argument that is the name
 abbrev pub name_word : DeclaredName → List ℕ
 name_word name.Components = codes "components"
+name_word name.Common = codes "common"
 name_word name.Parent = codes "parent"
 name_word name.Name = codes "name"
 name_word name.Stem = codes "stem"
@@ -83,6 +85,7 @@ name_word name.Convert = codes "convert"
 -- the task joins no path that could leave the base
 abbrev pub IsChecked : Task → Type 0
 IsChecked Components = ⊥
+IsChecked Common = ⊥
 IsChecked Parent = ⊥
 IsChecked Name = ⊥
 IsChecked Stem = ⊥
@@ -100,6 +103,7 @@ IsChecked (Convert to) = ⊥
 -- a separator at the end of a path is kept
 abbrev pub KeepsSeparator : Task → Type 0
 KeepsSeparator Components = ⊥
+KeepsSeparator Common = ⊥
 KeepsSeparator Parent = ⊥
 KeepsSeparator Name = ⊥
 KeepsSeparator Stem = ⊥
@@ -117,6 +121,7 @@ KeepsSeparator (Convert to) = ⊥
 -- the operands after the platform's
 abbrev pub operands_of_task : Task → List (List ℕ)
 operands_of_task Components = []
+operands_of_task Common = []
 operands_of_task Parent = []
 operands_of_task Name = []
 operands_of_task Stem = []
@@ -160,6 +165,7 @@ way_text (b ∷ way) = b ∷ way
 -- the result of the task: the requested part, and nothing where the path has none. Or the path itself, the path with another extension, a form of the path, the path after a base or how it is reached from one, the path as an absolute path, or a path of another platform with its components
 abbrev pub IsAnswer : Style → Task → List ℕ → List ℕ → Type 0
 IsAnswer style Components path answer = ⊥
+IsAnswer style Common path answer = answer ≡ path
 IsAnswer style Parent path answer = IsParent style path answer ⊎ (HasNoParent style path × (answer ≡ []))
 IsAnswer style Name path answer = HasFileName style path answer ⊎ (HasNoFileName style path × (answer ≡ []))
 IsAnswer style Stem path answer = HasFileStem style path answer ⊎ (HasNoFileName style path × (answer ≡ []))

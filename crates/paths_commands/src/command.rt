@@ -180,6 +180,8 @@ fn listed(given: Line<'_, '_>) -> ListOptions
 pub enum Name {
     /// `components`.
     Components,
+    /// `common`.
+    Common,
     /// `parent`.
     Parent,
     /// `name`.
@@ -214,6 +216,7 @@ impl Name {
     {
         match word {
             "components" => Some(Name::Components),
+            "common" => Some(Name::Common),
             "parent" => Some(Name::Parent),
             "name" => Some(Name::Name),
             "stem" => Some(Name::Stem),
@@ -236,6 +239,7 @@ impl Name {
     {
         match self {
             Name::Components => "components",
+            Name::Common => "common",
             Name::Parent => "parent",
             Name::Name => "name",
             Name::Stem => "stem",
@@ -262,6 +266,7 @@ impl Name {
             Name::Absolute => Some("DIR"),
             Name::Convert => Some("platform to convert to"),
             Name::Components
+            | Name::Common
             | Name::Parent
             | Name::Name
             | Name::Stem
@@ -351,6 +356,7 @@ fn without_operand<'a>(name: Name) -> Task<'a>
 {
     match name {
         Name::Components => Task::Components,
+        Name::Common => Task::Common,
         Name::Parent => Task::Parent,
         Name::Name => Task::Name,
         Name::Stem => Task::Stem,
@@ -408,6 +414,7 @@ fn with_operand<'a>(
             None => Err(Misuse::Invalid("platform", operand)),
         },
         Name::Components
+        | Name::Common
         | Name::Parent
         | Name::Name
         | Name::Stem
@@ -455,7 +462,7 @@ fn base_word(error: BaseError) -> &'static str
 }
 
 /// Whose rules the paths of a platform follow.
-fn style_of(os: Os) -> Style
+pub(crate) fn style_of(os: Os) -> Style
     ensures { result ≡ style_of os }
 {
     match os {

@@ -2,14 +2,14 @@
 ghost use Rattle.std.specs.Prelude.{◌≡◌, IfOk};
 ghost use Rattle.std.specs.Fmt.{WritesStyledOnOk};
 ghost use Rattle.std.specs.Fmt.InlineText.{inline_text};
-ghost use Rattle.paths_commands.specs.Fault.{IsOfMisuse, at_fault_text, from_one, numbered, quoted, result_text, unlike_text};
+ghost use Rattle.paths_commands.specs.Fault.{IsOfMisuse, apart_text, at_fault_text, from_one, numbered, quoted, result_text, unlike_first, unlike_text};
 
 use list_programs::fault::ItemRejection;
 use list_programs::misuse::{Misuse, ROOM, cut_text};
 use list_programs::options::ItemEnd;
 use list_programs::program_fault;
 use list_programs::program_fault::WordsRejection;
-use os_path::{AbsoluteError, NameError};
+use os_path::{AbsoluteError, CommonBaseError, NameError};
 use os_str_bytes::{EncodingError, write_number};
 use std::alloc::{AllocError, Allocator};
 use std::fmt;
@@ -54,6 +54,10 @@ pub enum CommandFault {
     Misuse(InlineText<ROOM>),
     /// This number of paths were rejected and passed over.
     PassedOver(u64),
+    /// The paths that aren't rejected have no common base, for this reason.
+    NoBase(CommonBaseError),
+    /// Their common base has this byte, which would end it.
+    BaseHas(ItemEnd),
 }
 
 impl CommandFault {
@@ -120,6 +124,27 @@ fn result_text(end: ItemEnd) -> &'static str
         ItemEnd::Nul => "the result has a NUL",
         ItemEnd::Newline => "the result has a newline",
     }
+}
+
+/// Writes why paths have no common base. They are counted from 1.
+fn write_apart<W: fmt::Write>(error: CommonBaseError, f: &mut fmt::Formatter<W>) -> fmt::Result
+    ensures { WritesStyledOnOk W.write_str_gives f.old result (apart_text error) f.new }
+{
+    match error {
+        CommonBaseError::NoPath => f.write_str("no paths"),
+        CommonBaseError::Prefix(index) => write_unlike("no common base: the prefix", index, f),
+        CommonBaseError::Root(index) => write_unlike("no common base: the root", index, f),
+    }
+}
+
+/// Writes that this part of the path at an index isn't that of the first.
+fn write_unlike<W: fmt::Write>(what: &str, index: usize, f: &mut fmt::Formatter<W>) -> fmt::Result
+    ensures { WritesStyledOnOk W.write_str_gives f.old result (unlike_first what.now index) f.new }
+{
+    f.write_str(what)?;
+    f.write_str(" of path ")?;
+    write_number(index.saturating_add(1), f)?;
+    f.write_str(" isn't that of path 1")
 }
 
 /// Writes which component a path of another platform can't have.
@@ -196,7 +221,7 @@ impl WordsRejection for CommandFault {
     fn status(&self) -> u8 {
         match self {
             CommandFault::Unreadable | CommandFault::Misuse(_) => 2,
-            CommandFault::PassedOver(_) => 1,
+            CommandFault::PassedOver(_) | CommandFault::NoBase(_) | CommandFault::BaseHas(_) => 1,
         }
     }
 
@@ -211,6 +236,8 @@ impl WordsRejection for CommandFault {
                 f.write_str("rejected paths: ")?;
                 write_number(*count as usize, f)
             }
+            CommandFault::NoBase(error) => write_apart(*error, f),
+            CommandFault::BaseHas(end) => f.write_str(result_text(*end)),
         }
     }
 }

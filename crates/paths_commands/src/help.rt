@@ -20,6 +20,8 @@ paths extension  [PLATFORM]        writes the extension of that name
 paths with-extension [PLATFORM] EXT
                                    writes the path with EXT as that extension, or with none if EXT is empty; a path
                                    that doesn't end in a name stays
+paths common     [PLATFORM]        writes the longest path that all paths begin with, one result for all, or . if
+                                   they share no component; paths with different roots are rejected
 paths normalize  [PLATFORM]        writes the path without . and ..; a .. takes the name before it away, and a
                                    path with a .. that has none is rejected
 paths clean      [PLATFORM]        as normalize, but such a .. stays, or goes at a root

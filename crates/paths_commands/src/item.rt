@@ -147,6 +147,7 @@ fn write_result<E: PathStyle, A: Allocator + Copy>(
     match task {
         Task::Components => write_components::<E, A>(alloc, path, output),
         Task::Parent => write_answer(parent(path), output),
+        Task::Common => write_answer(path.as_os_str().as_encoded_bytes(), output),
         Task::Name => write_answer(part(path.file_name()), output),
         Task::Stem => write_answer(part(path.file_stem()), output),
         Task::Extension => write_answer(part(path.extension()), output),
@@ -274,7 +275,7 @@ fn write_relative<E: PathStyle, A: Allocator + Copy>(
 }
 
 /// How a path is reached, as it is written: `.` from itself.
-fn way_text<'a>(way: &'a [u8]) -> &'a [u8]
+pub(crate) fn way_text<'a>(way: &'a [u8]) -> &'a [u8]
     ensures { result.now ≡ way_text way.now }
 {
     match way {

@@ -13,6 +13,7 @@
 mod answers;
 mod checked;
 pub mod command;
+mod common;
 mod components;
 pub mod extension;
 pub mod fault;

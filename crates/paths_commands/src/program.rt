@@ -7,9 +7,10 @@ ghost use Rattle.list_programs.specs.ProgramFault.{BlamesEnds, EndsRunOf};
 ghost use Rattle.list_programs.specs.Rules.{passing};
 ghost use Rattle.list_programs.specs.declared.program_fault.Fault.TheVariants.{List as OfList};
 ghost use Rattle.paths_commands.specs.Command.{AreAfterEnd};
-ghost use Rattle.paths_commands.specs.Program.{Does, IsAfter, RunsLine, RunsOver, RunsPast, RunsTask, UnlessOutOfMemory, rules_on};
+ghost use Rattle.paths_commands.specs.Program.{Does, IsAfter, RunsEach, RunsLine, RunsOver, RunsPast, RunsTask, UnlessOutOfMemory, rules_on};
 
 use crate::command::{Command, Line};
+use crate::common::run_common;
 use crate::fault::{CommandFault, Fault, Rejection};
 use crate::given::run_given;
 use crate::help::{HELP, VERSION};
@@ -217,8 +218,8 @@ fn run_over<P: Eprint, A: Allocator + Copy, R: Read, W: Write>(
     }
 }
 
-/// Returns the result of the run of a task, where rejected paths may be passed over.
-pub(crate) fn run_task<P: Eprint, A: Allocator, R: Read, W: Write>(
+/// Returns the result of a command for paths, where rejected paths may be passed over.
+pub(crate) fn run_task<P: Eprint, A: Allocator + Copy, R: Read, W: Write>(
     alloc: A,
     errors: &P,
     keeps_going: bool,
@@ -232,6 +233,41 @@ pub(crate) fn run_task<P: Eprint, A: Allocator, R: Read, W: Write>(
     requires reader_unmarked { has_failed reader.old ≡ false }
     requires writer_unmarked { has_failed writer.old ≡ false }
     ensures run { RunsTask keeps_going os task.entry list end
+        (R.remaining (marked_inner reader.old)) (R.remaining (marked_inner reader.new))
+        (W.contents (marked_inner writer.old)) (W.contents (marked_inner writer.new)) result }
+    ensures ends { BlamesEnds result (has_failed reader.new) (has_failed writer.new) }
+{
+    match task {
+        Task::Common => run_common(alloc, errors, keeps_going, os, list, end, reader, writer),
+        _ => run_each(
+            alloc,
+            errors,
+            keeps_going,
+            os,
+            task,
+            list,
+            end,
+            reader,
+            writer,
+        ),
+    }
+}
+
+/// Returns the result of the run of a task for each path, where rejected paths may be passed over.
+pub(crate) fn run_each<P: Eprint, A: Allocator, R: Read, W: Write>(
+    alloc: A,
+    errors: &P,
+    keeps_going: bool,
+    os: Os,
+    task: Task<'_>,
+    list: ListOptions,
+    end: ItemEnd,
+    reader: &mut Marked<R>,
+    writer: &mut Marked<W>,
+) -> Result<(), Fault>
+    requires reader_unmarked { has_failed reader.old ≡ false }
+    requires writer_unmarked { has_failed writer.old ≡ false }
+    ensures run { RunsEach keeps_going os task.entry list end
         (R.remaining (marked_inner reader.old)) (R.remaining (marked_inner reader.new))
         (W.contents (marked_inner writer.old)) (W.contents (marked_inner writer.new)) result }
     ensures ends { BlamesEnds result (has_failed reader.new) (has_failed writer.new) }

@@ -20,6 +20,8 @@ use std::marker::PhantomData;
 pub enum Task<'a> {
     /// Its components: the escape of each on a line, and an empty line after the last.
     Components,
+    /// The path itself, of which `common` writes the common base.
+    Common,
     /// Its parent, ended as the path is, as all results below: without the last component.
     Parent,
     /// Its last component, where that is a name.

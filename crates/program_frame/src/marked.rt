@@ -83,6 +83,20 @@ impl<T> Marked<T> {
     {
         self.failed && self.closed
     }
+
+    /// The reader or the writer, without its mark.
+    ///
+    /// ```
+    /// use program_frame::marked::Marked;
+    ///
+    /// let input: &[u8] = b"ab";
+    /// assert_eq!(rt; Marked::new(input).into_inner(), b"ab".as_slice());
+    /// ```
+    pub fn into_inner(self) -> T
+        ensures { result ≡ marked_inner self }
+    {
+        self.inner
+    }
 }
 
 impl<R: Read> Marked<R> {

@@ -21,6 +21,7 @@ _paths() {
         stem:*:-*) words='--lines --unterminated --keep-going' ;;
         extension:*:-*) words='--lines --unterminated --keep-going' ;;
         with-extension:*:-*) words='--lines --unterminated --keep-going' ;;
+        common:*:-*) words='--lines --unterminated --keep-going' ;;
         normalize:*:-*) words='--lines --unterminated --keep-going' ;;
         clean:*:-*) words='--lines --unterminated --keep-going' ;;
         starts-with:*:-*) words='--lines --unterminated --keep-going' ;;
@@ -29,8 +30,8 @@ _paths() {
         absolute:*:-*) words='--lines --unterminated --keep-going' ;;
         convert:*:-*) words='--lines --unterminated --keep-going' ;;
         :*:-*) words='--lines --unterminated --keep-going -h --help -V --version' ;;
-        :0:*) words='components parent name stem extension with-extension normalize clean starts-with join relative absolute convert' ;;
-        components:1:*|parent:1:*|name:1:*|stem:1:*|extension:1:*|with-extension:1:*|normalize:1:*|clean:1:*|starts-with:1:*|join:1:*|relative:1:*|absolute:1:*|convert:1:*) words='unix windows wasm' ;;
+        :0:*) words='components parent name stem extension with-extension common normalize clean starts-with join relative absolute convert' ;;
+        components:1:*|parent:1:*|name:1:*|stem:1:*|extension:1:*|with-extension:1:*|common:1:*|normalize:1:*|clean:1:*|starts-with:1:*|join:1:*|relative:1:*|absolute:1:*|convert:1:*) words='unix windows wasm' ;;
         convert:2:*) words='unix windows wasm' ;;
         starts-with:2:*|join:2:*|relative:2:*|absolute:2:*) compopt -o default 2>/dev/null; return ;;
     esac

@@ -23,7 +23,7 @@ use Rattle.paths_commands.specs.declared.command.Name.{Name as DeclaredName}
 use Rattle.paths_commands.specs.declared.command.Name.TheVariants as name
 use Rattle.paths_commands.specs.declared.option.PathsOption.TheVariants as option
 use Rattle.paths_commands.specs.declared.task.Task.{Task}
-use Rattle.paths_commands.specs.declared.task.Task.TheVariants.{Components, Parent, Name, Stem, Extension, WithExtension, Normalize, Clean, StartsWith, Join, JoinChecked, Relative, Absolute, Convert}
+use Rattle.paths_commands.specs.declared.task.Task.TheVariants.{Components, Common, Parent, Name, Stem, Extension, WithExtension, Normalize, Clean, StartsWith, Join, JoinChecked, Relative, Absolute, Convert}
 use Rattle.paths_commands.proofs.lemmas.Platforms.{same_os}
 use Rattle.paths_commands.proofs.lemmas.TaskNames.{same_name}
 
@@ -39,6 +39,7 @@ rest e = cc
 -- a task has as many operands as it needs
 count_is : (task : Task) → length (operands_of_task task) ≡ needed_count (name_of task)
 count_is Components = refl
+count_is Common = refl
 count_is Parent = refl
 count_is Name = refl
 count_is Stem = refl
@@ -56,6 +57,7 @@ count_is (Convert to) = refl
 -- a task that needs an operand needs one
 needs_one : (it : DeclaredName) (what : List ℕ) → Needs it what → needed_count it ≡ 1
 needs_one name.Components what needs = absurd needs
+needs_one name.Common what needs = absurd needs
 needs_one name.Parent what needs = absurd needs
 needs_one name.Name what needs = absurd needs
 needs_one name.Stem what needs = absurd needs
@@ -117,6 +119,7 @@ extends_once it is = ((λ e. start (is ∙ e)), ((λ e. join (is ∙ e)), ((λ e
 -- the operand of a task that converts is a platform
 converts : (task : Task) (word : List ℕ) (more : List (List ℕ)) → name.Convert ≡ name_of task → operands_of_task task ≡ word ∷ more → (os : Os) × (word ≡ os_word os)
 converts Components word more is some = absurd (none_some some)
+converts Common word more is some = absurd (none_some some)
 converts Parent word more is some = absurd (none_some some)
 converts Name word more is some = absurd (none_some some)
 converts Stem word more is some = absurd (none_some some)
@@ -134,6 +137,7 @@ converts (Convert to) word more is some = (to, sym (first some))
 -- a task that is checked is a join
 checked_joins : (task : Task) → IsChecked task → name_of task ≡ name.Join
 checked_joins Components is = absurd is
+checked_joins Common is = absurd is
 checked_joins Parent is = absurd is
 checked_joins Name is = absurd is
 checked_joins Stem is = absurd is
@@ -151,6 +155,7 @@ checked_joins (Convert to) is = absurd is
 -- a task that keeps separators is checked
 keeps_checked : (task : Task) → KeepsSeparator task → IsChecked task
 keeps_checked Components keeps = keeps
+keeps_checked Common keeps = keeps
 keeps_checked Parent keeps = keeps
 keeps_checked Name keeps = keeps
 keeps_checked Stem keeps = keeps
@@ -168,6 +173,7 @@ keeps_checked (Convert to) keeps = keeps
 -- a task that is checked has a base
 checked_base : (w : Style) (task : Task) (word : List ℕ) → IsChecked task → HasStyle w task → operands_of_task task ≡ word ∷ [] → IsBase w word
 checked_base w Components word is of own = absurd is
+checked_base w Common word is of own = absurd is
 checked_base w Parent word is of own = absurd is
 checked_base w Name word is of own = absurd is
 checked_base w Stem word is of own = absurd is
@@ -185,6 +191,7 @@ checked_base w (Convert to) word is of own = absurd is
 -- the operand of a task that makes paths absolute is absolute
 absolute_directory : (w : Style) (task : Task) (word : List ℕ) → name.Absolute ≡ name_of task → HasStyle w task → operands_of_task task ≡ word ∷ [] → IsAbsolute w word
 absolute_directory w Components word is of own = absurd (none_some own)
+absolute_directory w Common word is of own = absurd (none_some own)
 absolute_directory w Parent word is of own = absurd (none_some own)
 absolute_directory w Name word is of own = absurd (none_some own)
 absolute_directory w Stem word is of own = absurd (none_some own)
@@ -202,6 +209,7 @@ absolute_directory w (Convert to) word is of own = absurd (no_absolute (sym is))
 -- the operand of a task that replaces extensions is one
 extension_text : (w : Style) (task : Task) (word : List ℕ) → name.WithExtension ≡ name_of task → HasStyle w task → operands_of_task task ≡ word ∷ [] → IsExtensionText w word
 extension_text w Components word is of own = absurd (none_some own)
+extension_text w Common word is of own = absurd (none_some own)
 extension_text w Parent word is of own = absurd (none_some own)
 extension_text w Name word is of own = absurd (none_some own)
 extension_text w Stem word is of own = absurd (none_some own)

@@ -2,7 +2,7 @@
 use Rattle.std.proofs.Common.{◌≡◌, ◌∙◌, ℕ, ◌+◌, List, get_or, refl, sym, ap, arith}
 use Rattle.paths_commands.specs.Task.{name_word}
 use Rattle.paths_commands.specs.declared.command.Name.{Name as DeclaredName}
-use Rattle.paths_commands.specs.declared.command.Name.TheVariants.{Components, Parent, Name, Stem, Extension, WithExtension, Normalize, Clean, StartsWith, Join, Relative, Absolute, Convert}
+use Rattle.paths_commands.specs.declared.command.Name.TheVariants.{Components, Common, Parent, Name, Stem, Extension, WithExtension, Normalize, Clean, StartsWith, Join, Relative, Absolute, Convert}
 
 -- the sum of the first letter, the fourth and the sixth
 abbrev sum_of : List ℕ → ℕ
@@ -10,6 +10,7 @@ sum_of word = get_or word 0 0 + get_or word 3 0 + get_or word 5 0
 
 abbrev letters : DeclaredName → ℕ
 letters Components = 321
+letters Common = 318
 letters Parent = 329
 letters Name = 211
 letters Stem = 224
@@ -25,6 +26,7 @@ letters Convert = 331
 
 letters_are : (name : DeclaredName) → letters name ≡ sum_of (name_word name)
 letters_are Components = refl
+letters_are Common = refl
 letters_are Parent = refl
 letters_are Name = refl
 letters_are Stem = refl
@@ -43,6 +45,7 @@ same_letters name other e = letters_are name ∙ ap sum_of e ∙ sym (letters_ar
 
 pub same_name : (name other : DeclaredName) → name_word name ≡ name_word other → name ≡ other
 same_name Components Components e = refl
+same_name Common Common e = refl
 same_name Parent Parent e = refl
 same_name Name Name e = refl
 same_name Stem Stem e = refl
@@ -56,6 +59,7 @@ same_name Relative Relative e = refl
 same_name Absolute Absolute e = refl
 same_name Convert Convert e = refl
 same_name Components other e = let sums = same_letters Components other e in absurd (omega arith)
+same_name Common other e = let sums = same_letters Common other e in absurd (omega arith)
 same_name Parent other e = let sums = same_letters Parent other e in absurd (omega arith)
 same_name Name other e = let sums = same_letters Name other e in absurd (omega arith)
 same_name Stem other e = let sums = same_letters Stem other e in absurd (omega arith)

@@ -110,6 +110,18 @@ returns-in-Normalize g c =
       unchanged = call.ensures.unchanged;
     }
 
+pub returns-in-Common : goal.returns-in-Common
+returns-in-Common g c =
+    let path = path_bytes c.args.path in
+    let S = g.E.PathStyle.follows in
+    let call = c.write_answer-in-Common in
+    let answer = c.as_encoded_bytes.result.now in
+    let same : answer ≡ path = search rules in record {
+      ok = part g.E.Platform S c.args.task _ path c.in-Common.is call.result _ _ answer same call.ensures.ok;
+      fault = IfErr-weaker call.result _ _ (λ fault memory. inl memory) call.ensures.fault;
+      unchanged = call.ensures.unchanged;
+    }
+
 pub returns-in-Clean : goal.returns-in-Clean
 returns-in-Clean g c =
     let path = path_bytes c.args.path in
@@ -125,7 +137,7 @@ returns-in-StartsWith g c =
     let path = path_bytes c.args.path in
     let S = g.E.PathStyle.follows in
     let call = c.write_answer-in-StartsWith in
-    let answer = c.as_encoded_bytes.result.now in
+    let answer = c.as_encoded_bytes-in-StartsWith.result.now in
     let same : answer ≡ path = search rules in record {
       ok = part g.E.Platform S c.args.task _ path c.in-StartsWith.is call.result _ _ answer
           (c.requires _ c.in-StartsWith.is, same)

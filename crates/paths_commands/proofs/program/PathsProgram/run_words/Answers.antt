@@ -2,8 +2,6 @@ use Rattle.std.proofs.Common.{◌≡◌, ⊎_elim, inl, rules, map, refl, sym, s
 use Rattle.std.specs.Prelude.{string_bytes}
 use Rattle.os_args.specs.Views.{fault_of}
 use Rattle.list_programs.specs.Arguments.{AreGiven, HasFault}
-use Rattle.list_programs.specs.declared.misuse.Misuse.TheVariants.{Argument}
-use Rattle.paths_commands.specs.Fault.{IsOfMisuse}
 use Rattle.paths_commands.specs.Options.{has_value, spelled}
 use Rattle.paths_commands.proofs.lemmas.Requests.{fault_ends, line_runs}
 use Rattle.paths_commands.proofs.program.PathsProgram.run_words.Goals as goal
