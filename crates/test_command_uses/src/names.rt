@@ -33,7 +33,7 @@ use list_programs::run::run;
 use names_commands::command::{Line, Request, RequestError};
 use names_commands::fault::Rejection;
 use names_commands::laws::{names_come_back, names_come_back_from_words};
-use names_commands::matching::{Form, Picker};
+use names_commands::matching::{Form, Matching, Picker};
 use names_commands::task::{EmptyLine, OnPlatform, Settings, Task, WordForm};
 use os_ignore::Walk;
 use os_str_bytes::{OsStr, Platform, Unix};
@@ -120,7 +120,6 @@ pub fn picks_excluded<E: Platform, A: Allocator + Copy>(
     walk: &mut Walk<'_, A>,
     name: OsStr<'_, E>,
 ) -> Result<bool, AllocError>
-    requires files { files_of_walk walk.old ≡ files_of names.ignore.now }
     requires excluded { IsMatchedBy ⟦<E as Platform>⟧ names.excluded.now (bytes name) }
     ensures { IfOk result (λ picks. ¬ (IsTrue picks)) }
 {
@@ -362,11 +361,16 @@ pub fn filtered<E: Platform, A: Allocator, B: Allocator + Copy, W: Write>(
 {
     let mut reader = Marked::new(name);
     let mut picker = picker;
-    picker.names.form = Form::Name;
-    picker.names.list = ListOptions {
-        end: ItemEnd::Nul,
-        last: LastItem::MayLackEnd,
-        max,
+    picker.names = Matching {
+        globs: picker.names.globs,
+        inverted: picker.names.inverted,
+        excluded: picker.names.excluded,
+        form: Form::Name,
+        list: ListOptions {
+            end: ItemEnd::Nul,
+            last: LastItem::MayLackEnd,
+            max,
+        },
     };
     run(alloc, &mut picker, &mut reader, writer)
 }
