@@ -21,7 +21,9 @@ pub use arguments::{
     last_limit, only_operand, options_of_names, patterns_of_options, requests_help,
 };
 pub use ignoring::{OneFile, left_out, left_out_in_either_case, unread};
-pub use marks::{closed_by_a_flush, closed_by_a_write, closed_by_no_bytes, marked_by_no_bytes};
+pub use marks::{
+    closed_by_a_flush, closed_by_a_write, closed_by_no_bytes, marked_by_no_bytes, unmarked,
+};
 pub use names::{
     check_one, empty_line, ends, escape_of, excluded_globs, filtered, first_names_again,
     known_request, line_before, line_of, list_of_two, names_again, picks_excluded, returned_line,

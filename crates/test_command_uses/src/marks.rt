@@ -41,3 +41,10 @@ pub fn closed_by_a_flush<W: Write + Drop>(writer: W) -> (bool, bool)
         Err(error) => (error.kind() == ErrorKind::BrokenPipe, writer.closed()),
     }
 }
+
+/// A reader or a writer that was marked, and is so no more.
+pub fn unmarked<T>(inner: T) -> T
+    ensures { result ≡ inner }
+{
+    Marked::new(inner).into_inner()
+}
