@@ -67,7 +67,7 @@ impl<'g, E: Platform, A: Allocator + Copy> Matching<'g, E, A> {
     /// ```
     /// use glob_patterns::{GlobOptions, GlobSet, Separators};
     /// use names_commands::matching::{Form, Matching};
-    /// use os_ignore::Walk;
+    /// use os_ignore::{Ignore, Walk};
     /// use os_str_bytes::{OsStr, Unix};
     /// use list_programs::options::ListOptions;
     ///
