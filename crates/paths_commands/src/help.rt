@@ -38,9 +38,9 @@ paths absolute   [PLATFORM] DIR    writes the path as an absolute path, below DI
 paths convert    PLATFORM TO       writes the path of the platform TO with the same components, and rejects one
                                    with a component that TO can't have
 
-Each reads paths that are ended by NUL, the last one too. Each but starts-with writes one result for a path,
-ended by NUL, which is empty where the path has no such part. PLATFORM and TO are unix, windows or wasm. If
-PLATFORM is left out it is unix, so an EXT or a BASE of one of these names comes after PLATFORM.
+Each reads paths that are ended by NUL, the last one too. Each but starts-with and common writes one result
+for a path, ended by NUL, which is empty where the path has no such part. PLATFORM and TO are unix, windows or
+wasm. If PLATFORM is left out it is unix, so an EXT or a BASE of one of these names comes after PLATFORM.
 
 Options may stand anywhere; -- ends them. The operands that come after -- and aren't EXT, BASE, DIR or TO are
 the paths, and nothing is read. PLATFORM isn't among them if the command comes before --.
@@ -61,6 +61,6 @@ join --checked alone. An extension comes after the last dot of a name, if that i
 / and \\ separate, and a path may begin with a prefix: C:, \\\\server\\share, \\\\?\\C:, \\\\?\\UNC\\server\\share,
 \\\\?\\name or \\\\.\\name.
 
-Status: 0; 1 for a path that is rejected, with its number, from 1; 2 for wrong arguments; 3 if out of memory; 4 if
-a read or write fails.
+Status: 0; 1 for a path that is rejected, with its number, from 1, or for paths without a common base; 2 for wrong
+arguments; 3 if out of memory; 4 if a read or write fails.
 ";

@@ -1,3 +1,4 @@
+pub mod CommonPaths
 pub mod GivenPaths
 pub mod GivenWords
 pub mod KnownIgnore

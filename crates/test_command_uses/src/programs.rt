@@ -7,10 +7,11 @@ ghost use Rattle.program_frame.specs.Ended.{message};
 ghost use Rattle.program_frame.specs.Marked.{has_failed, marked_inner};
 ghost use Rattle.program_frame.specs.Words.{words_after_name};
 ghost use Rattle.program_frame.specs.declared.fault.Failure.{Failure};
+ghost use Rattle.program_frame.specs.declared.os.Os.TheVariants.{Unix};
 ghost use Rattle.list_programs.specs.declared.program_fault.Fault.TheVariants.{List as OfList, Words};
 ghost use Rattle.paths_commands.specs.Command.{RequestNothing};
 ghost use Rattle.paths_commands.specs.declared.fault.CommandFault.{CommandFault};
-ghost use Rattle.test_command_uses.specs.Requests.{GivesPaths, RequestsSome, RunsSome};
+ghost use Rattle.test_command_uses.specs.Requests.{AsksCommon, GivesPaths, RequestsSome, RunsSome, WritesBase};
 
 use list_programs::fault::ListFault;
 use list_programs::options::ItemEnd;
@@ -258,6 +259,33 @@ pub fn paths_given<P: Eprint, A: Allocator + Copy, R: Read, W: Output, E: Messag
     requires reader_unmarked { has_failed reader.old ≡ false }
     requires writer_unmarked { has_failed writer.old ≡ false }
     ensures { R.remaining (marked_inner reader.new) ≡ R.remaining (marked_inner reader.old) }
+{
+    execute(
+        &Paths::new(rt),
+        alloc,
+        Ok(arguments),
+        reader,
+        writer,
+        errors,
+    )
+    .outcome()
+}
+
+/// The program for paths with arguments that request `common` for paths that are read: if it ends
+/// without a fault it wrote the common base of paths.
+pub fn paths_common<P: Eprint, A: Allocator + Copy, R: Read, W: Output, E: Messages>(
+    rt: &P,
+    alloc: A,
+    arguments: Args,
+    reader: &mut Marked<R>,
+    writer: &mut Marked<W>,
+    errors: &mut E,
+) -> Result<(), PathsFault>
+    requires words { AsksCommon Unix (words_after_name arguments) }
+    requires reader_unmarked { has_failed reader.old ≡ false }
+    requires writer_unmarked { has_failed writer.old ≡ false }
+    ensures { OnOk result (WritesBase Unix (W.contents (marked_inner writer.old))
+        (W.contents (marked_inner writer.new))) }
 {
     execute(
         &Paths::new(rt),
