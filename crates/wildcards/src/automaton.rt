@@ -110,8 +110,7 @@ fn known_fitting<A: Allocator>(
 }
 
 /// Whether pieces match after any number of letters. Returns `None` if more than 127 of them aren't
-/// `*`, and if less than four aren't: a place is tried in less time then than the flags of a letter
-/// are found. The time is in proportion to the letters, and for each different letter to the pieces.
+/// `*`. The time is in proportion to the letters, and for each different letter to the pieces.
 #[inline(never)]
 pub(crate) fn is_after_many_by_flags<L: Letters, A: Allocator>(
     pieces: &[Piece<Item<A>>],
@@ -122,9 +121,6 @@ pub(crate) fn is_after_many_by_flags<L: Letters, A: Allocator>(
         (Many ∷ pieces.now) (L.letters text.entry.now)) }
 {
     let (staying, end) = staying(pieces)?;
-    if end < 4 {
-        return None;
-    }
     let mut letters = [0; 128];
     let mut known = [fitting(pieces, 0); 128];
     let mut reached = 1;
