@@ -21,4 +21,5 @@ pub mod Extensions
 pub mod Keys
 pub mod Small
 pub mod Filters
+pub mod Visited
 pub mod Candidates

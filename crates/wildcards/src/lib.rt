@@ -15,6 +15,7 @@ mod class_name;
 mod component;
 mod digest;
 mod filter;
+mod flags;
 mod group;
 mod hidden;
 mod indices;
@@ -32,6 +33,7 @@ mod run;
 mod separators;
 mod set;
 mod small;
+mod visited;
 
 pub use class::Class;
 pub use class_name::ClassName;
