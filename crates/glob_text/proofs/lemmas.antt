@@ -7,6 +7,7 @@ pub mod EscapedMarks
 pub mod EscapedMeaning
 pub mod Folding
 pub mod Meanings
+pub mod Merged
 pub mod Names
 pub mod Pieces
 pub mod Sizes

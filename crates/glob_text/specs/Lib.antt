@@ -9,6 +9,7 @@ pub mod Chosen
 pub mod Backwards
 pub mod Sizes
 pub mod Nodes
+pub mod Merged
 pub mod Parts
 pub mod Meaning
 pub mod Folded

@@ -6,7 +6,6 @@ use Rattle.glob_text.specs.declared.choices.Group.{Group}
 use Rattle.glob_text.specs.declared.choices.Node.{Node}
 use Rattle.glob_text.specs.declared.choices.Node.TheVariants.{End, One, Both}
 use Rattle.glob_text.specs.declared.choices.Opened.{Opened}
-use Rattle.glob_text.specs.Alternatives.{AreChoices, AreWithinLimits}
 use Rattle.glob_text.specs.Backwards.{Pending, Behind, each_after, choices_behind, at_end}
 use Rattle.glob_text.specs.Chosen.{mark_at}
 use Rattle.glob_text.specs.Marks.{Mark, literal, any, star, one_of, opens, comma, closes}
@@ -116,8 +115,3 @@ abbrev pub stepped : Node → OneOpened → Writing → Writing
 stepped End o w = record { opened = w.opened; written = w.written ++ o.marks ∷ [] }
 stepped (One index next) o w = record { opened = record { marks = o.marks ++ index ∷ []; node = next } ∷ w.opened; written = w.written }
 stepped (Both first second) o w = record { opened = record { marks = o.marks; node = first } ∷ record { marks = o.marks; node = second } ∷ w.opened; written = w.written }
-
--- the choices of the marks, within the limits
-pub record IsWrittenOut (marks : List Mark) (cs : List (List Mark)) : Type 0 where
-  pub are : AreChoices marks cs
-  pub limits : AreWithinLimits cs

@@ -1,6 +1,9 @@
 -- What the text of a pattern means.
-use Rattle.std.specs.Prelude.{◌≡◌, ◌⊎◌, ℕ, List}
+use Rattle.std.specs.Prelude.{◌≡◌, ◌⊎◌, ◌↔◌, ℕ, List}
+use Rattle.wildcards.specs.declared.options.Options.{Options}
 use Rattle.wildcards.specs.declared.pattern.Choice.{Choice}
+use Rattle.wildcards.specs.declared.separators.Separators.{Separators}
+use Rattle.wildcards.specs.Sets.{MatchesChoice}
 use Rattle.glob_text.specs.declared.fault.PatternFault.{PatternFault}
 use Rattle.glob_text.specs.declared.fault.FaultKind.TheVariants.{TooManyChoices}
 use Rattle.glob_text.specs.declared.symbol.Symbol.{Symbol}
@@ -9,7 +12,7 @@ use Rattle.glob_text.specs.Alternatives.{AreChoices, AreTooMany, AreWithinLimits
 use Rattle.glob_text.specs.Braces.{IsBraceFault}
 use Rattle.glob_text.specs.Folded.{AreCased}
 use Rattle.glob_text.specs.Marks.{Mark, AreMarks, IsMarkFault}
-use Rattle.glob_text.specs.Parts.{AreCompiled}
+use Rattle.glob_text.specs.Meaning.{MatchesWrittenOut}
 use Rattle.glob_text.specs.Symbols.{AreSymbols}
 
 -- marks are written out as more than they may be
@@ -34,12 +37,12 @@ abbrev pub IsSymbolsFault : Syntax → List Symbol → PatternFault → Type 0
 IsSymbolsFault o symbols fault = IsMarkFault o symbols fault ⊎ IsMarksFault o symbols fault
 
 module _ {A : Type 0} where
-  -- the compiled form of marks
-  pub record AreChoicesOf (o : Syntax) (marks : List Mark) (choices : List (Choice A)) : Type 0 where
+  -- the compiled form of marks: it matches what the patterns that they are written out as match
+  pub record AreChoicesOf (o : Separators) (marks : List Mark) (choices : List (Choice A)) : Type 0 where
     pub written_out : List (List Mark)
     pub are : AreChoices marks written_out
     pub limits : AreWithinLimits written_out
-    pub compiled : AreCompiled o.separators written_out choices
+    pub matched : (p : Options) → p.separators ≡ o → (path : List ℕ) → MatchesChoice p choices path ↔ MatchesWrittenOut p written_out path
 
   -- that of symbols
   pub record AreOfSymbols (o : Syntax) (symbols : List Symbol) (choices : List (Choice A)) : Type 0 where
@@ -47,7 +50,7 @@ module _ {A : Type 0} where
     pub read : AreMarks o symbols marks
     pub cased : List Mark
     pub are_cased : AreCased o.case_insensitive marks cased
-    pub are : AreChoicesOf o cased choices
+    pub are : AreChoicesOf o.separators cased choices
 
 module _ (formed : List ℕ → Type 0) (letters : List ℕ → List ℕ) (o : Syntax) (text : List ℕ) where
   -- the compiled form of the text

@@ -7,12 +7,20 @@ ghost use Rattle.std.specs.Prelude.{◌≡◌, true, map, IfOk, MatchOption, OnO
 ghost use Rattle.glob_text.specs.Marks.{mark_of};
 ghost use Rattle.glob_text.specs.Braces.{are_balanced};
 ghost use Rattle.glob_text.specs.Alternatives.{AreTooMany};
-ghost use Rattle.glob_text.specs.Chosen.{choices_of};
-ghost use Rattle.glob_text.specs.Nodes.{added, comma_in, drawing_of, node_at, open_in, with_found, with_one, IsDrawingOf, IsWrittenOut};
+ghost use Rattle.glob_text.specs.Backwards.{choices_behind, at_end};
+ghost use Rattle.glob_text.specs.Nodes.{added, comma_in, drawing_of, node_at, open_in, with_found, with_one, IsDrawingOf};
+ghost use Rattle.glob_text.specs.Parts.{AreCompiled};
+ghost use Rattle.glob_text.specs.Texts.{AreChoicesOf};
 
 use crate::mark::Mark;
+use crate::merged::merged;
+use crate::part::compile_each;
 use crate::size::Size;
 use std::alloc::{AllocError, Allocator, Global};
+use wildcards::{Choice, Separators};
+
+/// The largest number of patterns that one is written out as before alternatives of letters are merged.
+const MOST_APART: usize = 16;
 
 /// A pattern without alternatives: the indices of its marks.
 #[derive(Drop)]
@@ -182,21 +190,18 @@ fn copy<A: Allocator>(alloc: A, marks: &[usize], room: usize) -> Result<Vec<usiz
     Ok(copy)
 }
 
-/// The choices of marks whose braces are closed, or `None` if they are too large.
-pub(crate) fn choices<A: Allocator + Copy>(
+/// Compiles the choices that are drawn of marks.
+fn compile_drawn<A: Allocator + Copy>(
     alloc: A,
+    separators: Separators,
     marks: &[Mark<A>],
-) -> Result<Option<Vec<Chosen<A>, A>>, AllocError>
-    requires { are_balanced 0 (map mark_of marks.now) ≡ true }
-    ensures { IfOk result (λ written. MatchOption written (AreTooMany (map mark_of marks.entry.now))
-        (λ choices. IsWrittenOut (map mark_of marks.entry.now)
-        (choices_of (map mark_of marks.entry.now) choices.items))) }
+    drawing: &Drawing<A>,
+) -> Result<Vec<Choice<A>, A>, AllocError>
+    requires { IsDrawingOf (map mark_of marks.now) (drawing_of drawing.now) }
+    ensures { IfOk result (λ compiled. AreCompiled separators
+        (choices_behind (map mark_of marks.entry.now) at_end).current compiled.items) }
 {
-    let drawing = read_marks(alloc, marks)?;
     let size = drawing.current.size;
-    if size.is_too_large() {
-        return Ok(None);
-    }
     let room = size.average();
     let mut written = Vec::with_capacity(alloc, size.choices())?;
     let mut opened = Vec::new(alloc);
@@ -209,7 +214,7 @@ pub(crate) fn choices<A: Allocator + Copy>(
             Node::End => {
                 written.push(Chosen { marks: one.marks })?;
                 let Some(next) = opened.pop() else {
-                    return Ok(Some(written));
+                    return compile_each(alloc, separators, marks, &written);
                 };
                 one = next;
             }
@@ -226,4 +231,28 @@ pub(crate) fn choices<A: Allocator + Copy>(
             }
         }
     }
+}
+
+/// Compiles marks whose braces are closed, or returns `None` if their choices are too large. If they are
+/// many, alternatives of letters are merged first. A set finds a few by their letters, and a class by none.
+pub(crate) fn compile_choices<A: Allocator + Copy>(
+    alloc: A,
+    separators: Separators,
+    marks: &[Mark<A>],
+) -> Result<Option<Vec<Choice<A>, A>>, AllocError>
+    requires { are_balanced 0 (map mark_of marks.now) ≡ true }
+    ensures { IfOk result (λ read. MatchOption read (AreTooMany (map mark_of marks.entry.now))
+        (λ compiled. AreChoicesOf separators (map mark_of marks.entry.now) compiled.items)) }
+{
+    let drawing = read_marks(alloc, marks)?;
+    let size = drawing.current.size;
+    if size.is_too_large() {
+        return Ok(None);
+    }
+    if size.choices() <= MOST_APART {
+        return Ok(Some(compile_drawn(alloc, separators, marks, &drawing)?));
+    }
+    let merged = merged(alloc, separators, marks)?;
+    let few = read_marks(alloc, &merged)?;
+    Ok(Some(compile_drawn(alloc, separators, &merged, &few)?))
 }

@@ -9,17 +9,18 @@ ghost use Rattle.glob_text.specs.Alternatives.{AreChoices};
 ghost use Rattle.glob_text.specs.Escape.{escaped, IsPatternOf};
 ghost use Rattle.glob_text.specs.Marks.{Mark, is_quoting};
 ghost use Rattle.glob_text.specs.Meaning.{MatchesWrittenOut};
-ghost use Rattle.glob_text.specs.Parts.{AreCompiled};
 ghost use Rattle.glob_text.specs.Texts.{IsMeaning, IsFault, AreWrittenOut};
 
 use std::alloc::Allocator;
 use wildcards::Letters;
 
-/// Choices that are compiled match a path exactly where the marks of one of them do.
-pub fn written_out<A: Allocator>()
-    ensures { (o : Options) → (choices : List (List Mark)) → (compiled : List (Choice A))
-        → (path : List ℕ) → AreCompiled o.separators choices compiled
-        → MatchesChoice o compiled path ↔ MatchesWrittenOut o choices path }
+/// What a text is compiled to matches a path exactly where one of the patterns that it is written out as does.
+pub fn written_out<L: Letters, A: Allocator>()
+    ensures { (o : Syntax) → (text : List ℕ) → (compiled : List (Choice A))
+        → (written : List (List Mark)) → (p : Options) → (path : List ℕ)
+        → IsMeaning L.formed L.letters o text compiled
+        → AreWrittenOut L.formed L.letters o text written → p.separators ≡ o.separators
+        → MatchesChoice p compiled path ↔ MatchesWrittenOut p written path }
 {}
 
 /// An escaped string is a string and a pattern without a fault. Where case matters, it matches the

@@ -9,6 +9,7 @@ mod fault;
 mod fold;
 pub mod laws;
 mod mark;
+mod merged;
 mod name;
 mod part;
 mod size;

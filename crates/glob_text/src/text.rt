@@ -4,36 +4,34 @@ ghost use Rattle.glob_text.specs.Marks.{mark_of};
 ghost use Rattle.glob_text.specs.Texts.{IsChoiceFault, IsSymbolsFault, IsFault, AreChoicesOf, AreOfSymbols, IsMeaning};
 
 use crate::braces::brace_fault;
-use crate::choices::choices;
+use crate::choices::compile_choices;
 use crate::fault::{FaultKind, PatternFault};
 use crate::fold::cased;
 use crate::mark::{Mark, marks};
-use crate::part::compile_each;
 use crate::symbol::{Symbol, symbols};
 use crate::syntax::Syntax;
 use std::alloc::{AllocError, Allocator};
-use wildcards::{Choice, Letters};
+use wildcards::{Choice, Letters, Separators};
 
 /// Compiles marks, or returns their fault.
 fn compile_marks<A: Allocator + Copy>(
     alloc: A,
-    syntax: Syntax,
+    separators: Separators,
     marks: &[Mark<A>],
 ) -> Result<Result<Vec<Choice<A>, A>, PatternFault>, AllocError>
     ensures { IfOk result (λ read. MatchResult read
-        (λ compiled. AreChoicesOf syntax (map mark_of marks.now) compiled.items)
+        (λ compiled. AreChoicesOf separators (map mark_of marks.now) compiled.items)
         (λ fault. IsChoiceFault (map mark_of marks.now) fault)) }
 {
     if let Some(fault) = brace_fault(marks) {
         return Ok(Err(fault));
     }
-    let Some(chosen) = choices(alloc, marks)? else {
+    let Some(compiled) = compile_choices(alloc, separators, marks)? else {
         return Ok(Err(PatternFault {
             kind: FaultKind::TooManyChoices,
             index: 0,
         }));
     };
-    let compiled = compile_each(alloc, syntax.separators, marks, &chosen)?;
     Ok(Ok(compiled))
 }
 
@@ -50,7 +48,7 @@ fn compile_symbols<A: Allocator + Copy>(
     match marks(alloc, syntax, text)? {
         Ok(marks) => compile_marks(
             alloc,
-            syntax,
+            syntax.separators,
             &cased(alloc, syntax.case_insensitive, marks)?,
         ),
         Err(fault) => Ok(Err(fault)),
@@ -63,6 +61,9 @@ fn compile_symbols<A: Allocator + Copy>(
 /// A pattern is too large if it is written out as more than 1,024 patterns. It is also too large if
 /// it is written out as several, and these have more than 65,536 marks together. A mark is a
 /// letter, a wildcard or a class.
+///
+/// If it is written out as more than 16 patterns, `{a,b}` is compiled as `[ab]`. This is so if each alternative
+/// is a class, or a letter that is neither a separator nor a dot. Choices are counted as they are written.
 ///
 /// What is written out is counted first, in time and memory in proportion to the text. So
 /// compiling takes memory in proportion to the bytes of the text and at most 65,536 marks. On a

@@ -1,13 +1,17 @@
 -- What the pattern of a name matches.
 use Rattle.std.proofs.Common.{◌≡◌, ◌↔◌, ℕ, Bool, List, refl, sym, ap, ◌∙◌, subst, IsTrue}
+use Rattle.std.specs.Prelude.{Result, Ok, Err, IfOk, MatchResult}
+use Rattle.std.specs.declared.vec.Vec.{Vec}
 use Rattle.wildcards.specs.Reading.{LetterLaws}
 use Rattle.wildcards.specs.declared.pattern.Choice.{Choice}
 use Rattle.wildcards.specs.declared.separators.Separators.TheVariants.{Slash}
+use Rattle.glob_text.specs.declared.fault.PatternFault.{PatternFault}
 use Rattle.glob_text.specs.declared.syntax.Syntax.{Syntax}
+use Rattle.glob_text.specs.Alternatives.{AreWithinLimits}
 use Rattle.glob_text.specs.Escape.{IsPatternOf}
 use Rattle.glob_text.specs.Marks.{Mark}
 use Rattle.glob_text.specs.Meaning.{MatchesWrittenOut}
-use Rattle.glob_text.specs.Texts.{AreWrittenOut, IsMeaning}
+use Rattle.glob_text.specs.Texts.{AreWrittenOut, IsFault, IsMeaning}
 use Rattle.glob_patterns.specs.declared.options.GlobOptions.{GlobOptions}
 use Rattle.glob_patterns.specs.Letters.{letters_of}
 use Rattle.glob_patterns.specs.Options.{usual_options, syntax_of, options_of}
@@ -37,3 +41,10 @@ module _ (formed : List ℕ → Type 0) (units : List ℕ → List ℕ) where
       let h = s text n in
       let k = q.alone refl tt (usual.literal_leading_dot) n.are.are.written_out (letters_of units path) (written formed (letters_of units) (syntax_of usual) text choices n) in
       (λ x. laws.once path name fp fn (k.0 (h.0 x)), λ x. h.1 (k.1 (ap (letters_of units) x)))
+
+-- what a text is compiled to is within the limits
+pub within_limits : {A : Type 0} (formed : List ℕ → Type 0) (letters : List ℕ → List ℕ) (o : Syntax) (text : List ℕ) (read : Result (Vec (Choice A) A) PatternFault)
+    → MatchResult read (λ compiled. IsMeaning formed letters o text compiled.items) (λ fault. IsFault formed letters o text fault)
+    → IfOk read (λ compiled. (cs : List (List Mark)) × (AreWrittenOut formed letters o text cs × AreWithinLimits cs))
+within_limits formed letters o text (Ok compiled) m = (m.are.are.written_out, (written formed letters o text compiled.items m, m.are.are.limits))
+within_limits formed letters o text (Err fault) m = tt

@@ -8,7 +8,6 @@ ghost use Rattle.glob_text.specs.Alternatives.{AreChoices, AreTooMany, AreWithin
 ghost use Rattle.glob_text.specs.Escape.{IsPatternOf};
 ghost use Rattle.glob_text.specs.Marks.{Mark};
 ghost use Rattle.glob_text.specs.Meaning.{MatchesWrittenOut};
-ghost use Rattle.glob_text.specs.Parts.{AreCompiled};
 ghost use Rattle.glob_text.specs.Texts.{IsMeaning, IsFault, AreWrittenOut};
 
 use glob_text::{PatternFault, Syntax, compile, escape, laws};
@@ -29,18 +28,21 @@ pub fn pattern_of<L: Letters, A: Allocator>(
     escape(alloc, syntax, name)
 }
 
-/// Whether a path has one of the choices that are compiled, by the marks that they were compiled of.
+/// Whether a path has one of the choices that are compiled, by the patterns that their text is written out
+/// as.
 pub fn has_choice<L: Letters, A: Allocator>(
     options: Options,
     choices: &[Choice<A>],
     path: &[u8],
 ) -> bool
     requires { L.formed path.now }
-    ensures { (written : List (List Mark))
-        → AreCompiled options.separators written choices.entry.now
+    ensures { (o : Syntax) → (text : List ℕ) → (written : List (List Mark))
+        → IsMeaning L.formed L.letters o text choices.entry.now
+        → AreWrittenOut L.formed L.letters o text written
+        → options.separators ≡ o.separators
         → IsTrue result ↔ MatchesWrittenOut options written (L.letters path.now) }
 {
-    laws::written_out::<A>();
+    laws::written_out::<L, A>();
     matches_choice::<L, A>(options, choices, path)
 }
 
@@ -52,7 +54,7 @@ pub fn within_limits()
     laws::written_once();
 }
 
-/// The choices that a pattern is compiled to: they are those of marks that are within both limits.
+/// The choices that a pattern is compiled to: it is written out as patterns that are within both limits.
 pub fn compile_within_limits<L: Letters, A: Allocator + Copy>(
     alloc: A,
     syntax: Syntax,
@@ -60,7 +62,8 @@ pub fn compile_within_limits<L: Letters, A: Allocator + Copy>(
 ) -> Result<Result<Vec<Choice<A>, A>, PatternFault>, AllocError>
     requires { L.formed text.now }
     ensures { IfOk result (λ read. IfOk read (λ compiled. (written : List (List Mark))
-        × (AreCompiled syntax.separators written compiled.items × AreWithinLimits written))) }
+        × (AreWrittenOut L.formed L.letters syntax text.now written
+        × AreWithinLimits written))) }
 {
     compile::<L, A>(alloc, syntax, text)
 }

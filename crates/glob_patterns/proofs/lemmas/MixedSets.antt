@@ -16,7 +16,6 @@ use Rattle.wildcards.specs.Sets.{Has, IsHit, AreHits, MatchesChoice}
 use Rattle.wildcards.proofs.lemmas.Found.{has_more, has_pushed}
 use Rattle.glob_text.specs.declared.fault.PatternFault.{PatternFault}
 use Rattle.glob_text.specs.Texts.{AreWrittenOut, IsMeaning, IsFault}
-use Rattle.glob_text.proofs.lemmas.Meanings.{choices_alike}
 use Rattle.glob_text.proofs.lemmas.OneMeaning.{one_meaning}
 use Rattle.glob_patterns.specs.Options.{options_of, syntax_of}
 use Rattle.glob_patterns.specs.MixedSets.{AreMatchesOfGlobs, AreSetsOf, AreSetHits, ArePatternsAt, FoundInSets, Glob, HasMeaning, IsAt, IsFaultAt, IsFirstFaultAt, IsMatchOfGlobs, IsPatternAt, IsSetHit, MatchesText, way_of}
@@ -244,13 +243,13 @@ module _ (formed : List ℕ → Type 0) (letters : List ℕ → List ℕ) where
     text_match : (way : Options) (g : Glob) (p : Pattern A) → options_of g.0 ≡ way → IsMeaning formed letters (syntax_of g.0) g.1 p.choices.items → MatchesChoice way p.choices.items path → MatchesText formed letters path g
     text_match way g p e m h =
         let are = m.are.are in
-        (are.written_out, (written g p m, (choices_alike (options_of g.0) are.written_out p.choices.items path are.compiled).0 (subst (λ z. MatchesChoice z p.choices.items path) (sym e) h)))
+        (are.written_out, (written g p m, (are.matched (options_of g.0) refl path).0 (subst (λ z. MatchesChoice z p.choices.items path) (sym e) h)))
 
     match_text : (way : Options) (g : Glob) (p : Pattern A) → options_of g.0 ≡ way → IsMeaning formed letters (syntax_of g.0) g.1 p.choices.items → MatchesText formed letters path g → MatchesChoice way p.choices.items path
     match_text way g p e m h =
         let are = m.are.are in
         let same = one_meaning formed letters laws (syntax_of g.0) g.1 h.0 are.written_out h.1.0 (written g p m) (options_of g.0) path in
-        subst (λ z. MatchesChoice z p.choices.items path) e ((choices_alike (options_of g.0) are.written_out p.choices.items path are.compiled).1 (same.0 h.1.1))
+        subst (λ z. MatchesChoice z p.choices.items path) e ((are.matched (options_of g.0) refl path).1 (same.0 h.1.1))
 
     sound_in : (way : Options) (gs : List Glob) (ps : List (Pattern A)) → ArePatternsAt formed letters way gs ps → (i : ℕ) → IsHit way ps path i → IsAt (MatchesText formed letters path) gs i
     sound_in way [] [] are i h = let l = h.0 in omega (arith, l)

@@ -1,10 +1,9 @@
 -- The pattern of an index matches where its text does.
-use Rattle.std.proofs.Common.{◌↔◌, ℕ, zero, suc, List, [], ◌∷◌, sym, subst, arith, IsTrue, Result, Ok, Err, OnOk}
+use Rattle.std.proofs.Common.{◌↔◌, ℕ, zero, suc, List, [], ◌∷◌, refl, sym, subst, arith, IsTrue, Result, Ok, Err, OnOk}
 use Rattle.std.specs.Prelude.{Bool}
 use Rattle.wildcards.specs.declared.options.Options.{Options}
 use Rattle.wildcards.specs.declared.set.Pattern.{Pattern}
 use Rattle.wildcards.specs.Sets.{IsHit, AreHits}
-use Rattle.glob_text.proofs.lemmas.Meanings.{choices_alike}
 use Rattle.glob_patterns.specs.declared.options.GlobOptions.{GlobOptions}
 use Rattle.glob_patterns.specs.GlobSets.{AreMeanings}
 use Rattle.glob_patterns.specs.Options.{options_of, syntax_of}
@@ -17,8 +16,7 @@ module _ (formed : List ℕ → Type 0) (letters : List ℕ → List ℕ) {A : T
     hit_alike [] (p ∷ ps) meanings i = absurd meanings
     hit_alike (t ∷ ts) [] meanings i = absurd meanings
     hit_alike (t ∷ ts) (p ∷ ps) meanings zero =
-        let are = meanings.0.are.are in
-        let same = choices_alike (options_of o) are.written_out p.choices.items path are.compiled in
+        let same = meanings.0.are.are.matched (options_of o) refl path in
         (λ h. same.0 (h.1 p), λ k. (omega arith, λ d. same.1 k))
     hit_alike (t ∷ ts) (p ∷ ps) meanings (suc i) =
         let same = hit_alike ts ps meanings.1 i in

@@ -121,10 +121,10 @@ more_cases [] r c e = ⊎_elim inr (λ h. let never : false ≡ true = h in absu
 more_cases (f ∷ fs) r c e =
     ⊎_elim (λ h. inl (or_left (lies_in f c) (is_in fs c) h)) (λ h. ⊎_elim (λ k. inl (or_right (lies_in f c) (is_in fs c) k)) inr (more_cases fs r c h)) (or_cases (lies_in f c) (is_in (fs ++ r ∷ []) c) e)
 
-lies_alone : (a c : ℕ) → lies_in (range a a) c ≡ true → a ≡ c
+pub lies_alone : (a c : ℕ) → lies_in (range a a) c ≡ true → a ≡ c
 lies_alone a c e = let h = and_parts (leb a c) (leb c a) e in omega (arith, leb-true a c h.0, leb-true c a h.1)
 
-lies_itself : (a : ℕ) → lies_in (range a a) a ≡ true
+pub lies_itself : (a : ℕ) → lies_in (range a a) a ≡ true
 lies_itself a = and_from (leb a a) (leb a a) (le-leb a a (omega arith)) (le-leb a a (omega arith))
 
 -- the letters that differ from one of the range in case alone and aren't in it, of the pairs before this index

@@ -84,7 +84,7 @@ module _ (o : Separators) where
   own_deep (m ∷ n ∷ []) left e = ap (λ z. is_doubled m && (is_star n && z)) e
   own_deep (m ∷ n ∷ k ∷ own) left e = refl
 
-  some_split : (p : Mark → Bool) (xs : List Mark) → are_some (slice_split p xs) ≡ true
+  pub some_split : (p : Mark → Bool) (xs : List Mark) → are_some (slice_split p xs) ≡ true
   some_split p [] = refl
   some_split p (x ∷ xs) = by_first (p x) (slice_split p xs) (some_split p xs)
     where

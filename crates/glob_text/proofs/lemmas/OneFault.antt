@@ -6,6 +6,7 @@ use Rattle.wildcards.specs.Reading.{LetterLaws}
 use Rattle.glob_text.specs.declared.fault.PatternFault.{PatternFault}
 use Rattle.glob_text.specs.declared.fault.FaultKind.TheVariants.{UnclosedAlternatives, UnopenedAlternatives}
 use Rattle.glob_text.specs.declared.symbol.Symbol.{Symbol}
+use Rattle.wildcards.specs.declared.separators.Separators.{Separators}
 use Rattle.glob_text.specs.declared.syntax.Syntax.{Syntax}
 use Rattle.glob_text.specs.Alternatives.{mark_count, AreChoices, AreTooLarge, AreWithinLimits, Level, is_itself, StandFor, nothing, one, group, first, next}
 use Rattle.glob_text.specs.Braces.{depth_after, if_some, goes_on, are_balanced, IsBraceFault}
@@ -152,7 +153,7 @@ choice_fault_once ms ns fault other same back (inl f) (inr g) = absurd (brace_or
 choice_fault_once ms ns fault other same back (inr f) (inl g) = absurd (brace_or_choices ns ms f.are.choices other back g f.are.are)
 choice_fault_once ms ns fault other same back (inr f) (inr g) = f.fault_is ∙ sym g.fault_is
 
-choices_or_fault : {A : Type 0} (o : Syntax) (ms ns : List Mark) (choices : List (Choice A)) (fault : PatternFault) → AreSame ms ns → AreSame ns ms → AreChoicesOf o ms choices → IsChoiceFault ns fault → ⊥
+choices_or_fault : {A : Type 0} (o : Separators) (ms ns : List Mark) (choices : List (Choice A)) (fault : PatternFault) → AreSame ms ns → AreSame ns ms → AreChoicesOf o ms choices → IsChoiceFault ns fault → ⊥
 choices_or_fault o ms ns choices fault same back f (inl g) = brace_or_choices ns ms f.written_out fault back g f.are
 choices_or_fault o ms ns choices fault same back f (inr g) =
     let w = over f.are ns same in
@@ -173,7 +174,7 @@ module _ (o : Syntax) (symbols : List Symbol) where
   symbols_or_fault choices fault f (inr g) =
       let one = marks_once o symbols f.marks g.marks f.read g.read in
       let cased = subst (λ z. AreCased o.case_insensitive z f.cased) one f.are_cased in
-      choices_or_fault o f.cased g.cased choices fault (cased_same o.case_insensitive g.marks f.cased g.cased cased g.are_cased) (cased_same o.case_insensitive g.marks g.cased f.cased g.are_cased cased) f.are g.fault_is
+      choices_or_fault o.separators f.cased g.cased choices fault (cased_same o.case_insensitive g.marks f.cased g.cased cased g.are_cased) (cased_same o.case_insensitive g.marks g.cased f.cased g.are_cased cased) f.are g.fault_is
 
 module _ (formed : List ℕ → Type 0) (letters : List ℕ → List ℕ) (laws : LetterLaws formed letters) (o : Syntax) (text : List ℕ) where
   pub one_fault : (fault other : PatternFault) → IsFault formed letters o text fault → IsFault formed letters o text other → fault ≡ other

@@ -23,7 +23,6 @@ use Rattle.glob_text.specs.Marks.{Mark}
 use Rattle.glob_text.specs.Texts as pattern
 use Rattle.glob_text.specs.Texts.{IsMeaning}
 use Rattle.glob_text.specs.declared.fault.PatternFault.{PatternFault}
-use Rattle.glob_text.proofs.lemmas.Meanings.{choices_alike}
 use Rattle.wildcards.specs.Sets.{IsHit}
 use Rattle.wildcards.specs.declared.pattern.Choice.{Choice}
 use Rattle.wildcards.specs.declared.set.Pattern.{Pattern}
@@ -168,13 +167,13 @@ module _ {E A : Type 0} (p : Ghosts E) (o : GlobOptions) where
     hit_matches [] [] c i h = absurd (omega (arith, h.0))
     hit_matches [] (q ∷ ps) c i h = absurd c
     hit_matches (t ∷ texts) [] c i h = absurd c
-    hit_matches (t ∷ texts) (q ∷ ps) c zero h = inl ((choices_alike (options_of o) c.0.are.are.written_out q.choices.items (letters_of p.units name) c.0.are.are.compiled).0 (h.1 q))
+    hit_matches (t ∷ texts) (q ∷ ps) c zero h = inl ((c.0.are.are.matched (options_of o) refl (letters_of p.units name)).0 (h.1 q))
     hit_matches (t ∷ texts) (q ∷ ps) c (suc i) h = inr (hit_matches texts ps c.1 i (omega (arith, h.0), h.1))
 
     matches_hit : (texts : List (List ℕ)) (ps : List (Pattern A)) (c : AreCompiled texts ps) → IsMatched p o (written_of texts ps c) name → (i : ℕ) × Hits ps i
     matches_hit [] ps c m = absurd m
     matches_hit (t ∷ texts) [] c m = absurd c
-    matches_hit (t ∷ texts) (q ∷ ps) c (inl m) = (0, (omega arith, λ d. (choices_alike (options_of o) c.0.are.are.written_out q.choices.items (letters_of p.units name) c.0.are.are.compiled).1 m))
+    matches_hit (t ∷ texts) (q ∷ ps) c (inl m) = (0, (omega arith, λ d. (c.0.are.are.matched (options_of o) refl (letters_of p.units name)).1 m))
     matches_hit (t ∷ texts) (q ∷ ps) c (inr m) =
         let more = matches_hit texts ps c.1 m in
         let below = more.1.0 in

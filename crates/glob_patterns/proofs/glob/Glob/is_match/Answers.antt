@@ -1,7 +1,6 @@
-use Rattle.std.proofs.Common.{rules, ◌↔◌, IsTrue}
+use Rattle.std.proofs.Common.{rules, ◌↔◌, IsTrue, refl}
 use Rattle.platform_str.specs.Strings.{bytes}
 use Rattle.wildcards.specs.Sets.{MatchesChoice}
-use Rattle.glob_text.proofs.lemmas.Meanings.{choices_alike}
 use Rattle.glob_patterns.specs.Globs.{choices_of}
 use Rattle.glob_patterns.specs.Letters.{letters_of}
 use Rattle.glob_patterns.specs.Options.{options_of}
@@ -13,5 +12,5 @@ returns-clause-text g c = λ text meaning.
     let choices = choices_of c.args.self.now in
     let path = letters_of g.E.Platform.units (bytes c.args.path) in
     let value : IsTrue c.matches_choice.result ↔ MatchesChoice o choices path = search rules in
-    let same = choices_alike o meaning.are.are.written_out choices path meaning.are.are.compiled in
+    let same = meaning.are.are.matched o refl path in
     (λ k. same.0 (value.0 k), λ k. value.1 (same.1 k))

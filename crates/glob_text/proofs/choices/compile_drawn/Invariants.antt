@@ -4,7 +4,7 @@ use Rattle.glob_text.specs.Chosen.{indices_of}
 use Rattle.glob_text.specs.Marks.{mark_of}
 use Rattle.glob_text.specs.Nodes.{opened_of}
 use Rattle.glob_text.proofs.lemmas.Written.{weight, weights, IsWriting}
-use Rattle.glob_text.proofs.choices.choices.Given as goal
+use Rattle.glob_text.proofs.choices.compile_drawn.Given as goal
 
 abbrev pub invariant-loop-written : goal.invariant-loop-written
 invariant-loop-written g l =
