@@ -12,6 +12,8 @@ use std::slice;
 use std::sync::{LazyLock, OnceLock};
 
 const COUNTS: [usize; 4] = [1, 10, 100, 1000];
+/// Without case globset takes 14 milliseconds for a path and 1,000 patterns, so a run would take minutes.
+const FEWER: [usize; 4] = [1, 10, 100, 300];
 
 /// Makes so many patterns.
 type Patterns = fn(usize) -> Vec<String>;
@@ -22,19 +24,20 @@ const KINDS: [(&str, Patterns, bool, usize); 5] = [
     ("`**/*.ext`", extensions, false, 100),
     ("literal paths", literals, false, 100),
     ("a mix", mix, false, 1),
-    ("`**/*.EXT` without case", upper_extensions, true, 100),
+    ("`**/*.EXT` without case", upper_extensions, true, 10),
     ("a mix without case", mix, true, 1),
 ];
 
-/// The sets of globset that are timed, of each kind and count. Each is made once, since it takes globset some
-/// ten seconds to make one of 1,000 of a mix.
+/// The sets of globset that are timed, of each kind and count. Each is made once, since its automaton grows while
+/// it matches.
 static ASKED: [[OnceLock<GlobSet>; COUNTS.len()]; KINDS.len()] =
     [const { [const { OnceLock::new() }; COUNTS.len()] }; KINDS.len()];
 
 pub fn time(bench: &mut Bench) {
     bench.table("Patterns in sets beside globset", "a path");
     for ((kind, patterns, folds, most), asked) in KINDS.into_iter().zip(&ASKED) {
-        for (count, asked) in COUNTS.into_iter().zip(asked) {
+        let counts = if folds { FEWER } else { COUNTS };
+        for (count, asked) in counts.into_iter().zip(asked) {
             let input = format!("{kind}, {count}");
             if bench.wants("matches", &input) || bench.wants("is_match", &input) {
                 let patterns = patterns(count);
@@ -45,7 +48,7 @@ pub fn time(bench: &mut Bench) {
     }
     bench.table("Patterns into sets beside globset", "a pattern");
     for (kind, patterns, folds, _) in KINDS {
-        let counts = if kind.starts_with("a mix") { [1, 10, 100, 300] } else { COUNTS };
+        let counts = if kind.starts_with("a mix") { FEWER } else { COUNTS };
         for count in counts {
             let input = format!("{kind}, {count}");
             if bench.wants("new", &input) {

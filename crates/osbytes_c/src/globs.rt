@@ -112,8 +112,8 @@ fn matches_on<E: Platform>(
     count: &mut usize,
     fault: &mut GlobFault,
 ) -> u32
-    ensures written { IsWritten result (AreMatchesReported E.well_formed E.units options patterns.now
-        paths.now) matched.old matched.new count.new }
+    ensures written { IsWritten result (AreMatchesReported E.well_formed E.units options
+        patterns.now paths.now) matched.old matched.new count.new }
     ensures strings { result ≡ faulty → HasUnstring E.well_formed E.units options patterns.now
         paths.now }
     ensures pattern { result ≡ no_pattern → IsGlobFault E.well_formed E.units options patterns.now

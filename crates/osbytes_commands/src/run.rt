@@ -60,7 +60,8 @@ pub fn run<A: Allocator, R: Read, W: Write>(
     // When each fault comes.
     ensures of_input { IfErr result (λ fault. IsOfInput fault
         → RejectsInput command.entry (R.remaining (marked_inner reader.old)) fault) }
-    ensures rejection { AnswersRejection command.entry (R.remaining (marked_inner reader.old)) result }
+    ensures rejection { AnswersRejection command.entry (R.remaining (marked_inner reader.old))
+        result }
     ensures usage { (result ≡ Err Fault.Usage) ↔ IsUnusable command.entry }
     ensures nothing_read { result ≡ Err Fault.Usage → reader.new ≡ reader.old }
     ensures read { (result ≡ Err Fault.Read) ↔ (has_failed reader.new ≡ true) }

@@ -15,18 +15,18 @@ paths: lists of paths, taken apart and built path by path
 paths components [PLATFORM]        writes the escape of each component on a line, then an empty line
 paths parent     [PLATFORM]        writes the path without its last component
 paths name       [PLATFORM]        writes the last component, where that is a name
-paths stem       [PLATFORM]        writes that name without its extension
-paths extension  [PLATFORM]        writes the extension of that name
+paths stem       [PLATFORM]        writes the name without its extension
+paths extension  [PLATFORM]        writes the extension of the name
 paths with-extension [PLATFORM] EXT
-                                   writes the path with EXT as that extension, or with none if EXT is empty; a path
-                                   that doesn't end in a name stays
+                                   writes the path with EXT as the extension, or with none if EXT is empty; a path
+                                   that doesn't end in a name is written as it is
 paths common     [PLATFORM]        writes the longest path that all paths begin with, one result for all, or . if
                                    they share no component; paths with different roots are rejected
-paths normalize  [PLATFORM]        writes the path without . and ..; a .. takes the name before it away, and a
-                                   path with a .. that has none is rejected
-paths clean      [PLATFORM]        as normalize, but such a .. stays, or goes at a root
-paths starts-with [PLATFORM] BASE  writes the path as it is if it begins with the components of BASE, and nothing for
-                                   another
+paths normalize  [PLATFORM]        writes the path without . and ..; a .. removes the name before it, and a path
+                                   with a .. that has none before it is rejected
+paths clean      [PLATFORM]        as normalize, but a .. without a name before it stays, or is dropped at a root
+paths starts-with [PLATFORM] BASE  writes the path as it is if it begins with the components of BASE, and leaves out
+                                   the others
 paths join       [PLATFORM] BASE   writes the path after BASE; one with a root or a prefix replaces BASE, and ..
                                    may leave it
 paths join --checked [PLATFORM] BASE

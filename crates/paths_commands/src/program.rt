@@ -131,9 +131,9 @@ fn run_line<P: Eprint, A: Allocator + Copy, R: Read, W: Write>(
 ) -> Result<(), Fault>
     requires reader_unmarked { has_failed reader.old ≡ false }
     requires writer_unmarked { has_failed writer.old ≡ false }
-    ensures run { UnlessOutOfMemory (RunsLine after_end given.now) (R.remaining (marked_inner reader.old))
-        (R.remaining (marked_inner reader.new)) (W.contents (marked_inner writer.old))
-        (W.contents (marked_inner writer.new)) result }
+    ensures run { UnlessOutOfMemory (RunsLine after_end given.now)
+        (R.remaining (marked_inner reader.old)) (R.remaining (marked_inner reader.new))
+        (W.contents (marked_inner writer.old)) (W.contents (marked_inner writer.new)) result }
     ensures ends { BlamesEnds result (has_failed reader.new) (has_failed writer.new) }
 {
     match Command::parse(given, after_end) {

@@ -1,11 +1,8 @@
 -- What the program `paths` reads where paths are given.
-use Rattle.std.proofs.Common.{◌≡◌, ◌⊎◌, inl, inr, ℕ, List, [], ◌∷◌, Option, Result, Err, refl, ap}
+use Rattle.std.proofs.Common.{◌≡◌, inl, inr, ℕ, List, [], ◌∷◌, Option, Result, refl}
 use Rattle.std.specs.Prelude.{⊤, Bool}
 use Rattle.list_programs.specs.Arguments.{operands_of}
-use Rattle.program_frame.specs.declared.fault.Failure.TheVariants.{Memory}
-use Rattle.list_programs.specs.declared.fault.ListFault.TheVariants.{Run}
 use Rattle.list_programs.specs.declared.options.ListOptions.{ListOptions}
-use Rattle.list_programs.specs.declared.program_fault.Fault.TheVariants.{List as OfList}
 use Rattle.program_frame.specs.declared.os.Os.{Os}
 use Rattle.paths_commands.specs.Program.{Does, Fault, RunsOver, RunsTo}
 use Rattle.paths_commands.specs.declared.command.Command.{Command}

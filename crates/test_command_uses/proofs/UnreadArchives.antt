@@ -1,5 +1,5 @@
 -- Archives that have a fault at their first header.
-use Rattle.std.proofs.Common.{◌≡◌, ◌≢◌, inl, inr, ⊎_elim, ℕ, ◌<◌, Bool, true, false, List, [], ◌∷◌, ◌++◌, Option, Some, None, Result, Ok, Err, length, take, refl, sym, ap, ◌∙◌, subst, arith}
+use Rattle.std.proofs.Common.{◌≡◌, ◌≢◌, inl, inr, ⊎_elim, ℕ, Bool, true, false, List, [], ◌++◌, Option, Some, None, Result, length, take, refl, sym, ap, ◌∙◌, subst, arith}
 use Rattle.std.proofs.Math.Seq.{take-append_seam}
 use Rattle.std.specs.Prelude.{⊤}
 use Rattle.std.specs.Io.KnownBytes.{Appends}
@@ -7,7 +7,7 @@ use Rattle.os_str_bytes.specs.Platform.{Ghosts}
 use Rattle.tar_names.specs.declared.fault.TarFault.{TarFault}
 use Rattle.tar_names.specs.declared.fault.TarFault.TheVariants.{CutOff, End, Sum, Kind, Size, Padding, Unused, Record, GnuRecord, Global, Empty, Twice, Hidden, Prefix, TooLong}
 use Rattle.tar_names.specs.Fields.{after_spaces, digits_of, field}
-use Rattle.tar_names.specs.Member.{BeginsWithHeader, HasPadding, IsCut, IsMember, IsMemberFault, IsSize, block_of, is_known, type_of}
+use Rattle.tar_names.specs.Member.{BeginsWithHeader, IsCut, IsMember, IsMemberFault, IsSize, block_of, is_known, type_of}
 use Rattle.tar_names.specs.Names.{AreNames, bad_member, bad_name, bad_said, ended, entry, filled, said, too_long}
 use Rattle.program_frame.specs.declared.fault.Failure.TheVariants.{Memory, Read, Write}
 use Rattle.list_programs.specs.declared.fault.ListFault.{ListFault}

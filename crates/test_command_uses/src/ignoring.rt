@@ -60,9 +60,9 @@ pub fn left_out<A: Allocator + Copy, W: Output, E: Messages>(
     requires whole { Lacks 0 name.now }
     requires ended { names.now ≡ name.now ++ 0 ∷ [] }
     requires unmarked { has_failed writer.old ≡ false }
-    ensures { OnOk result ((text : List ℕ) × (IsFilteredBy A false file.entry.bytes.now name.now text
-        × Appends (W.contents (marked_inner writer.old)) (W.contents (marked_inner writer.new))
-        text)) }
+    ensures { OnOk result ((text : List ℕ) × (IsFilteredBy A false file.entry.bytes.now name.now
+        text × Appends (W.contents (marked_inner writer.old))
+        (W.contents (marked_inner writer.new)) text)) }
 {
     one_outcome();
     let mut reader = Marked::new(names);

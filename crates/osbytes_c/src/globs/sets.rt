@@ -161,8 +161,8 @@ pub extern "C" fn osb_core_globs_matches(
     matched: &mut [u8],
     count: &mut usize,
 ) -> u32
-    ensures written { IsWritten result (AreReportedBy held.old.globs paths.now) matched.old matched.new
-        count.new }
+    ensures written { IsWritten result (AreReportedBy held.old.globs paths.now) matched.old
+        matched.new count.new }
     ensures strings { result ≡ faulty → HasOtherBy held.old.globs paths.now }
     ensures none { (result ≡ empty) ↔ (is_some held.old.globs ≡ false) }
     ensures left { held.new ≡ held.old }

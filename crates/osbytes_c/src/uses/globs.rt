@@ -27,8 +27,9 @@ pub fn reported_in(
     buffer: &mut [u8],
     fault: &mut GlobFault,
 ) -> Result<usize, u32>
-    ensures reported { IfOk result (λ count. AreMatchesReported (formed_on platform) (units_on platform)
-        (glob_options options) patterns.now paths.now (take count buffer.new)) }
+    ensures reported { IfOk result (λ count. AreMatchesReported (formed_on platform)
+        (units_on platform) (glob_options options) patterns.now paths.now
+        (take count buffer.new)) }
     ensures pattern { IfErr result (λ code. code ≡ 17 → IsGlobFault (formed_on platform)
         (units_on platform) (glob_options options) patterns.now fault.new) }
     ensures strings { IfErr result (λ code. code ≡ 1 → HasUnstring (formed_on platform)
@@ -57,7 +58,8 @@ pub fn matched_once(
     held: &mut HeldGlobs,
     fault: &mut GlobFault,
 ) -> u32
-    ensures { result ≢ 99 → IsMatchedBy platform (glob_options options) patterns.now path.now result }
+    ensures { result ≢ 99 → IsMatchedBy platform (glob_options options) patterns.now path.now
+        result }
 {
     if osb_core_globs_new(alloc, platform, options, patterns, held, fault) != DONE {
         return 99;
