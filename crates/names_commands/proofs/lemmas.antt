@@ -6,6 +6,7 @@ pub mod EscapesBack
 pub mod Ignored
 pub mod Picked
 pub mod Picks
+pub mod PatternFiles
 pub mod Words
 pub mod Names
 pub mod WordsBack

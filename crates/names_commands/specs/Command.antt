@@ -122,6 +122,12 @@ TakesOption name.Why option.Exclude = ⊥
 TakesOption name.Join option.Exclude = ⊥
 TakesOption name.Check option.Exclude = ⊥
 TakesOption name.Tar option.Exclude = ⊥
+TakesOption name.List option.GlobsFrom = Unit {0}
+TakesOption name.Filter option.GlobsFrom = Unit {0}
+TakesOption name.Why option.GlobsFrom = ⊥
+TakesOption name.Join option.GlobsFrom = ⊥
+TakesOption name.Check option.GlobsFrom = ⊥
+TakesOption name.Tar option.GlobsFrom = ⊥
 
 -- the command takes the option, if this is one
 abbrev pub FitsOne : Name → Given NamesOption → Type 0
@@ -138,9 +144,9 @@ Fits command (one ∷ given) = FitsOne command one × Fits command given
 abbrev pub HasOperands : Line → Name → Os → List (List ℕ) → Type 0
 HasOperands given command os more = (after : List (List ℕ)) × ((operands_of given ≡ name_word command ∷ after) × HasPlatform after os more)
 
--- options pick some names: by patterns of names to pick or to leave out, or by ignore files
+-- options pick some names: by patterns of names to pick or to leave out, by ignore files, or by pattern files
 abbrev pub OptionsPick : Line → Type 0
-OptionsPick given = HasOption option.Glob given ⊎ (HasOption option.Ignore given ⊎ (HasOption option.Name given ⊎ HasOption option.Exclude given))
+OptionsPick given = HasOption option.Glob given ⊎ (HasOption option.Ignore given ⊎ (HasOption option.Name given ⊎ (HasOption option.Exclude given ⊎ HasOption option.GlobsFrom given)))
 
 -- some names are picked: by a pattern that is an operand, or by options
 abbrev pub SomePicked : Line → List (List ℕ) → Type 0
@@ -219,12 +225,13 @@ IsMax given max =
 abbrev pub IsListed : Line → ListOptions → Type 0
 IsListed given list = (max : ℕ) × (IsMax given max × AreStated option.Lines option.Unterminated max given list)
 
--- all that options and operands state: the command, how the list is written, the patterns, of which the first `plain` come before those of `--name`, the values of `--ignore`, whether the names are picked that don't match, whether patterns and files match without regard to case, and the patterns of names that are left out in any case
+-- all that options and operands state: the command, how the list is written, the patterns, of which the first `plain` come before those of `--name`, the pattern files, the values of `--ignore`, whether the names are picked that don't match, whether patterns and files match without regard to case, and the patterns of names that are left out in any case
 pub record Requested : Type 0 where
   pub command : Command
   pub list : ListOptions
   pub plain : ℕ
   pub globs : List (List ℕ)
+  pub pattern_files : List (List ℕ)
   pub files : List (List ℕ)
   pub inverted : Bool
   pub case_insensitive : Bool
@@ -237,15 +244,20 @@ requested_of request = record {
   list = request.list;
   plain = request.plain;
   globs = map string_bytes request.patterns.items;
+  pattern_files = map text_of request.pattern_files.items;
   files = map text_of request.files.items;
   inverted = request.inverted;
   case_insensitive = request.case_insensitive;
   excluded = map string_bytes request.excluded.items;
 }
 
--- these state the patterns, the ignore files, each in a directory of the tree, whether the other names are picked, whether case is disregarded, and the patterns of names that are left out
+-- what states patterns that pick names: arguments, and files
+abbrev pub sources_of : Requested → List (List ℕ)
+sources_of requested = requested.globs ++ requested.pattern_files
+
+-- these state the patterns, the pattern files, the ignore files, each in a directory of the tree, whether the other names are picked, whether case is disregarded, and the patterns of names that are left out
 abbrev pub StatesPicks : Line → Requested → Type 0
-StatesPicks given a = ArePatterns given a.plain a.globs × ((AreValues option.Ignore given a.files × AllByRecursion IsPlaced a.files) × ((IsTrue a.inverted ↔ HasOption option.Invert given) × ((IsTrue a.case_insensitive ↔ HasOption option.IgnoreCase given) × AreValues option.Exclude given a.excluded)))
+StatesPicks given a = (ArePatterns given a.plain a.globs × AreValues option.GlobsFrom given a.pattern_files) × ((AreValues option.Ignore given a.files × AllByRecursion IsPlaced a.files) × ((IsTrue a.inverted ↔ HasOption option.Invert given) × ((IsTrue a.case_insensitive ↔ HasOption option.IgnoreCase given) × AreValues option.Exclude given a.excluded)))
 
 -- these make up the request: help, wherever its option is; the version; or a command
 abbrev pub IsRequestFor : Line → Requested → Type 0
@@ -260,7 +272,7 @@ IsRequestFor given a =
 abbrev pub IsMissing : Line → List ℕ → Type 0
 IsMissing given what =
     ((what ≡ codes "command (list, filter, why, join, check or tar)") × (operands_of given ≡ []))
-    ⊎ (((what ≡ codes "GLOB, --glob, --name, --ignore or --exclude") × ((command : Name) × (os : Os) × (HasOperands given command os [] × (NeedsPick given command × (¬ (SomePicked given []))))))
+    ⊎ (((what ≡ codes "GLOB, --glob, --globs-from, --name, --ignore or --exclude") × ((command : Name) × (os : Os) × (HasOperands given command os [] × (NeedsPick given command × (¬ (SomePicked given []))))))
     ⊎ ((what ≡ codes "--ignore") × ((os : Os) × (HasOperands given name.Why os [] × (¬ (HasOption option.Ignore given))))))
 
 -- which word is no command or no number of bytes, or states an ignore file in no directory of the tree
@@ -286,6 +298,7 @@ IsForPlatform os option.Ignore = TakesIgnore os
 IsForPlatform os option.Invert = Unit {0}
 IsForPlatform os option.IgnoreCase = Unit {0}
 IsForPlatform os option.Exclude = Unit {0}
+IsForPlatform os option.GlobsFrom = Unit {0}
 
 -- which option isn't for the command that is given, or for its platform
 pub record IsMisplaced (given : Line) (word where_to : List ℕ) : Type 0 where

@@ -5,6 +5,7 @@ use Rattle.std.specs.Fmt.Cut.{cut_to}
 use Rattle.std.specs.Fmt.InlineText.{inline_text}
 use Rattle.list_programs.specs.Misuse.{misuse_text}
 use Rattle.list_programs.specs.declared.misuse.Misuse as misuse
+use Rattle.glob_patterns.specs.declared.error.GlobError.TheVariants as glob_error
 use Rattle.glob_patterns.specs.declared.set_error.GlobSetError.TheVariants as set_error
 use Rattle.os_command_line.specs.ErrorText as words
 use Rattle.os_quote.specs.ErrorText.{error_text}
@@ -14,7 +15,7 @@ use Rattle.tar_names.specs.FaultText as tar
 use Rattle.names_commands.specs.declared.fault.Rejection.{Rejection}
 use Rattle.names_commands.specs.declared.fault.Rejection.TheVariants.{NoString, BadEscape, NotCanonical, HasNul, HasNewline, EndsInReturn, EmptyLine, BadWords, BadArchive}
 use Rattle.names_commands.specs.declared.fault.CommandFault.{CommandFault}
-use Rattle.names_commands.specs.declared.fault.CommandFault.TheVariants.{Unreadable, Misuse, Pattern, NoFile, Unread}
+use Rattle.names_commands.specs.declared.fault.CommandFault.TheVariants.{Unreadable, Misuse, Pattern, NoFile, Unread, NoPatternFile, UnreadPatternFile, LinePattern, LineNoString}
 
 -- what the program prints of the reason why an item is rejected
 abbrev pub rejection_text : Rejection → List ℕ
@@ -28,6 +29,10 @@ rejection_text EmptyLine = codes "the line is empty; --empty reads it as an empt
 rejection_text (BadWords fault) = words.fault_text fault
 rejection_text (BadArchive fault) = tar.fault_text fault
 
+-- which line of which pattern file has a fault
+abbrev pub line_text : ℕ → ℕ → List ℕ
+line_text file line = codes "pattern file " ++ (decimal file ++ (codes ", line " ++ (decimal line ++ codes ": ")))
+
 -- what the program prints of the reason why its arguments are rejected
 abbrev pub words_text : CommandFault → List ℕ
 words_text Unreadable = codes "an argument isn't valid UTF-8"
@@ -35,6 +40,10 @@ words_text (Misuse text) = inline_text text ++ codes "; names --help lists the c
 words_text (Pattern number why lines) = glob.set_error_text (set_error.Pattern number why) ++ inline_text lines
 words_text (NoFile number) = codes "ignore file " ++ (decimal number ++ codes ": no such file")
 words_text (Unread number) = codes "ignore file " ++ (decimal number ++ codes ": read failed")
+words_text (NoPatternFile number) = codes "pattern file " ++ (decimal number ++ codes ": no such file")
+words_text (UnreadPatternFile number) = codes "pattern file " ++ (decimal number ++ codes ": read failed")
+words_text (LinePattern file line why lines) = line_text file line ++ (glob.error_text (glob_error.Pattern why) ++ inline_text lines)
+words_text (LineNoString file line error) = line_text file line ++ fault_text error
 
 -- the status that the program ends with then
 abbrev pub words_status : CommandFault → ℕ
@@ -43,6 +52,10 @@ words_status (Misuse text) = 2
 words_status (Pattern number why lines) = 2
 words_status (NoFile number) = 4
 words_status (Unread number) = 4
+words_status (NoPatternFile number) = 4
+words_status (UnreadPatternFile number) = 4
+words_status (LinePattern file line why lines) = 2
+words_status (LineNoString file line error) = 2
 
 -- the fault has the text of the misuse, which is cut if it is longer than 400 bytes
 abbrev pub IsOfMisuse : misuse.Misuse → CommandFault → Type 0
@@ -51,3 +64,7 @@ IsOfMisuse why (Misuse text) = inline_text text ≡ cut_to 400 (misuse_text why)
 IsOfMisuse why (Pattern number fault lines) = ⊥
 IsOfMisuse why (NoFile number) = ⊥
 IsOfMisuse why (Unread number) = ⊥
+IsOfMisuse why (NoPatternFile number) = ⊥
+IsOfMisuse why (UnreadPatternFile number) = ⊥
+IsOfMisuse why (LinePattern file line fault lines) = ⊥
+IsOfMisuse why (LineNoString file line error) = ⊥

@@ -9,6 +9,7 @@ pub mod Operands
 pub mod Files
 pub mod Command
 pub mod Pick
+pub mod PatternFiles
 pub mod Program
 pub mod Back
 pub mod Words

@@ -94,10 +94,10 @@ module _ {E : Type 0} (p : Ghosts E) where
   abbrev pub IsMatchedBy : {A : Type 0} → GlobSet E A → List ℕ → Type 0
   IsMatchedBy set name = (i : ℕ) × IsHit set.set.options set.set.patterns.items (letters_of p.units name) i
 
-  -- the name is chosen: one of the patterns matches it, or there are none
-  abbrev pub IsChosen : GlobOptions → List (List (List Mark)) → List ℕ → Type 0
-  IsChosen o [] name = Unit {0}
-  IsChosen o (w ∷ written) name = IsMatched o (w ∷ written) name
+  -- the name is chosen: one of the patterns matches it, or none are stated, by arguments or files
+  abbrev pub IsChosen : List (List ℕ) → GlobOptions → List (List (List Mark)) → List ℕ → Type 0
+  IsChosen [] o written name = Unit {0}
+  IsChosen (source ∷ sources) o written name = IsMatched o written name
 
   -- the same of a compiled set, if there is one
   abbrev pub IsChosenBy : {A : Type 0} → Option (Bor (GlobSet E A)) → List ℕ → Type 0

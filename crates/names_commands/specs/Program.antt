@@ -1,8 +1,9 @@
 -- The whole program, from the words after its name to its exit status.
-use Rattle.std.specs.Prelude.{◌≡◌, ◌⊎◌, ◌+◌, ℕ, Bool, List, drop, Option, None, Some, IfSome, Result, Ok, Err, ⊤, length, take, codes}
+use Rattle.std.specs.Prelude.{◌≡◌, ◌⊎◌, ◌+◌, ◌∷◌, ◌++◌, ℕ, Bool, List, map, drop, Option, None, Some, IfSome, Result, Ok, Err, ⊤, length, take, codes}
 use Rattle.std.specs.List.{AllByRecursion}
 use Rattle.std.specs.Io.KnownBytes.{Appends, IsAtEnd}
 use Rattle.std.specs.Fmt.InlineText.{inline_text}
+use Rattle.os_str_bytes.specs.EncodingError.{EncodingError}
 use Rattle.os_str_bytes.specs.Platform.{Ghosts}
 use Rattle.os_ignore.specs.declared.file.File.{File}
 use Rattle.glob_patterns.specs.declared.options.GlobOptions.{GlobOptions}
@@ -37,14 +38,15 @@ use Rattle.list_programs.specs.declared.program_fault.Fault as program_fault
 use Rattle.list_programs.specs.declared.program_fault.Fault.TheVariants.{List as OfList, Words}
 use Rattle.names_commands.specs.declared.fault.Rejection.{Rejection}
 use Rattle.names_commands.specs.declared.fault.CommandFault.{CommandFault}
-use Rattle.names_commands.specs.declared.fault.CommandFault.TheVariants.{Unreadable, Misuse, Pattern, NoFile, Unread}
+use Rattle.names_commands.specs.declared.fault.CommandFault.TheVariants.{Unreadable, Misuse, Pattern, NoFile, Unread, NoPatternFile, UnreadPatternFile, LinePattern, LineNoString}
 use Rattle.names_commands.specs.declared.matching.Form.{Form}
 use Rattle.names_commands.specs.Caret.{IsPointed}
 use Rattle.names_commands.specs.Ignoring.{AreRead, IsFileIn, IsFirstUnread}
 use Rattle.names_commands.specs.Matching.{picking, AreWrittenOut, IsChosen, IsFirstFault, IsMatched, IsPattern, IsPicked}
+use Rattle.names_commands.specs.PatternFiles.{ArePatternsOf, IsFirstNoString, IsUnreadOf, PatternLine, text_of}
 use Rattle.names_commands.specs.Pick.{added_before, typed_fault}
 use Rattle.names_commands.specs.Why.{deciding}
-use Rattle.names_commands.specs.Command.{Requested, IsRequestFor, IsRejected, Line, options_of}
+use Rattle.names_commands.specs.Command.{Requested, IsRequestFor, IsRejected, Line, options_of, sources_of}
 use Rattle.names_commands.specs.Tar.{IsTarOutput}
 use Rattle.names_commands.specs.Task.{rules_of}
 
@@ -93,11 +95,25 @@ IsOfPattern added number text fault why = (lines : _) × IsPointed (drop added t
 abbrev pub IsOfPatterns : {E : Type 0} → Ghosts E → GlobOptions → ℕ → ℕ → List (List ℕ) → Fault → Type 0
 IsOfPatterns p o before plain texts why = (index : ℕ) × (fault : PatternFault) × (first : IsFirstFault p o texts index fault) × IsOfPattern (added_before plain index) (before + index + 1) first.text fault why
 
--- why the patterns of a request are rejected: the first that has a fault, of those that pick names and then of those that leave them out
-abbrev pub IsOfGlobs : {E : Type 0} → Ghosts E → GlobOptions → Requested → Fault → Type 0
-IsOfGlobs p o requested why =
-    IsOfPatterns p o 0 requested.plain requested.globs why
-    ⊎ (AllByRecursion (IsPattern p o) requested.globs × IsOfPatterns p o (length requested.globs) (length requested.excluded) requested.excluded why)
+-- why patterns of files are rejected: the first isn't a string of the platform
+abbrev pub IsOfNoString : {E : Type 0} → Ghosts E → List PatternLine → Fault → Type 0
+IsOfNoString p patterns why = (pattern : PatternLine) × (error : EncodingError) × IsFirstNoString p patterns pattern error × (why ≡ Words (LineNoString pattern.file pattern.line error))
+
+-- the fault of this pattern of a file, and the lines that show where it is
+abbrev pub IsOfLine : PatternLine → PatternFault → Fault → Type 0
+IsOfLine pattern fault why = (lines : _) × IsPointed pattern.text fault.index (inline_text lines) × (why ≡ Words (LinePattern pattern.file pattern.line fault lines))
+
+-- why patterns of files are rejected, all of which are strings of the platform: the fault of the first that has one
+abbrev pub IsOfLines : {E : Type 0} → Ghosts E → GlobOptions → List PatternLine → Fault → Type 0
+IsOfLines p o patterns why = (index : ℕ) × (fault : PatternFault) × (pattern : PatternLine) × (after : List PatternLine) × IsFirstFault p o (map text_of patterns) index fault × ((drop index patterns ≡ pattern ∷ after) × IsOfLine pattern fault why)
+
+-- why the patterns of a request are rejected, where its files have these: one isn't a string of the platform, or else the first that has a fault, of those that pick names, from arguments and then from files, and then of those that leave names out
+abbrev pub IsOfGlobs : {E : Type 0} → Ghosts E → GlobOptions → Requested → List PatternLine → Fault → Type 0
+IsOfGlobs p o requested patterns why =
+    IsOfNoString p patterns why
+    ⊎ (IsOfPatterns p o 0 requested.plain requested.globs why
+    ⊎ ((AllByRecursion (IsPattern p o) requested.globs × IsOfLines p o patterns why)
+    ⊎ (AllByRecursion (IsPattern p o) (requested.globs ++ map text_of patterns) × IsOfPatterns p o (length requested.globs) (length requested.excluded) requested.excluded why)))
 
 -- the result where this is the first entry of an archive that is rejected, if one is
 abbrev pub tar_outcome : Option (ListFault Rejection) → Result ⊤ Fault
@@ -125,6 +141,10 @@ module _ (known : KnownFiles) (A : Type 0) where
   IsFileFault folds values (Pattern number why lines) = ⊥
   IsFileFault folds values (NoFile number) = (value : List ℕ) × IsFirstUnread A known folds values number value × LacksFile known value
   IsFileFault folds values (Unread number) = (value : List ℕ) × IsFirstUnread A known folds values number value × FailsToRead known value
+  IsFileFault folds values (NoPatternFile number) = ⊥
+  IsFileFault folds values (UnreadPatternFile number) = ⊥
+  IsFileFault folds values (LinePattern file line why lines) = ⊥
+  IsFileFault folds values (LineNoString file line error) = ⊥
 
   -- why ignore files can't be read: that, or that memory was refused
   abbrev pub IsFaultOf : Bool → List (List ℕ) → Fault → Type 0
@@ -144,11 +164,21 @@ module _ (known : KnownFiles) (A : Type 0) where
         ((why : CommandFault) × IsFileFault requested.case_insensitive requested.files why × EndsAtOnce (Words why) input left old new answer)
         ⊎ ((files : List (File A)) × AreRead known requested.case_insensitive requested.files files × Runs (deciding p requested.list requested.files files) OfList input left old new answer)
 
-    -- the run ends with the first of the patterns that has a fault. Or it writes in this form the names that one of them matches, or all where there are none, but for those that the files ignore; or, inverted, the others. It never writes those that a pattern of names to leave out matches
+    -- why the run ends before names are read: a pattern file can't be read, or a pattern has a fault
+    abbrev pub IsOfPicks : GlobOptions → Fault → Type 0
+    IsOfPicks o why =
+        ((fault : CommandFault) × IsUnreadOf known 1 requested.pattern_files fault × (why ≡ Words fault))
+        ⊎ ((patterns : List PatternLine) × ArePatternsOf known 1 requested.pattern_files patterns × IsOfGlobs p o requested patterns why)
+
+    -- these are the patterns without alternatives that the patterns of arguments, and then of files, are written out as
+    abbrev pub ArePicksWrittenOut : GlobOptions → List (List (List Mark)) → Type 0
+    ArePicksWrittenOut o written = (patterns : List PatternLine) × (ArePatternsOf known 1 requested.pattern_files patterns × AreWrittenOut p o (requested.globs ++ map text_of patterns) written)
+
+    -- the run ends with the first pattern file that can't be read, or the first of the patterns that has a fault. Or it writes in this form the names that one of them matches, or all where there are neither GLOBs nor pattern files, but for those that the files ignore; or, inverted, the others. It never writes those that a pattern of names to leave out matches
     abbrev pub RunsPicked : Os → Form → Doing
     RunsPicked os shape input left old new answer =
-        ((why : Fault) × IsOfGlobs p (options_of os requested.case_insensitive) requested why × EndsAtOnce why input left old new answer)
-        ⊎ ((written : List (List (List Mark))) × (excluded : List (List (List Mark))) × AreWrittenOut p (options_of os requested.case_insensitive) requested.globs written × (AreWrittenOut p (options_of os requested.case_insensitive) requested.excluded excluded × RunsBut p shape requested.list requested.inverted requested.case_insensitive (IsChosen p (options_of os requested.case_insensitive) written) (IsMatched p (options_of os requested.case_insensitive) excluded) requested.files input left old new answer))
+        ((why : Fault) × IsOfPicks (options_of os requested.case_insensitive) why × EndsAtOnce why input left old new answer)
+        ⊎ ((written : List (List (List Mark))) × (excluded : List (List (List Mark))) × ArePicksWrittenOut (options_of os requested.case_insensitive) written × (AreWrittenOut p (options_of os requested.case_insensitive) requested.excluded excluded × RunsBut p shape requested.list requested.inverted requested.case_insensitive (IsChosen p (sources_of requested) (options_of os requested.case_insensitive) written) (IsMatched p (options_of os requested.case_insensitive) excluded) requested.files input left old new answer))
 
     -- what is done with a list
     abbrev pub DoesWork : Os → Work → Doing

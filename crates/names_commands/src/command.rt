@@ -30,11 +30,14 @@ pub struct Request<'a, A: Allocator = Global> {
     /// its end, and how many bytes a name may have.
     pub list: ListOptions,
     /// The patterns that pick names: the operand, then those of `--glob` and then those of `--name`,
-    /// with `**/` before each of these. A name matches if one of them matches it, or there are none, and no
-    /// line of the ignore files ignores it.
+    /// with `**/` before each of these. A name matches if one of them or of those of the pattern files
+    /// matches it, or there are neither patterns nor pattern files, and no line of the ignore files
+    /// ignores it.
     pub patterns: Vec<String<A>, A>,
     /// How many patterns come before those of `--name`.
     pub plain: usize,
+    /// The values of `--globs-from`, which name pattern files.
+    pub pattern_files: Vec<&'a str, A>,
     /// The values of `--ignore`, which state ignore files.
     pub files: Vec<&'a str, A>,
     /// Whether the names are picked that don't match.
@@ -117,6 +120,7 @@ impl<'a, A: Allocator + Copy> Request<'a, A> {
             Err(misuse) => return Err(RequestError::Misuse(misuse)),
         };
         let (patterns, plain) = patterns_of(alloc, given)?;
+        let pattern_files = values(alloc, given, NamesOption::GlobsFrom)?;
         let files = values(alloc, given, NamesOption::Ignore)?;
         if let Some(value) = first_outside(&files) {
             return Err(RequestError::Misuse(Misuse::Invalid("DIR of --ignore", value)));
@@ -129,6 +133,7 @@ impl<'a, A: Allocator + Copy> Request<'a, A> {
             list,
             patterns,
             plain,
+            pattern_files,
             files,
             inverted,
             case_insensitive,
@@ -145,6 +150,7 @@ impl<'a, A: Allocator + Copy> Request<'a, A> {
             list: ListOptions::new(LONGEST_NAME),
             patterns: Vec::new(alloc),
             plain: 0,
+            pattern_files: Vec::new(alloc),
             files: Vec::new(alloc),
             inverted: false,
             case_insensitive: false,
@@ -220,6 +226,7 @@ impl Name {
             NamesOption::Invert => matches!(self, Name::List | Name::Filter),
             NamesOption::IgnoreCase => matches!(self, Name::List | Name::Filter | Name::Why),
             NamesOption::Exclude => matches!(self, Name::List | Name::Filter),
+            NamesOption::GlobsFrom => matches!(self, Name::List | Name::Filter),
         }
     }
 }
@@ -321,7 +328,7 @@ impl Command {
         if picked {
             Ok(Command::On(os, Work::Picked(Form::Name)))
         } else {
-            Err(Misuse::Missing("GLOB, --glob, --name, --ignore or --exclude"))
+            Err(Misuse::Missing("GLOB, --glob, --globs-from, --name, --ignore or --exclude"))
         }
     }
 

@@ -2,9 +2,9 @@
 ghost use Rattle.std.specs.Prelude.{◌++◌, codes, IfOk};
 ghost use Rattle.std.specs.Fmt.{WritesStyledOnOk};
 ghost use Rattle.std.specs.Fmt.InlineText.{inline_text};
-ghost use Rattle.names_commands.specs.Fault.{IsOfMisuse};
+ghost use Rattle.names_commands.specs.Fault.{IsOfMisuse, line_text};
 
-use glob_patterns::{GlobSetError, PatternFault};
+use glob_patterns::{GlobError, GlobSetError, PatternFault};
 use list_programs::fault::ItemRejection;
 use list_programs::misuse::{Misuse, ROOM, cut_text};
 use list_programs::program_fault;
@@ -55,6 +55,16 @@ pub enum CommandFault {
     NoFile(usize),
     /// The ignore file with this number couldn't be read.
     Unread(usize),
+    /// No file has the name of the pattern file with this number, counted from 1.
+    NoPatternFile(usize),
+    /// The pattern file with this number couldn't be read.
+    UnreadPatternFile(usize),
+    /// Of the pattern file with the first number, the line with the second is the first pattern that
+    /// is rejected: its first fault, and the lines below it that show where it is.
+    LinePattern(usize, usize, PatternFault, InlineText<ROOM>),
+    /// This line of this pattern file is the first that isn't a string of the platform: the first
+    /// fault of its bytes.
+    LineNoString(usize, usize, EncodingError),
 }
 
 impl CommandFault {
@@ -120,9 +130,15 @@ impl WordsRejection for CommandFault {
 
     fn status(&self) -> u8 {
         match self {
-            CommandFault::Unreadable | CommandFault::Misuse(_) | CommandFault::Pattern(_, _, _) =>
-                2,
-            CommandFault::NoFile(_) | CommandFault::Unread(_) => 4,
+            CommandFault::Unreadable
+            | CommandFault::Misuse(_)
+            | CommandFault::Pattern(_, _, _)
+            | CommandFault::LinePattern(_, _, _, _)
+            | CommandFault::LineNoString(_, _, _) => 2,
+            CommandFault::NoFile(_)
+            | CommandFault::Unread(_)
+            | CommandFault::NoPatternFile(_)
+            | CommandFault::UnreadPatternFile(_) => 4,
         }
     }
 
@@ -144,6 +160,25 @@ impl WordsRejection for CommandFault {
                 write_number(*number, f)?;
                 f.write_str(": read failed")
             }
+            CommandFault::NoPatternFile(number) => {
+                f.write_str("pattern file ")?;
+                write_number(*number, f)?;
+                f.write_str(": no such file")
+            }
+            CommandFault::UnreadPatternFile(number) => {
+                f.write_str("pattern file ")?;
+                write_number(*number, f)?;
+                f.write_str(": read failed")
+            }
+            CommandFault::LinePattern(file, line, why, lines) => {
+                write_line(*file, *line, f)?;
+                GlobError::Pattern(*why).fmt(f)?;
+                f.write_str(lines.as_str())
+            }
+            CommandFault::LineNoString(file, line, error) => {
+                write_line(*file, *line, f)?;
+                error.fmt(f)
+            }
         }
     }
 }
@@ -155,4 +190,15 @@ fn write_hinted<W: fmt::Write>(text: &InlineText<ROOM>, f: &mut fmt::Formatter<W
 {
     f.write_str(text.as_str())?;
     f.write_str("; names --help lists the commands")
+}
+
+/// Writes which line of which pattern file has a fault.
+fn write_line<W: fmt::Write>(file: usize, line: usize, f: &mut fmt::Formatter<W>) -> fmt::Result
+    ensures { WritesStyledOnOk W.write_str_gives f.old result (line_text file line) f.new }
+{
+    f.write_str("pattern file ")?;
+    write_number(file, f)?;
+    f.write_str(", line ")?;
+    write_number(line, f)?;
+    f.write_str(": ")
 }

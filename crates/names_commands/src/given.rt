@@ -98,7 +98,7 @@ fn options_pick<'a>(
         return Ok(true);
     }
     if has(given, NamesOption::Invert) {
-        return Err(Misuse::Missing("GLOB, --glob, --name, --ignore or --exclude"));
+        return Err(Misuse::Missing("GLOB, --glob, --globs-from, --name, --ignore or --exclude"));
     }
     Ok(false)
 }
@@ -111,6 +111,7 @@ fn an_option_picks(given: Line<'_, '_>) -> bool
         || has(given, NamesOption::Ignore)
         || has(given, NamesOption::Name)
         || has(given, NamesOption::Exclude)
+        || has(given, NamesOption::GlobsFrom)
 }
 
 /// How words of a shell are written, and the option for it.

@@ -23,6 +23,9 @@ PLATFORM is unix, windows or wasm, and unix where it is left out: a GLOB of such
 Options may stand anywhere; -- ends them.
 
   --glob GLOB      list, filter: pick the names that GLOB matches, beside those of other GLOBs
+  --globs-from FILE
+                   list, filter: pick the names that a GLOB of FILE matches: each line, or, if FILE has a NUL, what
+                   NUL ends; empty ones are left out
   --name GLOB      list, filter: pick by the last component, in any folder: --glob '**/GLOB'
   --exclude GLOB   list, filter: leave out the names that GLOB matches, with -v too: '**/*.o' in any folder
   --ignore FILE    list, filter: leave out what the .gitignore file FILE ignores (unix, wasm)
@@ -51,7 +54,8 @@ GLOB matches a whole name, ./ and folders too, component by component: * is any 
 [a-z] one of these and [!a-z] one of the others, none of them a separator; ** as a whole component is any number
 of components; {a,b} is a or b; \\ quotes the character after it. The separator is /. On windows \\ is one as
 well, in GLOB too, where it quotes nothing. So **/*.rs matches ./src/a.rs, and *.rs doesn't; --name '*.rs' does.
-A GLOB that begins with a dash is written --glob=-x.
+A GLOB that begins with a dash is written --glob=-x. Arguments are UTF-8: a GLOB of other bytes is given by --globs-from,
+whose lines may end with CR LF. A FILE of --globs-from without GLOBs picks no names.
 
 FILE is read as git reads a .gitignore at the top of the tree, or in DIR. That of the deeper folder decides, and a later
 one over those before it. DIR ends at the first =, so a FILE whose name has one is written =FILE. DIR is . or a path from

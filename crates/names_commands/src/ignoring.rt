@@ -114,7 +114,7 @@ fn add_files<F: Files, A: Allocator + Copy>(
 }
 
 /// The value at `index`, or `None`.
-fn value_at<'a>(values: &[&'a str], index: usize) -> Option<&'a str>
+pub(crate) fn value_at<'a>(values: &[&'a str], index: usize) -> Option<&'a str>
     ensures first { MatchOption result (drop index (map text_of values.now) ≡ [])
         (λ value. drop index (map text_of values.now)
         ≡ value.now ∷ drop (index + 1) (map text_of values.now)) }

@@ -27,6 +27,7 @@ mod item;
 pub mod laws;
 pub mod matching;
 pub mod option;
+mod pattern_files;
 mod patterns;
 mod pick;
 pub mod program;

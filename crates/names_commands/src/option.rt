@@ -39,6 +39,8 @@ pub enum NamesOption {
     IgnoreCase,
     /// `--exclude GLOB`: leave out the names that a pattern matches.
     Exclude,
+    /// `--globs-from FILE`: pick the names that the patterns of a file match.
+    GlobsFrom,
 }
 
 impl NamesOption {
@@ -67,6 +69,7 @@ impl NamesOption {
             NamesOption::Invert => "--invert",
             NamesOption::IgnoreCase => "--ignore-case",
             NamesOption::Exclude => "--exclude",
+            NamesOption::GlobsFrom => "--globs-from",
         }
     }
 }
@@ -102,6 +105,7 @@ impl ProgramOption for NamesOption {
             NamesOption::Invert => false,
             NamesOption::IgnoreCase => false,
             NamesOption::Exclude => true,
+            NamesOption::GlobsFrom => true,
         }
     }
 
@@ -130,6 +134,7 @@ fn long_option(name: &str) -> Option<NamesOption>
         "invert" => Some(NamesOption::Invert),
         "ignore-case" => Some(NamesOption::IgnoreCase),
         "exclude" => Some(NamesOption::Exclude),
+        "globs-from" => Some(NamesOption::GlobsFrom),
         _ => None,
     }
 }

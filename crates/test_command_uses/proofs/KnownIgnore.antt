@@ -23,14 +23,15 @@ use Rattle.list_programs.specs.declared.program_fault.Fault.TheVariants.{List as
 use Rattle.list_programs.specs.declared.options.ListOptions.{ListOptions}
 use Rattle.program_frame.specs.declared.os.Os.{Os}
 use Rattle.program_frame.specs.declared.os.Os.TheVariants.{Unix, Windows, Wasm}
-use Rattle.names_commands.specs.Command.{Requested, Fits, IsRequestFor, HasOperands, IsListed, IsMax, Line, MakesUp, MakesUpWork, StatesPicks, TakesOption, name_word, options_of}
+use Rattle.names_commands.specs.Command.{Requested, Fits, IsRequestFor, HasOperands, IsListed, IsMax, Line, MakesUp, MakesUpWork, StatesPicks, TakesOption, name_word, options_of, sources_of}
 use Rattle.names_commands.specs.Fault.{words_status}
 use Rattle.names_commands.specs.Ignoring.{AreAdded, AreRead, FileRead, IsFileIn, IsFirstUnread, IsIgnored, WasRead, value_of}
 use Rattle.names_commands.specs.Matching.{AreWrittenOut, IsChosen, IsMatched, IsPicked, picking}
 use Rattle.names_commands.specs.Options.{has_value, spelled}
 use Rattle.names_commands.specs.Operands.{HasPlatform, IsGlobOperand, first_of}
 use Rattle.names_commands.specs.Pick.{in_any_folder}
-use Rattle.names_commands.specs.Program.{Does, DoesCommand, DoesWork, EndsAtOnce, Fault, IsFileFault, IsOfGlobs, RejectsLine, RunsBut, RunsLine, RunsPicked, RunsTo, UnlessOutOfMemory}
+use Rattle.names_commands.specs.PatternFiles.{ArePatternsOf, IsUnreadOf, PatternLine, text_of as pattern_text}
+use Rattle.names_commands.specs.Program.{Does, DoesCommand, DoesWork, EndsAtOnce, Fault, IsFileFault, IsOfGlobs, IsOfPicks, RejectsLine, RunsBut, RunsLine, RunsPicked, RunsTo, UnlessOutOfMemory}
 use Rattle.names_commands.specs.declared.command.Command.{Command}
 use Rattle.names_commands.specs.declared.command.Command.TheVariants.{Help, Version, On}
 use Rattle.names_commands.specs.declared.command.Name.{Name as DeclaredName}
@@ -38,7 +39,7 @@ use Rattle.names_commands.specs.declared.command.Name.TheVariants as name
 use Rattle.names_commands.specs.declared.command.Work.{Work}
 use Rattle.names_commands.specs.declared.command.Work.TheVariants.{Each, Picked, Tar, Why}
 use Rattle.names_commands.specs.declared.fault.CommandFault.{CommandFault}
-use Rattle.names_commands.specs.declared.fault.CommandFault.TheVariants.{Unreadable, Misuse, Pattern, NoFile, Unread}
+use Rattle.names_commands.specs.declared.fault.CommandFault.TheVariants.{Unreadable, Misuse, Pattern, NoFile, Unread, NoPatternFile, UnreadPatternFile, LinePattern, LineNoString}
 use Rattle.names_commands.specs.declared.fault.Rejection.{Rejection}
 use Rattle.names_commands.specs.declared.matching.Form.TheVariants as form
 use Rattle.names_commands.specs.declared.matching.Form.TheVariants.{Name}
@@ -269,41 +270,52 @@ module _ (folds : Bool) (command platform value : Bor (List ℕ)) where
   no_operand is own has = has.2.1 ∙ ap first_of (is_unix is has.0 has.1 has.2.0).1
 
   -- no pattern is stated, and this ignore file
-  pub states_one : platform.now ≡ codes "unix" → Lacks 0x3D value.now → (requested : Command) (list : ListOptions) → StatesPicks given_of (record { command = requested; list = list; plain = 0; globs = []; files = value.now ∷ []; inverted = false; case_insensitive = folds; excluded = [] })
+  pub states_one : platform.now ≡ codes "unix" → Lacks 0x3D value.now → (requested : Command) (list : ListOptions) → StatesPicks given_of (record { command = requested; list = list; plain = 0; globs = []; pattern_files = []; files = value.now ∷ []; inverted = false; case_insensitive = folds; excluded = [] })
   states_one is plain requested list = (
-    ([], [], [], ((Unix, [], (has_unix is, refl)), (none_stated option.Glob (λ e. cc), (none_stated option.Name (λ e. cc), (refl, refl))))),
+    (([], [], [], ((Unix, [], (has_unix is, refl)), (none_stated option.Glob (λ e. cc), (none_stated option.Name (λ e. cc), (refl, refl))))), none_stated option.GlobsFrom (λ e. cc)),
     ((inr (λ v h. h, inr (λ v h. h, inl (value.now, [], ((refl, refl), (none_in_case folds option.Ignore, refl))))), (placed_whole value.now plain, tt)), (none_inverted, (states_case, none_stated option.Exclude (λ e. cc)))),
   )
 
 -- all names are picked, but for those that the files ignore
 abbrev pub IsLeftBy : {A : Type 0} → Bool → List (File A) → List ℕ → Type 0
-IsLeftBy folds files = IsPicked false (IsChosen (strings Unix) (options_of Unix folds) []) (IsMatched (strings Unix) (options_of Unix folds) []) files
+IsLeftBy folds files = IsPicked false (IsChosen (strings Unix) [] (options_of Unix folds) []) (IsMatched (strings Unix) (options_of Unix folds) []) files
 
 module _ (known : KnownFiles) (A : Type 0) (folds : Bool) (file : List ℕ) (input left old new : Option (List ℕ)) (answer : Result ⊤ Fault) where
   -- they are written
   abbrev pub Filters : Type 0
-  Filters = UnlessOutOfMemory (RunsBut known A (strings Unix) Name usual false folds (IsChosen (strings Unix) (options_of Unix folds) []) (IsMatched (strings Unix) (options_of Unix folds) []) (file ∷ [])) input left old new answer
+  Filters = UnlessOutOfMemory (RunsBut known A (strings Unix) Name usual false folds (IsChosen (strings Unix) [] (options_of Unix folds) []) (IsMatched (strings Unix) (options_of Unix folds) []) (file ∷ [])) input left old new answer
 
-  no_fault : (before after : List (List ℕ)) (text : List ℕ) → [] ≡ before ++ text ∷ after → ⊥
-  no_fault [] after text e = cc
-  no_fault (x ∷ before) after text e = let never : [] ≡ x ∷ (before ++ text ∷ after) = e in cc
+  no_fault : {X : Type 0} (before after : List X) (x : X) → [] ≡ before ++ x ∷ after → ⊥
+  no_fault [] after x e = cc
+  no_fault (y ∷ before) after x e = let never : [] ≡ y ∷ (before ++ x ∷ after) = e in cc
 
   -- no pattern has a fault where there is none
-  no_globs : (o : GlobOptions) (requested : Requested) → requested.globs ≡ [] → requested.excluded ≡ [] → (why : Fault) → IsOfGlobs (strings Unix) o requested why → ⊥
-  no_globs o requested globs excluded why (inl of) = no_fault of.2.before of.2.after of.2.text (sym globs ∙ of.2.joined)
-  no_globs o requested globs excluded why (inr of) = no_fault of.1.2.before of.1.2.after of.1.2.text (sym excluded ∙ of.1.2.joined)
+  no_globs : (o : GlobOptions) (requested : Requested) → requested.globs ≡ [] → requested.excluded ≡ [] → (lines : List PatternLine) → lines ≡ [] → (why : Fault) → IsOfGlobs (strings Unix) o requested lines why → ⊥
+  no_globs o requested globs excluded lines none why (inl of) = no_fault of.2.before of.2.after of.0 (sym none ∙ of.2.joined)
+  no_globs o requested globs excluded lines none why (inr (inl of)) = no_fault of.2.before of.2.after of.2.text (sym globs ∙ of.2.joined)
+  no_globs o requested globs excluded lines none why (inr (inr (inl of))) = no_fault of.1.4.before of.1.4.after of.1.4.text (sym (ap (map pattern_text) none) ∙ of.1.4.joined)
+  no_globs o requested globs excluded lines none why (inr (inr (inr of))) = no_fault of.1.2.before of.1.2.after of.1.2.text (sym excluded ∙ of.1.2.joined)
 
-  ran : (requested : Requested) → requested.globs ≡ [] → requested.excluded ≡ [] → requested.list ≡ usual → requested.inverted ≡ false → requested.case_insensitive ≡ folds → requested.files ≡ file ∷ [] → RunsPicked known A (strings Unix) requested Unix Name input left old new answer → Filters
-  ran requested globs excluded list kept cased files (inl fault) = absurd (no_globs (options_of Unix requested.case_insensitive) requested globs excluded fault.0 fault.1)
-  ran requested globs excluded list kept cased files (inr compiled) =
-      let none : compiled.0 ≡ [] = subst (λ texts. AreWrittenOut (strings Unix) (options_of Unix requested.case_insensitive) texts compiled.0) globs compiled.2 in
+  no_picks : (o : GlobOptions) (requested : Requested) → requested.globs ≡ [] → requested.pattern_files ≡ [] → requested.excluded ≡ [] → (why : Fault) → IsOfPicks known A (strings Unix) requested o why → ⊥
+  no_picks o requested globs none excluded why (inl unread) = subst (λ names. IsUnreadOf known 1 names unread.0) none unread.1
+  no_picks o requested globs none excluded why (inr read) = no_globs o requested globs excluded read.0 (subst (λ names. ArePatternsOf known 1 names read.0) none read.1) why read.2
+
+  ran : (requested : Requested) → requested.globs ≡ [] → requested.pattern_files ≡ [] → requested.excluded ≡ [] → requested.list ≡ usual → requested.inverted ≡ false → requested.case_insensitive ≡ folds → requested.files ≡ file ∷ [] → RunsPicked known A (strings Unix) requested Unix Name input left old new answer → Filters
+  ran requested globs none_read excluded list kept cased files (inl fault) = absurd (no_picks (options_of Unix requested.case_insensitive) requested globs none_read excluded fault.0 fault.1)
+  ran requested globs none_read excluded list kept cased files (inr compiled) =
+      let lines = compiled.2.0 in
+      let no_lines : lines ≡ [] = subst (λ names. ArePatternsOf known 1 names lines) none_read compiled.2.1.0 in
+      let texts : requested.globs ++ map pattern_text lines ≡ [] = ap (λ x. x ++ map pattern_text lines) globs ∙ ap (map pattern_text) no_lines in
+      let sources : sources_of requested ≡ [] = ap (λ x. x ++ requested.pattern_files) globs ∙ none_read in
+      let none : compiled.0 ≡ [] = subst (λ texts. AreWrittenOut (strings Unix) (options_of Unix requested.case_insensitive) texts compiled.0) texts compiled.2.1.1 in
       let without : compiled.1 ≡ [] = subst (λ texts. AreWrittenOut (strings Unix) (options_of Unix requested.case_insensitive) texts compiled.1) excluded compiled.3.0 in
-      inr (subst (λ f. RunsBut known A (strings Unix) Name usual false folds (IsChosen (strings Unix) (options_of Unix folds) []) (IsMatched (strings Unix) (options_of Unix folds) []) f input left old new answer) files
-      (subst (λ v. RunsBut known A (strings Unix) Name usual v folds (IsChosen (strings Unix) (options_of Unix folds) []) (IsMatched (strings Unix) (options_of Unix folds) []) requested.files input left old new answer) kept
-      (subst (λ m. RunsBut known A (strings Unix) Name m requested.inverted folds (IsChosen (strings Unix) (options_of Unix folds) []) (IsMatched (strings Unix) (options_of Unix folds) []) requested.files input left old new answer) list
-      (subst (λ w. RunsBut known A (strings Unix) Name requested.list requested.inverted folds (IsChosen (strings Unix) (options_of Unix folds) w) (IsMatched (strings Unix) (options_of Unix folds) []) requested.files input left old new answer) none
-      (subst (λ w. RunsBut known A (strings Unix) Name requested.list requested.inverted folds (IsChosen (strings Unix) (options_of Unix folds) compiled.0) (IsMatched (strings Unix) (options_of Unix folds) w) requested.files input left old new answer) without
-      (subst (λ z. RunsBut known A (strings Unix) Name requested.list requested.inverted z (IsChosen (strings Unix) (options_of Unix z) compiled.0) (IsMatched (strings Unix) (options_of Unix z) compiled.1) requested.files input left old new answer) cased compiled.3.1))))))
+      inr (subst (λ f. RunsBut known A (strings Unix) Name usual false folds (IsChosen (strings Unix) [] (options_of Unix folds) []) (IsMatched (strings Unix) (options_of Unix folds) []) f input left old new answer) files
+      (subst (λ v. RunsBut known A (strings Unix) Name usual v folds (IsChosen (strings Unix) [] (options_of Unix folds) []) (IsMatched (strings Unix) (options_of Unix folds) []) requested.files input left old new answer) kept
+      (subst (λ m. RunsBut known A (strings Unix) Name m requested.inverted folds (IsChosen (strings Unix) [] (options_of Unix folds) []) (IsMatched (strings Unix) (options_of Unix folds) []) requested.files input left old new answer) list
+      (subst (λ w. RunsBut known A (strings Unix) Name requested.list requested.inverted folds (IsChosen (strings Unix) [] (options_of Unix folds) w) (IsMatched (strings Unix) (options_of Unix folds) []) requested.files input left old new answer) none
+      (subst (λ s. RunsBut known A (strings Unix) Name requested.list requested.inverted folds (IsChosen (strings Unix) s (options_of Unix folds) compiled.0) (IsMatched (strings Unix) (options_of Unix folds) []) requested.files input left old new answer) sources
+      (subst (λ w. RunsBut known A (strings Unix) Name requested.list requested.inverted folds (IsChosen (strings Unix) (sources_of requested) (options_of Unix folds) compiled.0) (IsMatched (strings Unix) (options_of Unix folds) w) requested.files input left old new answer) without
+      (subst (λ z. RunsBut known A (strings Unix) Name requested.list requested.inverted z (IsChosen (strings Unix) (sources_of requested) (options_of Unix z) compiled.0) (IsMatched (strings Unix) (options_of Unix z) compiled.1) requested.files input left old new answer) cased compiled.3.1)))))))
 
   module _ (command platform value : Bor (List ℕ)) (is_command : command.now ≡ codes "filter") (is_platform : platform.now ≡ codes "unix") (is_file : value.now ≡ file) (plain : Lacks 0x3D file) where
     abbrev given : Line
@@ -312,14 +324,15 @@ module _ (known : KnownFiles) (A : Type 0) (folds : Bool) (file : List ℕ) (inp
     picked : (requested : Requested) → requested.list ≡ usual → StatesPicks given requested → UnlessOutOfMemory (RunsPicked known A (strings Unix) requested Unix Name) input left old new answer → Filters
     picked requested is_usual states (inl memory) = inl memory
     picked requested is_usual states (inr runs) =
-        let patterns = states.0 in
+        let patterns = states.0.0 in
+        let pattern_files : requested.pattern_files ≡ [] = no_values folds command platform value option.GlobsFrom (λ e. cc) requested.pattern_files states.0.1 in
         let own : patterns.0 ≡ [] = no_operand folds command platform value is_platform patterns.0 patterns.3.0 in
         let more : patterns.1 ≡ [] = no_values folds command platform value option.Glob (λ e. cc) patterns.1 patterns.3.1.0 in
         let of_names : patterns.2 ≡ [] = no_values folds command platform value option.Name (λ e. cc) patterns.2 patterns.3.1.1.0 in
         let globs_are : requested.globs ≡ [] = patterns.3.1.1.1.0 ∙ ap (λ x. (x ++ patterns.1) ++ map in_any_folder patterns.2) own ∙ ap (λ x. x ++ map in_any_folder patterns.2) more ∙ ap (map in_any_folder) of_names in
         let files_are : requested.files ≡ file ∷ [] = one_file folds command platform value requested.files states.1.0.0 ∙ ap (λ x. x ∷ []) is_file in
         let excluded : requested.excluded ≡ [] = no_values folds command platform value option.Exclude (λ e. cc) requested.excluded states.1.1.1.1 in
-        ran requested globs_are excluded is_usual (not_inverted folds command platform value requested.inverted states.1.1.0) (is_case folds command platform value requested.case_insensitive states.1.1.1.0) files_are runs
+        ran requested globs_are pattern_files excluded is_usual (not_inverted folds command platform value requested.inverted states.1.1.0) (is_case folds command platform value requested.case_insensitive states.1.1.1.0) files_are runs
 
     operands : HasOperands given name.Filter Unix []
     operands = has_operands folds command platform value name.Filter is_command is_platform
@@ -362,7 +375,7 @@ module _ (known : KnownFiles) (A : Type 0) (folds : Bool) (file : List ℕ) (inp
     makes_up = ([], (operands, ((tt, (tt, (tt, case_fits folds name.Filter tt))), (tt, (inr (inr (inl (inr (inr (inl refl))))), λ h. tt)))))
 
     some : (requested : Requested) × IsRequestFor given requested
-    some = (record { command = On Unix (Picked Name); list = usual; plain = 0; globs = []; files = value.now ∷ []; inverted = false; case_insensitive = folds; excluded = [] }, inr (no_help folds command platform value, inr (no_version folds command platform value, (is_usual folds command platform value, (makes_up, states_one folds command platform value is_platform (subst (Lacks 0x3D) (sym is_file) plain) (On Unix (Picked Name)) usual)))))
+    some = (record { command = On Unix (Picked Name); list = usual; plain = 0; globs = []; pattern_files = []; files = value.now ∷ []; inverted = false; case_insensitive = folds; excluded = [] }, inr (no_help folds command platform value, inr (no_version folds command platform value, (is_usual folds command platform value, (makes_up, states_one folds command platform value is_platform (subst (Lacks 0x3D) (sym is_file) plain) (On Unix (Picked Name)) usual)))))
 
     not_rejected : RejectsLine known A given input left old new answer → ⊥
     not_rejected r = r.2.0.0.no_request some.0 some.1
@@ -450,6 +463,10 @@ module _ (A : Type 0) (folds : Bool) (file bytes other : List ℕ) (plain : Lack
   by_fault (Pattern number fault lines) f ends = absurd f
   by_fault (NoFile number) f ends = record { fault = inl (ends.0 ∙ ap (λ n. Err (Words (NoFile n))) (number_one number f.0 f.1)); kept = ends.1.0; nothing = ends.1.1 }
   by_fault (Unread number) f ends = absurd f.2.2.1
+  by_fault (NoPatternFile number) f ends = absurd f
+  by_fault (UnreadPatternFile number) f ends = absurd f
+  by_fault (LinePattern at line fault lines) f ends = absurd f
+  by_fault (LineNoString at line error) f ends = absurd f
 
   pub ends_unread : Filters (only file bytes) A folds other input left old new answer → EndsUnread input left old new answer
   ends_unread (inl memory) = record { fault = inr memory.0; kept = memory.1.0; nothing = memory.1.1 }

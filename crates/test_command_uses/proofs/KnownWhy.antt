@@ -77,7 +77,7 @@ not_tar e =
 module _ (known : KnownFiles) (A : Type 0) (file : List ℕ) (input left old new : Option (List ℕ)) (answer : Result ⊤ Fault) where
   -- the lines of these files that decide names are written
   abbrev Reasons : ListOptions → Bool → List (List ℕ) → Type 0
-  Reasons list folds files = UnlessOutOfMemory (RunsReasons known A (strings Unix) (record { command = On Unix Why; list = list; plain = 0; globs = []; files = files; inverted = false; case_insensitive = folds; excluded = [] })) input left old new answer
+  Reasons list folds files = UnlessOutOfMemory (RunsReasons known A (strings Unix) (record { command = On Unix Why; list = list; plain = 0; globs = []; pattern_files = []; files = files; inverted = false; case_insensitive = folds; excluded = [] })) input left old new answer
 
   -- the line of the file that decides each name is written
   abbrev pub Explains : Type 0
@@ -134,7 +134,7 @@ module _ (known : KnownFiles) (A : Type 0) (file : List ℕ) (input left old new
     makes_up = (operands, ((tt, (tt, (tt, tt))), (inr (inr (inl refl)), tt)))
 
     some : (requested : Requested) × IsRequestFor given requested
-    some = (record { command = On Unix Why; list = usual; plain = 0; globs = []; files = value.now ∷ []; inverted = false; case_insensitive = false; excluded = [] }, inr (no_help false command platform value, inr (no_version false command platform value, (is_usual false command platform value, (makes_up, states_one false command platform value is_platform (subst (Lacks 0x3D) (sym is_file) plain) (On Unix Why) usual)))))
+    some = (record { command = On Unix Why; list = usual; plain = 0; globs = []; pattern_files = []; files = value.now ∷ []; inverted = false; case_insensitive = false; excluded = [] }, inr (no_help false command platform value, inr (no_version false command platform value, (is_usual false command platform value, (makes_up, states_one false command platform value is_platform (subst (Lacks 0x3D) (sym is_file) plain) (On Unix Why) usual)))))
 
     not_rejected : RejectsLine known A given input left old new answer → ⊥
     not_rejected r = r.2.0.0.no_request some.0 some.1

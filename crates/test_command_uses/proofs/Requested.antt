@@ -3,7 +3,7 @@ use Rattle.std.proofs.Common.{◌≡◌, ◌⊎◌, inl, inr, ℕ, List, Option,
 use Rattle.std.specs.Prelude.{⊤, IfErr, IsTrue, ◌↔◌}
 use Rattle.names_commands.specs.Command.{Requested, IsRequestFor, IsListed, IsRequestError, Line, MakesUp, StatesPicks}
 use Rattle.names_commands.specs.declared.command.Command.TheVariants.{Version as VersionCommand}
-use Rattle.names_commands.specs.declared.option.NamesOption.TheVariants.{Exclude, Help, IgnoreCase, Version}
+use Rattle.names_commands.specs.declared.option.NamesOption.TheVariants.{Exclude, GlobsFrom, Help, IgnoreCase, Version}
 use Rattle.list_programs.specs.Arguments.{AreValues, HasOption}
 use Rattle.names_commands.specs.declared.command.RequestError.{RequestError}
 use Rattle.names_commands.specs.declared.command.RequestError.TheVariants.{Misuse, Memory as NoMemory}
@@ -43,6 +43,15 @@ excluded_stated given requested no_help no_version (inr requests) = by requests.
     by : ((HasOption Version given × (requested.command ≡ VersionCommand)) ⊎ ((¬ (HasOption Version given)) × (IsListed given requested.list × (MakesUp given requested.command × StatesPicks given requested)))) → AreValues Exclude given requested.excluded
     by (inl version) = absurd (no_version version.0)
     by (inr c) = c.1.1.1.1.1.1.1
+
+-- such a request states its pattern files, where no help and no version is requested
+pub files_stated : (given : Line) (requested : Requested) → ¬ (HasOption Help given) → ¬ (HasOption Version given) → IsRequestFor given requested → AreValues GlobsFrom given requested.pattern_files
+files_stated given requested no_help no_version (inl help) = absurd (no_help help.0)
+files_stated given requested no_help no_version (inr requests) = by requests.1
+  where
+    by : ((HasOption Version given × (requested.command ≡ VersionCommand)) ⊎ ((¬ (HasOption Version given)) × (IsListed given requested.list × (MakesUp given requested.command × StatesPicks given requested)))) → AreValues GlobsFrom given requested.pattern_files
+    by (inl version) = absurd (no_version version.0)
+    by (inr c) = c.1.1.1.0.1
 
 -- a request is without regard to case exactly where the option for that is given, and no help and no version is requested
 pub case_stated : (given : Line) (requested : Requested) → ¬ (HasOption Help given) → ¬ (HasOption Version given) → IsRequestFor given requested → IsTrue requested.case_insensitive ↔ HasOption IgnoreCase given

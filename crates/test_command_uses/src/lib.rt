@@ -26,8 +26,8 @@ pub use marks::{
 };
 pub use names::{
     check_one, empty_line, ends, escape_of, excluded_globs, filtered, first_names_again,
-    known_request, line_before, line_of, list_of_two, names_again, picks_excluded, returned_line,
-    unended_line, unended_name,
+    known_request, line_before, line_of, list_of_two, names_again, pattern_files, picks_excluded,
+    returned_line, unended_line, unended_name,
 };
 pub use paths::{
     answered, begins_with, components_of, joined_one, kept_below, kept_separator, line_with_nul,

@@ -6,7 +6,7 @@ ghost use Rattle.os_ignore.specs.Walks.{files_of_walk};
 ghost use Rattle.os_quote.specs.Escape.{IsLineEscape};
 ghost use Rattle.os_str_bytes.specs.EncodingError.{EncodingError};
 ghost use Rattle.os_str_bytes.specs.Strings.{bytes};
-ghost use Rattle.list_programs.specs.Arguments.{AreValues, HasOption};
+ghost use Rattle.list_programs.specs.Arguments.{AreValues, HasOption, text_of};
 ghost use Rattle.list_programs.specs.Items.{Lacks};
 ghost use Rattle.list_programs.specs.ListOptions.{byte_of};
 ghost use Rattle.list_programs.specs.ListRun.{IsOutput, StopsOn};
@@ -23,7 +23,7 @@ ghost use Rattle.test_command_uses.specs.OneFile.{unended, usual};
 ghost use Rattle.names_commands.specs.declared.command.RequestError.TheVariants.{Memory as NoMemory};
 ghost use Rattle.names_commands.specs.declared.fault.Rejection.{Rejection};
 ghost use Rattle.names_commands.specs.declared.fault.Rejection.TheVariants.{NoString};
-ghost use Rattle.names_commands.specs.declared.option.NamesOption.TheVariants.{Exclude, Help, IgnoreCase, Version};
+ghost use Rattle.names_commands.specs.declared.option.NamesOption.TheVariants.{Exclude, GlobsFrom, Help, IgnoreCase, Version};
 
 use list_programs::arguments::Given;
 use list_programs::fault::ListFault;
@@ -110,6 +110,22 @@ pub fn excluded_globs<'a, A: Allocator + Copy>(
 {
     match Request::parse(alloc, given) {
         Ok(request) => Ok(request.excluded),
+        Err(error) => Err(error),
+    }
+}
+
+/// The pattern files of the request that options and operands make up.
+pub fn pattern_files<'a, A: Allocator + Copy>(
+    alloc: A,
+    given: Line<'_, 'a>,
+) -> Result<Vec<&'a str, A>, RequestError<'a>>
+    requires help { ¬ (HasOption Help given.now) }
+    requires version { ¬ (HasOption Version given.now) }
+    ensures { IfOk result
+        (λ files. AreValues GlobsFrom given.entry.now (map text_of files.items)) }
+{
+    match Request::parse(alloc, given) {
+        Ok(request) => Ok(request.pattern_files),
         Err(error) => Err(error),
     }
 }

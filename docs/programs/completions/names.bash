@@ -6,20 +6,20 @@ _names() {
     [ "$word" != = ] || word=
     [ "${COMP_WORDS[at]}" != = ] || at=$((at - 1))
     case ${COMP_WORDS[at]} in
-        --ignore) compopt -o default 2>/dev/null; return ;;
+        --globs-from|--ignore) compopt -o default 2>/dev/null; return ;;
         --glob|--name|--exclude|--max) return ;;
     esac
     for ((i = 1; i < COMP_CWORD; i++)); do
         case ${COMP_WORDS[i]} in
-            --glob|--name|--exclude|--ignore|--max) [ "${COMP_WORDS[i + 1]}" != = ] || ((i++)); ((i++)) ;;
+            --glob|--globs-from|--name|--exclude|--ignore|--max) [ "${COMP_WORDS[i + 1]}" != = ] || ((i++)); ((i++)) ;;
             =) ((i++)) ;;
             -*) ;;
             *) command=${command:-${COMP_WORDS[i]}}; ((count++)) ;;
         esac
     done
     case $command:$count:$word in
-        list:*:-*) words='--glob --name --exclude --ignore -v --invert -i --ignore-case --sh --sh-line --lines --unterminated --max' ;;
-        filter:*:-*) words='--glob --name --exclude --ignore -v --invert -i --ignore-case --lines --unterminated --max' ;;
+        list:*:-*) words='--glob --globs-from --name --exclude --ignore -v --invert -i --ignore-case --sh --sh-line --lines --unterminated --max' ;;
+        filter:*:-*) words='--glob --globs-from --name --exclude --ignore -v --invert -i --ignore-case --lines --unterminated --max' ;;
         why:*:-*) words='--ignore -i --ignore-case --lines --unterminated --max' ;;
         join:*:-*) words='--sh --sh-line --lines --unterminated --empty --max' ;;
         check:*:-*) words='--lines --unterminated --max' ;;

@@ -8,6 +8,7 @@ complete -c names -n '__fish_use_subcommand' -a check -d 'check that each name i
 complete -c names -n '__fish_use_subcommand' -a tar -d 'print the names of the entries of a tar archive'
 complete -c names -n '__fish_seen_subcommand_from list filter why join check tar; and not __fish_seen_subcommand_from unix windows wasm' -a 'unix windows wasm'
 complete -c names -n '__fish_seen_subcommand_from list filter' -l glob -x -d 'pick the names that a pattern matches'
+complete -c names -n '__fish_seen_subcommand_from list filter' -l globs-from -rF -d 'pick the names that the patterns of a file match'
 complete -c names -n '__fish_seen_subcommand_from list filter' -l name -x -d 'pick the names whose last component a pattern matches'
 complete -c names -n '__fish_seen_subcommand_from list filter' -l exclude -x -d 'leave out the names that a pattern matches'
 complete -c names -n '__fish_seen_subcommand_from list filter why' -l ignore -rF -d 'leave out what an ignore file ignores'

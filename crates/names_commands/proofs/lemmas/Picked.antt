@@ -1,6 +1,7 @@
 -- A run over the names that are picked, where two conditions pick the same names.
-use Rattle.std.proofs.Common.{◌≡◌, ◌≢◌, ◌↔◌, ⊎_elim, inl, inr, ℕ, zero, suc, Bool, true, false, cond, not, List, [], ◌∷◌, map, Option, Some, None, refl, sym, ◌∙◌, subst, arith}
+use Rattle.std.proofs.Common.{◌≡◌, ◌≢◌, ◌↔◌, ◌⊎◌, ⊎_elim, inl, inr, ℕ, ◌+◌, ◌<◌, zero, suc, Bool, true, false, cond, not, List, [], ◌∷◌, ◌++◌, length, map, Option, Some, None, refl, sym, ap, ◌∙◌, subst, arith}
 use denote.Ref.{Bor}
+use Rattle.std.proofs.lemmas.List.{length-append}
 use Rattle.std.specs.Prelude.{Result, Ok, Err, ⊤, MatchOption}
 use Rattle.std.specs.List.{AllByRecursion}
 use Rattle.os_str_bytes.specs.Platform.{Ghosts}
@@ -88,12 +89,14 @@ module _ {E : Type 0} (p : Ghosts E) (form : Form) (list : ListOptions) (Picked 
 not_nil : {X : Type 0} {x : X} {xs : List X} → x ∷ xs ≡ [] → ⊥
 not_nil e = cc
 
--- what there is where there are strings is there where there are their texts
-pub where_texts : {X Y : Type 0} (f : X → List ℕ) (Is : Y → Type 0) (xs : List X) (held : Option Y) → MatchOption held (xs ≡ []) (λ h. (xs ≢ []) × Is h) → MatchOption held (map f xs ≡ []) (λ h. (map f xs ≢ []) × Is h)
-where_texts f Is [] None h = refl
-where_texts f Is (x ∷ xs) None h = absurd (not_nil h)
-where_texts f Is [] (Some y) h = absurd (h.0 refl)
-where_texts f Is (x ∷ xs) (Some y) h = (λ e. not_nil e, h.1)
+-- what there is where two lists have items is there where they have texts
+pub where_stated : {X Y Z : Type 0} (f : X → List ℕ) (h : Y → List ℕ) (Is : Z → Type 0) (xs : List X) (ys : List Y) (held : Option Z) → MatchOption held ((xs ≡ []) × (ys ≡ [])) (λ it. ((xs ≢ []) ⊎ (ys ≢ [])) × Is it) → MatchOption held (map f xs ++ map h ys ≡ []) (λ it. (map f xs ++ map h ys ≢ []) × Is it)
+where_stated f h Is [] [] None e = refl
+where_stated f h Is [] (y ∷ ys) None e = absurd (not_nil e.1)
+where_stated f h Is (x ∷ xs) ys None e = absurd (not_nil e.0)
+where_stated f h Is [] [] (Some it) k = absurd (⊎_elim (λ n. n refl) (λ n. n refl) k.0)
+where_stated f h Is [] (y ∷ ys) (Some it) k = (λ e. not_nil e, k.1)
+where_stated f h Is (x ∷ xs) ys (Some it) k = (λ e. not_nil e, k.1)
 
 -- where two conditions choose the same names, and two others leave the same names out:
 module _ (Chosen Other Excluded Left : List ℕ → Type 0) (same : (name : List ℕ) → Chosen name ↔ Other name) (same_left : (name : List ℕ) → Excluded name ↔ Left name) where
@@ -189,16 +192,12 @@ module _ {E A : Type 0} (p : Ghosts E) (o : GlobOptions) where
           (hit.0, subst (λ z. IsHit z set.set.patterns.items (letters_of p.units name) hit.0) (sym same) hit.1),
     )
 
-    -- so a set that there is where there are texts chooses what the texts do
-    pub chosen : (globs : Option (Bor (GlobSet E A))) → MatchOption globs (texts ≡ []) (λ held. (texts ≢ []) × (held.now ≡ set)) → (name : List ℕ) → IsChosenBy p globs name ↔ IsChosen p o (written_of texts set.set.patterns.items c) name
-    chosen globs held name = by texts set.set.patterns.items c globs held matched
-      where
-        by : (ts : List (List ℕ)) (ps : List (Pattern A)) (d : AreCompiled ts ps) (globs : Option (Bor (GlobSet E A))) → MatchOption globs (ts ≡ []) (λ held. (ts ≢ []) × (held.now ≡ set)) → ((n : List ℕ) → IsMatchedBy p set n ↔ IsMatched p o (written_of ts ps d) n) → IsChosenBy p globs name ↔ IsChosen p o (written_of ts ps d) name
-        by [] ps d None h m = (λ _. tt, λ _. tt)
-        by [] ps d (Some held) h m = absurd (h.0 refl)
-        by (t ∷ ts) ps d None h m = absurd (not_nil h)
-        by (t ∷ ts) [] d (Some held) h m = absurd d
-        by (t ∷ ts) (q ∷ ps) d (Some held) h m = (λ k. (m name).0 (subst (λ z. IsMatchedBy p z name) h.1 k), λ k. subst (λ z. IsMatchedBy p z name) (sym h.1) ((m name).1 k))
+    -- so a set that there is where patterns are stated chooses what the texts do
+    pub chosen : (sources : List (List ℕ)) (globs : Option (Bor (GlobSet E A))) → MatchOption globs (sources ≡ []) (λ held. (sources ≢ []) × (held.now ≡ set)) → (name : List ℕ) → IsChosenBy p globs name ↔ IsChosen p sources o (written_of texts set.set.patterns.items c) name
+    chosen [] None held name = (λ _. tt, λ _. tt)
+    chosen [] (Some h) held name = absurd (held.0 refl)
+    chosen (source ∷ sources) None held name = absurd (not_nil held)
+    chosen (source ∷ sources) (Some h) held name = (λ k. (matched name).0 (subst (λ z. IsMatchedBy p z name) held.1 k), λ k. subst (λ z. IsMatchedBy p z name) (sym held.1) ((matched name).1 k))
 
 -- the first text without a meaning is the first at fault
 module _ {E : Type 0} (A : Type 0) (p : Ghosts E) (o : GlobOptions) (texts : List (List ℕ)) where
@@ -208,3 +207,51 @@ module _ {E : Type 0} (A : Type 0) (p : Ghosts E) (o : GlobOptions) (texts : Lis
 
   pub first_fault : (index : ℕ) (fault : PatternFault) → sets.IsFirstFault p.well_formed (letters_of p.units) (syntax_of o) A texts index fault → IsFirstFault p o texts index fault
   first_fault index fault f = record { before = f.before; text = f.text; after = f.after; joined = f.joined; index_is = f.index_is; fine = all_patterns f.before f.fine; is = f.is }
+
+-- of two lists of patterns, the first at fault is in the first, or that one is fine and it is in the second
+head_is : {X : Type 0} {x y : X} {xs ys : List X} → x ∷ xs ≡ y ∷ ys → x ≡ y
+head_is e = cc
+
+tail_is : {X : Type 0} {x y : X} {xs ys : List X} → x ∷ xs ≡ y ∷ ys → xs ≡ ys
+tail_is e = cc
+
+abbrev IsIn : {X : Type 0} → List X → List X → List X → X → List X → Type 0
+IsIn {X} globs more before x after = ((rest : List X) × (globs ≡ before ++ x ∷ rest)) ⊎ ((front : List X) × ((before ≡ globs ++ front) × (more ≡ front ++ x ∷ after)))
+
+is_in : {X : Type 0} (globs more before : List X) (x : X) (after : List X) → globs ++ more ≡ before ++ x ∷ after → IsIn globs more before x after
+is_in [] more before x after e = inr (before, (refl, e))
+is_in (g ∷ globs) more [] x after e = inl (globs, ap (λ y. y ∷ globs) (head_is e))
+is_in (g ∷ globs) more (b ∷ before) x after e =
+    ⊎_elim
+    (λ k. inl (k.0, ap (λ y. y ∷ globs) (head_is e) ∙ ap (λ l. b ∷ l) k.1))
+    (λ k. inr (k.0, (ap (λ y. y ∷ before) (sym (head_is e)) ∙ ap (λ l. g ∷ l) k.1.0, k.1.1)))
+    (is_in globs more before x after (tail_is e))
+
+both : {X : Type 0} (P : X → Type 0) (xs ys : List X) → AllByRecursion P (xs ++ ys) → AllByRecursion P xs × AllByRecursion P ys
+both P [] ys a = (tt, a)
+both P (x ∷ xs) ys a = let more = both P xs ys a.1 in ((a.0, more.0), more.1)
+
+module _ {E : Type 0} (p : Ghosts E) (o : GlobOptions) (globs more : List (List ℕ)) (index : ℕ) (fault : PatternFault) (f : IsFirstFault p o (globs ++ more) index fault) where
+  pub first_within : index < length globs → IsFirstFault p o globs index fault
+  first_within below = by (is_in globs more f.before f.text f.after f.joined)
+    where
+      by : IsIn globs more f.before f.text f.after → IsFirstFault p o globs index fault
+      by (inl k) = record { before = f.before; text = f.text; after = k.0; joined = k.1; index_is = f.index_is; fine = f.fine; is = f.is }
+      by (inr k) =
+          let all = ap length k.1.0 ∙ length-append globs k.0 in
+          let at = f.index_is in
+          absurd (omega (arith, below, all, at))
+
+  pub first_past : (past : ℕ) → index ≡ length globs + past → AllByRecursion (IsPattern p o) globs × IsFirstFault p o more past fault
+  first_past past is = by (is_in globs more f.before f.text f.after f.joined)
+    where
+      by : IsIn globs more f.before f.text f.after → AllByRecursion (IsPattern p o) globs × IsFirstFault p o more past fault
+      by (inl k) =
+          let all = ap length k.1 ∙ length-append f.before (f.text ∷ k.0) in
+          let at = f.index_is in
+          absurd (omega (arith, is, all, at))
+      by (inr k) =
+          let all = ap length k.1.0 ∙ length-append globs k.0 in
+          let at = f.index_is in
+          let fine = both (IsPattern p o) globs k.0 (subst (AllByRecursion (IsPattern p o)) k.1.0 f.fine) in
+          (fine.0, record { before = k.0; text = f.text; after = f.after; joined = k.1.1; index_is = omega (arith, is, all, at); fine = fine.1; is = f.is })

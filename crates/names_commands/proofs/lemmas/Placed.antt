@@ -1,11 +1,7 @@
 -- Which directories are those of a tree.
 use Rattle.std.proofs.Common.{◌≡◌, ◌↔◌, ℕ, Bool, true, false, not, IsTrue, List, [], ◌∷◌, ◌++◌, inl, inr, refl, sym, ap, ◌∙◌, subst, append_assoc}
-use Rattle.std.proofs.lemmas.Bool.{false≢true, ne_eqb}
-use Rattle.std.proofs.lemmas.List.Elements.{All-from_recursion}
-use Rattle.std.proofs.lemmas.List.Splits.{slice_split_at, slice_split_none}
+use Rattle.std.proofs.lemmas.Bool.{false≢true}
 use Rattle.std.specs.List.{AllByRecursion}
-use Rattle.std.specs.Prelude.{nat_eq}
-use Rattle.os_ignore.specs.Components.{pieces}
 use Rattle.list_programs.proofs.lemmas.Items.{has_end}
 use Rattle.list_programs.specs.Items.{IsCutAt, Lacks}
 use Rattle.list_programs.specs.Arguments.{AreValues, HasValue}
@@ -16,31 +12,24 @@ use Rattle.names_commands.specs.Ignoring.{IsInside, IsNoName, IsPath, IsPlaced, 
 use Rattle.names_commands.specs.declared.option.NamesOption.{NamesOption}
 use Rattle.names_commands.proofs.lemmas.Decided.{within}
 use Rattle.names_commands.proofs.lemmas.Ignored.{one_path}
-
-no_slash : (s : List ℕ) → Lacks 0x2F s → AllByRecursion (λ b. nat_eq b 0x2F ≡ false) s
-no_slash [] l = tt
-no_slash (b ∷ s) l = (ne_eqb b 0x2F l.0, no_slash s l.1)
-
-pieces_cut : (path first rest : List ℕ) → IsCutAt 0x2F path first rest → pieces 0x2F path ≡ first ∷ pieces 0x2F rest
-pieces_cut path first rest c = ap (pieces 0x2F) c.joined ∙ slice_split_at (λ b. nat_eq b 0x2F) first 0x2F rest (All-from_recursion (λ b. nat_eq b 0x2F ≡ false) first (no_slash first c.whole)) refl
+use Rattle.names_commands.proofs.lemmas.PatternFiles.{one_piece, pieces_cut}
 
 -- a path leads down where its first component is a name and the rest does
 pub leads_on : (path first rest : List ℕ) → IsCutAt 0x2F path first rest → ¬ (IsNoName first) → LeadsDown path ↔ LeadsDown rest
 leads_on path first rest c named = (
-  λ l. (subst (AllByRecursion (λ component. ¬ (IsNoName component))) (pieces_cut path first rest c) l).1,
-  λ l. subst (AllByRecursion (λ component. ¬ (IsNoName component))) (sym (pieces_cut path first rest c)) (named, l),
+  λ l. (subst (AllByRecursion (λ component. ¬ (IsNoName component))) (pieces_cut 0x2F path first rest c) l).1,
+  λ l. subst (AllByRecursion (λ component. ¬ (IsNoName component))) (sym (pieces_cut 0x2F path first rest c)) (named, l),
 )
 
 pub leads_nowhere : (path first rest : List ℕ) → IsCutAt 0x2F path first rest → IsNoName first → ¬ (LeadsDown path)
-leads_nowhere path first rest c k l = (subst (AllByRecursion (λ component. ¬ (IsNoName component))) (pieces_cut path first rest c) l).0 k
+leads_nowhere path first rest c k l = (subst (AllByRecursion (λ component. ¬ (IsNoName component))) (pieces_cut 0x2F path first rest c) l).0 k
 
 -- the last component is left
 pub last_leads : (path : List ℕ) → Lacks 0x2F path → LeadsDown path ↔ (¬ (IsNoName path))
-last_leads path l =
-    let one = slice_split_none (λ b. nat_eq b 0x2F) path (All-from_recursion (λ b. nat_eq b 0x2F ≡ false) path (no_slash path l)) in (
-      λ d. (subst (AllByRecursion (λ component. ¬ (IsNoName component))) one d).0,
-      λ n. subst (AllByRecursion (λ component. ¬ (IsNoName component))) (sym one) (n, tt),
-    )
+last_leads path l = (
+  λ d. (subst (AllByRecursion (λ component. ¬ (IsNoName component))) (one_piece 0x2F path l) d).0,
+  λ n. subst (AllByRecursion (λ component. ¬ (IsNoName component))) (sym (one_piece 0x2F path l)) (n, tt),
+)
 
 pub not_so : (b : Bool) {P Q : Type 0} → (IsTrue b ↔ P) → (Q ↔ (¬ P)) → (IsTrue (not b) ↔ Q)
 not_so true e q = (λ t. absurd (false≢true t), λ x. absurd (q.0 x (e.0 refl)))
