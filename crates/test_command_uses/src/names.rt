@@ -16,13 +16,14 @@ ghost use Rattle.list_programs.specs.declared.fault.ListFault.TheVariants.{Rejec
 ghost use Rattle.list_programs.specs.declared.options.ItemEnd.{ItemEnd as ItemEndOf};
 ghost use Rattle.names_commands.specs.Back.{listing, listing_words, AreFirst, IsCompleted};
 ghost use Rattle.names_commands.specs.Command.{Requested, IsRequestFor};
+ghost use Rattle.names_commands.specs.Ignoring.{IsFromTop};
 ghost use Rattle.names_commands.specs.Matching.{IsMatchedBy, IsPickedBy};
 ghost use Rattle.names_commands.specs.Task.{rules_of};
 ghost use Rattle.names_commands.specs.Words.{AreNamesOf};
 ghost use Rattle.test_command_uses.specs.OneFile.{unended, usual};
 ghost use Rattle.names_commands.specs.declared.command.RequestError.TheVariants.{Memory as NoMemory};
 ghost use Rattle.names_commands.specs.declared.fault.Rejection.{Rejection};
-ghost use Rattle.names_commands.specs.declared.fault.Rejection.TheVariants.{NoString};
+ghost use Rattle.names_commands.specs.declared.fault.Rejection.TheVariants.{NoString, NotFromTop};
 ghost use Rattle.names_commands.specs.declared.option.NamesOption.TheVariants.{Exclude, Help, IgnoreCase, Version};
 
 use list_programs::arguments::Given;
@@ -358,6 +359,35 @@ pub fn filtered<E: Platform, A: Allocator, B: Allocator + Copy, W: Write>(
         name.now)) × (text ≡ [])))
         × Appends (W.contents (marked_inner writer.old)) (W.contents (marked_inner writer.new))
         text)) }
+{
+    let mut reader = Marked::new(name);
+    let mut picker = picker;
+    picker.names = Matching {
+        globs: picker.names.globs,
+        inverted: picker.names.inverted,
+        excluded: picker.names.excluded,
+        form: Form::Name,
+        list: ListOptions {
+            end: ItemEnd::Nul,
+            last: LastItem::MayLackEnd,
+            max,
+        },
+    };
+    run(alloc, &mut picker, &mut reader, writer)
+}
+
+/// Filters one name that is a path from the top of the tree, which is never rejected as one that isn't.
+pub fn filtered_in_tree<E: Platform, A: Allocator, B: Allocator + Copy, W: Write>(
+    alloc: A,
+    max: usize,
+    picker: Picker<'_, E, B>,
+    name: &[u8],
+    writer: &mut Marked<W>,
+) -> Result<(), ListFault<Rejection>>
+    requires whole { Lacks 0 name.now }
+    requires placed { IsFromTop name.now }
+    requires unmarked { has_failed writer.old ≡ false }
+    ensures { IfErr result (λ fault. (number : ℕ) → fault ≢ Rejected number NotFromTop) }
 {
     let mut reader = Marked::new(name);
     let mut picker = picker;
