@@ -359,7 +359,7 @@ module _ (known : KnownFiles) (A : Type 0) (folds : Bool) (file : List ℕ) (inp
 
     -- some command has them
     makes_up : MakesUp given (On Unix (Picked Name))
-    makes_up = ([], (operands, ((tt, (tt, (tt, case_fits folds name.Filter tt))), (tt, (inr (inr (inl (inr (inr (inl refl))))), λ h. tt)))))
+    makes_up = ([], (operands, ((tt, (tt, (tt, case_fits folds name.Filter tt))), (tt, (inl (inr (inr (inl (inr (inr (inl refl)))))), (λ h. inr (inr (inl (inr (inr (inl refl))))), λ h. tt))))))
 
     some : (requested : Requested) × IsRequestFor given requested
     some = (record { command = On Unix (Picked Name); list = usual; plain = 0; globs = []; files = value.now ∷ []; inverted = false; case_insensitive = folds; excluded = [] }, inr (no_help folds command platform value, inr (no_version folds command platform value, (is_usual folds command platform value, (makes_up, states_one folds command platform value is_platform (subst (Lacks 0x3D) (sym is_file) plain) (On Unix (Picked Name)) usual)))))

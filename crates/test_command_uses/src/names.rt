@@ -12,15 +12,17 @@ ghost use Rattle.list_programs.specs.ListOptions.{byte_of};
 ghost use Rattle.list_programs.specs.ListRun.{IsOutput, StopsOn};
 ghost use Rattle.program_frame.specs.Marked.{marked_inner, has_failed};
 ghost use Rattle.program_frame.specs.declared.fault.Failure.TheVariants.{Write as WriteFailure};
+ghost use Rattle.program_frame.specs.declared.os.Os.{Os};
 ghost use Rattle.list_programs.specs.declared.fault.ListFault.TheVariants.{Rejected, Run, Unended};
 ghost use Rattle.list_programs.specs.declared.options.ItemEnd.{ItemEnd as ItemEndOf};
 ghost use Rattle.names_commands.specs.Back.{listing, listing_words, AreFirst, IsCompleted};
-ghost use Rattle.names_commands.specs.Command.{Requested, IsRequestFor};
+ghost use Rattle.names_commands.specs.Command.{HasOperands, IsRequestFor, OptionsMatch, Requested};
 ghost use Rattle.names_commands.specs.Ignoring.{IsFromTop};
 ghost use Rattle.names_commands.specs.Matching.{IsMatchedBy, IsPickedBy};
 ghost use Rattle.names_commands.specs.Task.{rules_of};
 ghost use Rattle.names_commands.specs.Words.{AreNamesOf};
 ghost use Rattle.test_command_uses.specs.OneFile.{unended, usual};
+ghost use Rattle.names_commands.specs.declared.command.Name.{Name};
 ghost use Rattle.names_commands.specs.declared.command.RequestError.TheVariants.{Memory as NoMemory};
 ghost use Rattle.names_commands.specs.declared.fault.Rejection.{Rejection};
 ghost use Rattle.names_commands.specs.declared.fault.Rejection.TheVariants.{NoString, NotFromTop};
@@ -111,6 +113,24 @@ pub fn excluded_globs<'a, A: Allocator + Copy>(
 {
     match Request::parse(alloc, given) {
         Ok(request) => Ok(request.excluded),
+        Err(error) => Err(error),
+    }
+}
+
+/// Whether the request inverts which options and operands make up that state no names that match: it
+/// never does.
+pub fn inverts_nothing<'a, A: Allocator + Copy>(
+    alloc: A,
+    given: Line<'_, 'a>,
+) -> Result<bool, RequestError<'a>>
+    requires operands { (command : Name) × ((os : Os) × HasOperands given.now command os []) }
+    requires none { ¬ (OptionsMatch given.now) }
+    requires help { ¬ (HasOption Help given.now) }
+    requires version { ¬ (HasOption Version given.now) }
+    ensures { IfOk result (λ inverted. ¬ (IsTrue inverted)) }
+{
+    match Request::parse(alloc, given) {
+        Ok(request) => Ok(request.inverted),
         Err(error) => Err(error),
     }
 }
