@@ -144,17 +144,17 @@ Fits command (one ∷ given) = FitsOne command one × Fits command given
 abbrev pub HasOperands : Line → Name → Os → List (List ℕ) → Type 0
 HasOperands given command os more = (after : List (List ℕ)) × ((operands_of given ≡ name_word command ∷ after) × HasPlatform after os more)
 
--- options pick some names: by patterns of names to pick or to leave out, by ignore files, or by pattern files
-abbrev pub OptionsPick : Line → Type 0
-OptionsPick given = HasOption option.Glob given ⊎ (HasOption option.Ignore given ⊎ (HasOption option.Name given ⊎ (HasOption option.Exclude given ⊎ HasOption option.GlobsFrom given)))
+-- options state which names match, which `--invert` turns round: by patterns, by ignore files, or by pattern files
+abbrev pub OptionsMatch : Line → Type 0
+OptionsMatch given = HasOption option.Glob given ⊎ (HasOption option.Ignore given ⊎ (HasOption option.Name given ⊎ HasOption option.GlobsFrom given))
 
--- some names are picked: by a pattern that is an operand, or by options
+-- a pattern that is an operand states that, or options do
+abbrev pub SomeMatch : Line → List (List ℕ) → Type 0
+SomeMatch given more = (more ≢ []) ⊎ OptionsMatch given
+
+-- some names are picked: since they match, or by patterns of names to leave out
 abbrev pub SomePicked : Line → List (List ℕ) → Type 0
-SomePicked given more = (more ≢ []) ⊎ OptionsPick given
-
--- something has to pick names: filter is about those that are picked, and so is `--invert`
-abbrev pub NeedsPick : Line → Name → Type 0
-NeedsPick given command = (command ≡ name.Filter) ⊎ HasOption option.Invert given
+SomePicked given more = SomeMatch given more ⊎ HasOption option.Exclude given
 
 -- there is one or none
 abbrev pub AtMostOne : List (List ℕ) → Type 0
@@ -162,9 +162,9 @@ AtMostOne [] = Unit {0}
 AtMostOne (word ∷ []) = Unit {0}
 AtMostOne (word ∷ other ∷ more) = ⊥
 
--- whether names are picked: by a pattern that is an operand, or by options; or all names are meant
+-- whether names are picked: by a pattern that is an operand, or by options; or all names are meant. `--invert` needs some that match
 abbrev pub Picks : Line → Os → List (List ℕ) → Bool → Type 0
-Picks given os more true = AtMostOne more × (SomePicked given more × (HasOption option.Ignore given → TakesIgnore os))
+Picks given os more true = AtMostOne more × (SomePicked given more × ((HasOption option.Invert given → SomeMatch given more) × (HasOption option.Ignore given → TakesIgnore os)))
 Picks given os more false = (¬ (SomePicked given more)) × (¬ (HasOption option.Invert given))
 
 -- how words of a shell are written: each on one line where that is requested
@@ -268,12 +268,13 @@ IsRequestFor given a =
     ⊎ ((¬ (HasOption option.Version given)) × (IsListed given a.list × (MakesUp given a.command × StatesPicks given a)))
     ))
 
--- what is missing: a command, what picks names, or an ignore file
+-- what is missing: a command, what picks names, what `--invert` turns round, or an ignore file
 abbrev pub IsMissing : Line → List ℕ → Type 0
 IsMissing given what =
     ((what ≡ codes "command (list, filter, why, join, check or tar)") × (operands_of given ≡ []))
-    ⊎ (((what ≡ codes "GLOB, --glob, --globs-from, --name, --ignore or --exclude") × ((command : Name) × (os : Os) × (HasOperands given command os [] × (NeedsPick given command × (¬ (SomePicked given []))))))
-    ⊎ ((what ≡ codes "--ignore") × ((os : Os) × (HasOperands given name.Why os [] × (¬ (HasOption option.Ignore given))))))
+    ⊎ (((what ≡ codes "GLOB, --glob, --globs-from, --name, --ignore or --exclude") × ((os : Os) × (HasOperands given name.Filter os [] × (¬ (SomePicked given [])))))
+    ⊎ (((what ≡ codes "GLOB, --glob, --globs-from, --name or --ignore for --invert") × ((command : Name) × (os : Os) × (HasOperands given command os [] × (HasOption option.Invert given × (¬ (OptionsMatch given))))))
+    ⊎ ((what ≡ codes "--ignore") × ((os : Os) × (HasOperands given name.Why os [] × (¬ (HasOption option.Ignore given)))))))
 
 -- which word is no command or no number of bytes, or states an ignore file in no directory of the tree
 abbrev pub IsInvalid : Line → List ℕ → List ℕ → Type 0

@@ -13,7 +13,7 @@ use Rattle.os_quote.specs.declared.error.QuoteError.TheVariants as quote
 use Rattle.os_str_bytes.specs.FaultText.{fault_text}
 use Rattle.tar_names.specs.FaultText as tar
 use Rattle.names_commands.specs.declared.fault.Rejection.{Rejection}
-use Rattle.names_commands.specs.declared.fault.Rejection.TheVariants.{NoString, BadEscape, NotCanonical, HasNul, HasNewline, EndsInReturn, EmptyLine, BadWords, BadArchive}
+use Rattle.names_commands.specs.declared.fault.Rejection.TheVariants.{NoString, BadEscape, NotCanonical, HasNul, HasNewline, EndsInReturn, EmptyLine, BadWords, BadArchive, NotFromTop}
 use Rattle.names_commands.specs.declared.fault.CommandFault.{CommandFault}
 use Rattle.names_commands.specs.declared.fault.CommandFault.TheVariants.{Unreadable, Misuse, Pattern, NoFile, Unread, NoPatternFile, UnreadPatternFile, LinePattern, LineNoString}
 
@@ -28,6 +28,7 @@ rejection_text EndsInReturn = codes "the line ends in a carriage return"
 rejection_text EmptyLine = codes "the line is empty; --empty reads it as an empty name"
 rejection_text (BadWords fault) = words.fault_text fault
 rejection_text (BadArchive fault) = tar.fault_text fault
+rejection_text NotFromTop = codes "the name isn't a path from the top, as --ignore needs it; use find . or git ls-files -z there"
 
 -- which line of which pattern file has a fault
 abbrev pub line_text : ℕ → ℕ → List ℕ

@@ -10,10 +10,10 @@ use Rattle.os_ignore.specs.declared.verdict.Verdict.{Verdict}
 use Rattle.program_frame.specs.Files.{KnownFiles}
 use Rattle.list_programs.specs.Items.{IsCutAt, Lacks}
 
--- the name without one `./` before it
+-- the name without one `./` before it; of `.`, which is the top, nothing is left
 abbrev pub without_dot : List ℕ → List ℕ
 without_dot [] = []
-without_dot (a ∷ []) = a ∷ []
+without_dot (a ∷ []) = cond (nat_eq a 0x2E) [] (a ∷ [])
 without_dot (a ∷ b ∷ rest) = cond (nat_eq a 0x2E && nat_eq b 0x2F) rest (a ∷ b ∷ rest)
 
 -- the path that a name is, and whether it is that of a directory: the name then ends with a `/`, which the path lacks
@@ -21,11 +21,9 @@ abbrev pub IsPath : List ℕ → List ℕ → Bool → Type 0
 IsPath name path true = name ≡ path ++ 0x2F ∷ []
 IsPath name path false = (path ≡ name) × ((front : List ℕ) → name ≢ front ++ 0x2F ∷ [])
 
--- the directory's path in the tree: `.` is its top, and `./` before a path and `/` at its end are left out
+-- the directory's path in the tree: `./` before a path and `/` at its end are left out
 abbrev pub IsDirectory : List ℕ → List ℕ → Type 0
-IsDirectory word directory =
-    ((word ≡ 0x2E ∷ []) × (directory ≡ []))
-    ⊎ ((word ≢ 0x2E ∷ []) × ((is_dir : Bool) × IsPath (without_dot word) directory is_dir))
+IsDirectory word directory = (is_dir : Bool) × IsPath (without_dot word) directory is_dir
 
 -- a component is no name: it is empty, `.` or `..`
 abbrev pub IsNoName : List ℕ → Type 0
@@ -37,7 +35,20 @@ LeadsDown path = AllByRecursion (λ component. ¬ (IsNoName component)) (pieces 
 
 -- the word is a directory of the tree: `.` and `./` and nothing are its top, and else it is a path that leads down from there, with or without `./` before it and `/` at its end
 abbrev pub IsInside : List ℕ → Type 0
-IsInside word = (word ≡ codes ".") ⊎ ((without_dot word ≡ []) ⊎ ((path : List ℕ) × (is_dir : Bool) × (IsPath (without_dot word) path is_dir × LeadsDown path)))
+IsInside word = (without_dot word ≡ []) ⊎ ((path : List ℕ) × (is_dir : Bool) × (IsPath (without_dot word) path is_dir × LeadsDown path))
+
+-- a name is a path from the top: it isn't empty, and is that of the top or leads down from there
+abbrev pub IsFromTop : List ℕ → Type 0
+IsFromTop name = (name ≢ []) × IsInside name
+
+-- names have to be such paths where some value of `--ignore` states a file
+abbrev pub needs_tree : List (List ℕ) → Bool
+needs_tree [] = false
+needs_tree (value ∷ values) = true
+
+-- the name is such a path, if it has to be one
+abbrev pub IsInTree : Bool → List ℕ → Type 0
+IsInTree from_top name = from_top ≡ true → IsFromTop name
 
 -- a value of `--ignore` is FILE, or DIR=FILE with a directory of the tree
 abbrev pub IsPlaced : List ℕ → Type 0

@@ -23,8 +23,8 @@ use Rattle.list_programs.specs.declared.options.ListOptions.{ListOptions}
 use Rattle.names_commands.specs.declared.fault.Rejection.{Rejection}
 use Rattle.names_commands.specs.declared.matching.Form.{Form}
 use Rattle.names_commands.specs.declared.matching.Form.TheVariants.{Line, Name, Word}
-use Rattle.names_commands.specs.Ignoring.{IsIgnored}
-use Rattle.names_commands.specs.Names.{IsNameRejection}
+use Rattle.names_commands.specs.Ignoring.{IsIgnored, IsInTree}
+use Rattle.names_commands.specs.Names.{IsListRejection}
 use Rattle.names_commands.specs.Task.{IsLine}
 use Rattle.names_commands.specs.Words.{IsWordLine}
 
@@ -46,18 +46,18 @@ module _ {E : Type 0} (p : Ghosts E) where
   IsInForm (Word form) end name text = IsWordLine form name text
 
   -- this is written for a name: the name in this form, if it is picked, and else nothing
-  abbrev pub IsTextOfPicked : Form → ItemEnd → (List ℕ → Type 0) → List ℕ → List ℕ → Type 0
-  IsTextOfPicked form end Picked name text = p.well_formed name × (Lacks 0 name × ((Picked name × IsInForm form end name text) ⊎ ((¬ (Picked name)) × (text ≡ []))))
+  abbrev pub IsTextOfPicked : Form → ItemEnd → Bool → (List ℕ → Type 0) → List ℕ → List ℕ → Type 0
+  IsTextOfPicked form end from_top Picked name text = p.well_formed name × (Lacks 0 name × (IsInTree from_top name × ((Picked name × IsInForm form end name text) ⊎ ((¬ (Picked name)) × (text ≡ [])))))
 
   -- what is done with each name of a list that is written so, where some are picked
-  abbrev pub picking : Form → ListOptions → (List ℕ → Type 0) → ListRules Rejection
-  picking form list Picked = record {
+  abbrev pub picking : Form → ListOptions → Bool → (List ℕ → Type 0) → ListRules Rejection
+  picking form list from_top Picked = record {
     end = byte_of list.end;
     takes_unended = MayLack list.last;
     max = list.max;
     longest = list.max;
-    is_text = IsTextOfPicked form list.end Picked;
-    rejects = IsNameRejection p;
+    is_text = IsTextOfPicked form list.end from_top Picked;
+    rejects = IsListRejection p from_top;
     is_of_long = λ name. ⊥;
   }
 
@@ -109,8 +109,8 @@ module _ {E : Type 0} (p : Ghosts E) where
   IsPickedBy inverted globs excluded files = IsPicked inverted (IsChosenBy globs) (IsMatchedBy excluded) files
 
   -- what is written then, and what is done with each name
-  abbrev pub IsTextOfMatched : {A : Type 0} → Form → ItemEnd → Bool → Option (Bor (GlobSet E A)) → GlobSet E A → List (File A) → List ℕ → List ℕ → Type 0
-  IsTextOfMatched form end inverted globs excluded files = IsTextOfPicked form end (IsPickedBy inverted globs excluded files)
+  abbrev pub IsTextOfMatched : {A : Type 0} → Form → ItemEnd → Bool → Bool → Option (Bor (GlobSet E A)) → GlobSet E A → List (File A) → List ℕ → List ℕ → Type 0
+  IsTextOfMatched form end from_top inverted globs excluded files = IsTextOfPicked form end from_top (IsPickedBy inverted globs excluded files)
 
-  abbrev pub matching : {A : Type 0} → Form → ListOptions → Bool → Option (Bor (GlobSet E A)) → GlobSet E A → List (File A) → ListRules Rejection
-  matching form list inverted globs excluded files = picking form list (IsPickedBy inverted globs excluded files)
+  abbrev pub matching : {A : Type 0} → Form → ListOptions → Bool → Bool → Option (Bor (GlobSet E A)) → GlobSet E A → List (File A) → ListRules Rejection
+  matching form list from_top inverted globs excluded files = picking form list from_top (IsPickedBy inverted globs excluded files)

@@ -1,5 +1,5 @@
 -- Names as items of a list, and why an item or a line isn't one. No file's name has a NUL (POSIX, "Definitions", Pathname).
-use Rattle.std.specs.Prelude.{◌≡◌, ℕ, List, [], ◌∷◌, ◌++◌}
+use Rattle.std.specs.Prelude.{◌≡◌, ◌⊎◌, ℕ, Bool, true, List, [], ◌∷◌, ◌++◌}
 use Rattle.os_str_bytes.specs.Platform.{Ghosts}
 use Rattle.list_programs.specs.Items.{Lacks}
 use Rattle.list_programs.specs.ListOptions.{byte_of}
@@ -8,7 +8,8 @@ use Rattle.list_programs.specs.declared.fault.ItemFault.TheVariants as item_faul
 use Rattle.list_programs.specs.declared.options.ItemEnd.{ItemEnd}
 use Rattle.list_programs.specs.declared.options.ItemEnd.TheVariants.{Newline}
 use Rattle.names_commands.specs.declared.fault.Rejection.{Rejection}
-use Rattle.names_commands.specs.declared.fault.Rejection.TheVariants.{NoString, BadEscape, NotCanonical, HasNul, HasNewline, EndsInReturn as InReturn, EmptyLine, BadWords, BadArchive}
+use Rattle.names_commands.specs.declared.fault.Rejection.TheVariants.{NoString, BadEscape, NotCanonical, HasNul, HasNewline, EndsInReturn as InReturn, EmptyLine, BadWords, BadArchive, NotFromTop}
+use Rattle.names_commands.specs.Ignoring.{IsFromTop}
 
 -- a name that can be written with this end: it has neither a NUL nor that end
 pub record IsFit (end : ItemEnd) (name : List ℕ) : Type 0 where
@@ -26,6 +27,7 @@ IsUnfit end name InReturn = ⊥
 IsUnfit end name EmptyLine = ⊥
 IsUnfit end name (BadWords fault) = ⊥
 IsUnfit end name (BadArchive fault) = ⊥
+IsUnfit end name NotFromTop = ⊥
 
 -- the line's last byte is a carriage return
 abbrev pub EndsInReturn : List ℕ → Type 0
@@ -44,9 +46,14 @@ module _ {E : Type 0} (p : Ghosts E) where
   IsNameRejection name EmptyLine = ⊥
   IsNameRejection name (BadWords fault) = ⊥
   IsNameRejection name (BadArchive fault) = ⊥
+  IsNameRejection name NotFromTop = ⊥
+
+  -- why an item isn't a name of a list: that, or it isn't a path from the top, if it has to be one
+  abbrev pub IsListRejection : Bool → List ℕ → Rejection → Type 0
+  IsListRejection from_top name why = IsNameRejection name why ⊎ ((why ≡ NotFromTop) × ((from_top ≡ true) × (¬ (IsFromTop name))))
 
   -- why nothing is written for it: that, or an allocation failed
-  abbrev pub IsNoName : List ℕ → ItemFault Rejection → Type 0
-  IsNoName name (item_fault.Rejected why) = IsNameRejection name why
-  IsNoName name item_fault.TooLong = ⊥
-  IsNoName name item_fault.Memory = Unit {0}
+  abbrev pub IsNoName : Bool → List ℕ → ItemFault Rejection → Type 0
+  IsNoName from_top name (item_fault.Rejected why) = IsListRejection from_top name why
+  IsNoName from_top name item_fault.TooLong = ⊥
+  IsNoName from_top name item_fault.Memory = Unit {0}

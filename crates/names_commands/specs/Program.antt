@@ -41,7 +41,7 @@ use Rattle.names_commands.specs.declared.fault.CommandFault.{CommandFault}
 use Rattle.names_commands.specs.declared.fault.CommandFault.TheVariants.{Unreadable, Misuse, Pattern, NoFile, Unread, NoPatternFile, UnreadPatternFile, LinePattern, LineNoString}
 use Rattle.names_commands.specs.declared.matching.Form.{Form}
 use Rattle.names_commands.specs.Caret.{IsPointed}
-use Rattle.names_commands.specs.Ignoring.{AreRead, IsFileIn, IsFirstUnread}
+use Rattle.names_commands.specs.Ignoring.{AreRead, IsFileIn, IsFirstUnread, needs_tree}
 use Rattle.names_commands.specs.Matching.{picking, AreWrittenOut, IsChosen, IsFirstFault, IsMatched, IsPattern, IsPicked}
 use Rattle.names_commands.specs.PatternFiles.{ArePatternsOf, IsFirstNoString, IsUnreadOf, PatternLine, text_of}
 use Rattle.names_commands.specs.Pick.{added_before, typed_fault}
@@ -154,7 +154,7 @@ module _ (known : KnownFiles) (A : Type 0) where
   abbrev pub RunsBut : {E : Type 0} → Ghosts E → Form → ListOptions → Bool → Bool → (List ℕ → Type 0) → (List ℕ → Type 0) → List (List ℕ) → Doing
   RunsBut p shape list inverted folds Chosen Excluded values input left old new answer =
       ((why : CommandFault) × IsFileFault folds values why × EndsAtOnce (Words why) input left old new answer)
-      ⊎ ((files : List (File A)) × AreRead known folds values files × Runs (picking p shape list (IsPicked inverted Chosen Excluded files)) OfList input left old new answer)
+      ⊎ ((files : List (File A)) × AreRead known folds values files × Runs (picking p shape list (needs_tree values) (IsPicked inverted Chosen Excluded files)) OfList input left old new answer)
 
   -- where this is requested, on a platform that states this of its strings:
   module _ {E : Type 0} (p : Ghosts E) (requested : Requested) where

@@ -119,6 +119,7 @@ module _ {E : Type 0} (p : Ghosts E) where
   IsJoinRejection empty list line rejection.EmptyLine = IsEmpty empty line
   IsJoinRejection empty list line (rejection.BadWords fault) = ⊥
   IsJoinRejection empty list line (rejection.BadArchive fault) = ⊥
+  IsJoinRejection empty list line rejection.NotFromTop = ⊥
 
   -- why an item is rejected
   abbrev pub IsRejection : Task → ListOptions → List ℕ → Rejection → Type 0

@@ -12,8 +12,8 @@ use Rattle.list_programs.specs.Items.{Lacks}
 use Rattle.list_programs.specs.ListOptions.{MayLack, byte_of}
 use Rattle.list_programs.specs.Rules.{ListRules}
 use Rattle.list_programs.specs.declared.options.ListOptions.{ListOptions}
-use Rattle.names_commands.specs.Ignoring.{IsFileIn, IsPath, without_dot}
-use Rattle.names_commands.specs.Names.{IsNameRejection}
+use Rattle.names_commands.specs.Ignoring.{IsFileIn, IsInTree, IsPath, needs_tree, without_dot}
+use Rattle.names_commands.specs.Names.{IsListRejection}
 use Rattle.names_commands.specs.declared.fault.Rejection.{Rejection}
 
 -- the file and the line of a verdict, by their numbers
@@ -77,7 +77,7 @@ module _ {E : Type 0} (p : Ghosts E) {A : Type 0} where
 
   -- this is written for a name
   abbrev pub IsTextOfDecided : List (List ℕ) → List (File A) → List ℕ → List ℕ → Type 0
-  IsTextOfDecided values files name text = p.well_formed name × (Lacks 0 name × IsDecidedText values files name text)
+  IsTextOfDecided values files name text = p.well_formed name × (Lacks 0 name × (IsInTree (needs_tree values) name × IsDecidedText values files name text))
 
   -- what is done with each name of a list that is written so, where lines of ignore files decide names
   abbrev pub deciding : ListOptions → List (List ℕ) → List (File A) → ListRules Rejection
@@ -87,6 +87,6 @@ module _ {E : Type 0} (p : Ghosts E) {A : Type 0} where
     max = list.max;
     longest = list.max;
     is_text = IsTextOfDecided values files;
-    rejects = IsNameRejection p;
+    rejects = IsListRejection p (needs_tree values);
     is_of_long = λ name. ⊥;
   }

@@ -8,7 +8,7 @@ use Rattle.list_programs.specs.declared.options.ListOptions.{ListOptions}
 use Rattle.list_programs.specs.declared.fault.ItemFault.{ItemFault}
 use Rattle.list_programs.specs.declared.fault.ItemFault.TheVariants as item_fault
 use Rattle.names_commands.specs.declared.fault.Rejection.{Rejection}
-use Rattle.names_commands.specs.declared.fault.Rejection.TheVariants.{NoString, BadEscape, NotCanonical, HasNul, HasNewline, EndsInReturn as InReturn, EmptyLine, BadWords, BadArchive}
+use Rattle.names_commands.specs.declared.fault.Rejection.TheVariants.{NoString, BadEscape, NotCanonical, HasNul, HasNewline, EndsInReturn as InReturn, EmptyLine, BadWords, BadArchive, NotFromTop}
 use Rattle.names_commands.specs.Names.{EndsInReturn, IsFit, IsUnfit}
 use Rattle.names_commands.specs.declared.task.WordForm.{WordForm}
 use Rattle.names_commands.specs.declared.task.WordForm.TheVariants.{Posix, OneLine}
@@ -64,6 +64,7 @@ module _ (list : ListOptions) where
   IsWordsRejection line EmptyLine = ⊥
   IsWordsRejection line (BadWords fault) = IsAfterNames line (Err fault)
   IsWordsRejection line (BadArchive fault) = ⊥
+  IsWordsRejection line NotFromTop = ⊥
 
   -- why nothing is written for a line of words; an allocation may fail
   abbrev pub IsLineFault : List ℕ → ItemFault Rejection → Type 0

@@ -39,6 +39,9 @@ pub enum Rejection {
     BadWords(WordsFault),
     /// The archive ends before its end, after the entries that were read: its fault.
     BadArchive(TarFault),
+    /// The name isn't a path from the top of the tree, as ignore files need it: it is empty or
+    /// absolute, or has an empty, `.` or `..` component after one `./`.
+    NotFromTop,
 }
 
 /// Why the arguments are rejected.
@@ -117,6 +120,9 @@ impl ItemRejection for Rejection {
             ),
             Rejection::BadWords(fault) => fault.fmt(f),
             Rejection::BadArchive(fault) => fault.fmt(f),
+            Rejection::NotFromTop => f.write_str(
+                "the name isn't a path from the top, as --ignore needs it; use find . or git ls-files -z there",
+            ),
         }
     }
 }

@@ -1,7 +1,7 @@
 //! What options and operands state: a limit, what picks names, and how they are written.
 ghost use Rattle.std.specs.Prelude.{◌≡◌, ◌↔◌, [], IfOk, IfErr, IsTrue, MatchOption};
 ghost use Rattle.list_programs.specs.Arguments.{HasOption, operands_of};
-ghost use Rattle.names_commands.specs.Command.{HasOperands, IsEmptyLine, IsForm, IsListed, IsMax, IsMisuse, IsWordOption, NoWords, OptionsPick, Picks, TakesOption, options_of, separators_of};
+ghost use Rattle.names_commands.specs.Command.{HasOperands, IsEmptyLine, IsForm, IsListed, IsMax, IsMisuse, IsWordOption, NoWords, OptionsMatch, Picks, TakesOption, options_of, separators_of};
 ghost use Rattle.names_commands.specs.Operands.{HasPlatform};
 ghost use Rattle.names_commands.specs.Pick.{TakesIgnore};
 ghost use Rattle.names_commands.specs.declared.option.NamesOption.TheVariants.{Glob, Ignore};
@@ -94,23 +94,25 @@ fn options_pick<'a>(
         (λ picks. Picks given.entry.now os (operands_of more.entry.now) picks) }
     ensures misuse { IfErr result (λ misuse. IsMisuse given.entry.now misuse) }
 {
-    if an_option_picks(given) {
+    if options_match(given) {
         return Ok(true);
     }
     if has(given, NamesOption::Invert) {
-        return Err(Misuse::Missing("GLOB, --glob, --globs-from, --name, --ignore or --exclude"));
+        return Err(Misuse::Missing("GLOB, --glob, --globs-from, --name or --ignore for --invert"));
+    }
+    if has(given, NamesOption::Exclude) {
+        return Ok(true);
     }
     Ok(false)
 }
 
-/// Whether an option picks names.
-fn an_option_picks(given: Line<'_, '_>) -> bool
-    ensures { IsTrue result ↔ OptionsPick given.entry.now }
+/// Whether an option states which names match, which `--invert` turns round.
+fn options_match(given: Line<'_, '_>) -> bool
+    ensures { IsTrue result ↔ OptionsMatch given.entry.now }
 {
     has(given, NamesOption::Glob)
         || has(given, NamesOption::Ignore)
         || has(given, NamesOption::Name)
-        || has(given, NamesOption::Exclude)
         || has(given, NamesOption::GlobsFrom)
 }
 

@@ -58,9 +58,9 @@ A GLOB that begins with a dash is written --glob=-x. Arguments are UTF-8: a GLOB
 whose lines may end with CR LF. A FILE of --globs-from without GLOBs picks no names.
 
 FILE is read as git reads a .gitignore at the top of the tree, or in DIR. That of the deeper folder decides, and a later
-one over those before it. DIR ends at the first =, so a FILE whose name has one is written =FILE. DIR is . or a path from
-the top: /a, a//b and a/../b are rejected. Names are paths from the top, with or without ./ at the start. A name that
-ends with / is a directory, another isn't: out/ ignores ./out/ and ./out/a, but not ./out.
+one over those before it. DIR ends at the first =, so a FILE whose name has one is written =FILE. DIR and names are paths
+from the top, with or without ./ at the start, and . is the top: /a, a//b and a/../b are rejected. A name that ends with
+/ is a directory, another isn't: out/ ignores ./out/ and ./out/a, but not ./out.
 
 tar reads the whole archive into memory. It writes each name of an entry that --lines and --max permit, and ends at the
 first entry that readers of archives may read in different ways. The message has the first entry that is rejected.

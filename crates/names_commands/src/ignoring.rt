@@ -4,7 +4,7 @@ ghost use Rattle.std.specs.List.{AllByRecursion};
 ghost use Rattle.std.specs.Str.{IsUtf8};
 ghost use Rattle.os_ignore.specs.Ignores.{IsAddedTo, files_of};
 ghost use Rattle.os_ignore.specs.Walks.{files_of_walk};
-ghost use Rattle.names_commands.specs.Ignoring.{AreRead, IsDirectory, IsFileIn, IsIgnored, IsInside, IsNoName, IsPath, IsPlaced, LeadsDown, text_of, without_dot};
+ghost use Rattle.names_commands.specs.Ignoring.{AreRead, IsDirectory, IsFileIn, IsFromTop, IsIgnored, IsInside, IsNoName, IsPath, IsPlaced, LeadsDown, needs_tree, text_of, without_dot};
 ghost use Rattle.names_commands.specs.Why.{IsDecided, numbers_of};
 ghost use Rattle.program_frame.specs.declared.fault.Failure.TheVariants.{Memory};
 ghost use Rattle.list_programs.specs.declared.fault.ListFault.TheVariants.{Run};
@@ -20,12 +20,13 @@ use program_frame::fault::Failure;
 use program_frame::files::{FileFault, Files};
 use std::alloc::{AllocError, Allocator};
 
-/// The name without one `./` before it.
+/// The name without one `./` before it. Of `.`, which is the top, nothing is left.
 fn without_dot(name: &[u8]) -> &[u8]
     ensures { result.now ≡ without_dot name.now }
 {
     match name {
         [b'.', b'/', rest @ ..] => rest,
+        [b'.'] => b"",
         _ => name,
     }
 }
@@ -150,9 +151,6 @@ pub fn file_in(value: &[u8]) -> (&[u8], &[u8])
 fn directory_of(word: &[u8]) -> &[u8]
     ensures { IsDirectory word.now result.now }
 {
-    if word == b".".as_slice() {
-        return b"";
-    }
     let (path, _) = path_of(without_dot(word));
     path
 }
@@ -189,7 +187,24 @@ fn is_inside(word: &[u8]) -> bool
 {
     let below = without_dot(word);
     let (path, _) = path_of(below);
-    word == b".".as_slice() || below.is_empty() || leads_down(path)
+    below.is_empty() || leads_down(path)
+}
+
+/// Whether a name is a path from the top of the tree.
+pub(crate) fn is_from_top(name: &[u8]) -> bool
+    ensures { IsTrue result ↔ IsFromTop name.now }
+{
+    !name.is_empty() && is_inside(name)
+}
+
+/// Whether names have to be paths from the top, since some value of `--ignore` states a file.
+pub(crate) fn needs_tree(values: &[&str]) -> bool
+    ensures { result ≡ needs_tree (map text_of values.now) }
+{
+    match values {
+        [] => false,
+        [_, ..] => true,
+    }
 }
 
 /// Whether each component of a path is a name.

@@ -8,11 +8,13 @@ ghost use Rattle.list_programs.specs.Rules.{IsItemFault};
 ghost use Rattle.list_programs.specs.declared.fault.ItemFault.TheVariants.{Rejected, Memory};
 ghost use Rattle.names_commands.specs.declared.task.EmptyLine.{EmptyLine as DeclaredEmptyLine};
 ghost use Rattle.names_commands.specs.declared.task.Task.TheVariants.{Join};
-ghost use Rattle.names_commands.specs.Names.{EndsInReturn, IsFit, IsNameRejection, IsUnfit};
+ghost use Rattle.names_commands.specs.Ignoring.{IsInTree};
+ghost use Rattle.names_commands.specs.Names.{EndsInReturn, IsFit, IsNameRejection, IsNoName, IsUnfit};
 ghost use Rattle.names_commands.specs.declared.fault.Rejection.{Rejection as RejectionOf};
 ghost use Rattle.names_commands.specs.Task.{longest_item, rules_of, IsEmpty, IsEscapeOf, IsTaken, IsText, quote_fault};
 
 use crate::fault::Rejection;
+use crate::ignoring::is_from_top;
 use crate::task::{EmptyLine, Settings, Task};
 use crate::words::{write_names, write_word};
 use list_programs::fault::ItemFault;
@@ -73,6 +75,24 @@ pub(crate) fn named<'a, E: Platform>(item: &'a [u8]) -> Result<OsStr<'a, E>, Ite
         None => Ok(name),
         Some(_) => Err(ItemFault::Rejected(Rejection::HasNul)),
     }
+}
+
+/// The name of a list that an item is. It is a path from the top if it has to be one.
+pub(crate) fn named_in<'a, E: Platform>(
+    item: &'a [u8],
+    from_top: bool,
+) -> Result<OsStr<'a, E>, ItemFault<Rejection>>
+    ensures bytes { IfOk result (λ name. bytes name ≡ item.now) }
+    ensures formed { OnOk result (E.well_formed item.now) }
+    ensures whole { OnOk result (Lacks 0 item.now) }
+    ensures placed { OnOk result (IsInTree from_top item.now) }
+    ensures fault { IfErr result (λ fault. IsNoName ⟦<E as Platform>⟧ from_top item.now fault) }
+{
+    let name = named::<E>(item)?;
+    if from_top && !is_from_top(item) {
+        return Err(ItemFault::Rejected(Rejection::NotFromTop));
+    }
+    Ok(name)
 }
 
 /// Why a name can't be written with this end: it has a NUL, or the newline that ends it.

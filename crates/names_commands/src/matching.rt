@@ -1,5 +1,5 @@
 //! Names that are picked.
-ghost use Rattle.std.specs.Prelude.{◌≡◌, ◌↔◌, ◌++◌, ℕ, List, cond, false, not, IfErr, IfOk, IsTrue, OnErr, OnOk};
+ghost use Rattle.std.specs.Prelude.{◌≡◌, ◌↔◌, ◌++◌, ℕ, List, Bool, cond, false, not, IfErr, IfOk, IsTrue, OnErr, OnOk};
 ghost use Rattle.os_ignore.specs.Walks.{files_of_walk};
 ghost use Rattle.os_ignore.specs.declared.file.File.{File};
 ghost use Rattle.os_str_bytes.specs.Strings.{bytes};
@@ -9,7 +9,7 @@ ghost use Rattle.names_commands.specs.declared.matching.Matching.{Matching as Ma
 
 use crate::fault::Rejection;
 use crate::ignoring::is_shown;
-use crate::item::{named, push_name, write_line};
+use crate::item::{named_in, push_name, write_line};
 use crate::task::WordForm;
 use crate::words::write_word;
 use glob_patterns::GlobSet;
@@ -48,13 +48,19 @@ pub struct Matching<'g, E: Platform, A: Allocator = Global> {
 }
 
 /// The names that are picked, where the lines of these files ignore some. One `./` before a name is
-/// left out, and a `/` at its end marks a directory.
+/// left out, and a `/` at its end marks a directory. `.` and `./` are the top of the tree, which the
+/// files take for an empty name: of the usual lines only `*` and `**` ignore it.
+///
+/// If `from_top` is set, a name that isn't a path from the top is rejected
+/// ([`Rejection::NotFromTop`]), since ignore files have no verdict on it.
 #[derive(Drop)]
 pub struct Picker<'g, E: Platform, A: Allocator = Global> {
     /// Which names are picked, and how they are written.
     pub names: Matching<'g, E, A>,
     /// The walk over the names, by the ignore files.
     pub walk: Walk<'g, A>,
+    /// Whether each name has to be a path from the top.
+    pub from_top: bool,
 }
 
 impl<'g, E: Platform, A: Allocator + Copy> Matching<'g, E, A> {
@@ -136,12 +142,12 @@ fn is_chosen<E: Platform, A: Allocator>(globs: Option<&GlobSet<E, A>>, name: OsS
 impl<'g, E: Platform, B: Allocator + Copy> ListTask for Picker<'g, E, B> {
     type Rejection = Rejection;
 
-    ghost Planned = { MatchingOf E B × List (File B) };
+    ghost Planned = { Bool × (MatchingOf E B × List (File B)) };
 
-    ghost plan = { λ p. (p.names, files_of_walk p.walk) };
+    ghost plan = { λ p. (p.from_top, (p.names, files_of_walk p.walk)) };
 
-    ghost rules = { λ p. matching ⟦<E as Platform>⟧ p.0.form p.0.list p.0.inverted p.0.globs
-        p.0.excluded.now p.1 };
+    ghost rules = { λ p. matching ⟦<E as Platform>⟧ p.1.0.form p.1.0.list p.0 p.1.0.inverted
+        p.1.0.globs p.1.0.excluded.now p.1.1 };
 
     fn end(&self) -> ItemEnd {
         self.names.list.end
@@ -165,7 +171,14 @@ impl<'g, E: Platform, B: Allocator + Copy> ListTask for Picker<'g, E, B> {
         item: &[u8],
         output: &mut Vec<u8, A>,
     ) -> Result<(), ItemFault<Rejection>> {
-        write_matching::<E, A, B>(alloc, &self.names, &mut self.walk, item, output)
+        write_matching::<E, A, B>(
+            alloc,
+            &self.names,
+            self.from_top,
+            &mut self.walk,
+            item,
+            output,
+        )
     }
 }
 
@@ -173,19 +186,20 @@ impl<'g, E: Platform, B: Allocator + Copy> ListTask for Picker<'g, E, B> {
 fn write_matching<E: Platform, A: Allocator, B: Allocator + Copy>(
     alloc: A,
     names: &Matching<'_, E, B>,
+    from_top: bool,
     walk: &mut Walk<'_, B>,
     item: &[u8],
     output: &mut Vec<u8, A>,
 ) -> Result<(), ItemFault<Rejection>>
     ensures ok { OnOk result ((text : List ℕ)
-        × (IsTextOfMatched ⟦<E as Platform>⟧ names.now.form names.now.list.end names.now.inverted
-        names.now.globs names.now.excluded.now (files_of_walk walk.old)
+        × (IsTextOfMatched ⟦<E as Platform>⟧ names.now.form names.now.list.end from_top
+        names.now.inverted names.now.globs names.now.excluded.now (files_of_walk walk.old)
         item.now text × (output.new.items ≡ output.old.items ++ text))) }
-    ensures fault { IfErr result (λ fault. IsNoName ⟦<E as Platform>⟧ item.now fault) }
+    ensures fault { IfErr result (λ fault. IsNoName ⟦<E as Platform>⟧ from_top item.now fault) }
     ensures unchanged { OnErr result (output.new.items ≡ output.old.items) }
     ensures files { files_of_walk walk.new ≡ files_of_walk walk.old }
 {
-    let name = named::<E>(item)?;
+    let name = named_in::<E>(item, from_top)?;
     let picks = names.picks(walk, name)?;
     if !picks {
         return Ok(());

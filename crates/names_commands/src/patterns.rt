@@ -15,7 +15,7 @@ use crate::caret::pointed;
 use crate::command::Request;
 use crate::fault::{CommandFault, Fault};
 use crate::given::options_of;
-use crate::ignoring::read_ignore;
+use crate::ignoring::{needs_tree, read_ignore};
 use crate::matching::{Form, Matching, Picker};
 use crate::pattern_files::{FilePattern, pattern_at, push_strings, read_patterns};
 use crate::pick::{added_before, strings_of, typed, typed_fault};
@@ -63,7 +63,8 @@ pub(crate) fn run_picked<E: Platform, F: Files, A: Allocator + Copy, R: Read, W:
         Err(fault) => return Err(fault),
     };
     let reading = IgnoreOptions { case_insensitive };
-    let ignore = match read_ignore(alloc, files, reading, request.files.as_slice()) {
+    let values = request.files.as_slice();
+    let ignore = match read_ignore(alloc, files, reading, values) {
         Ok(ignore) => ignore,
         Err(fault) => return Err(fault),
     };
@@ -75,7 +76,13 @@ pub(crate) fn run_picked<E: Platform, F: Files, A: Allocator + Copy, R: Read, W:
         list: request.list,
     };
     let walk = Walk::new(alloc, &ignore);
-    run_list(alloc, &mut Picker { names, walk }, reader, writer)
+    let from_top = needs_tree(values);
+    let mut picker = Picker {
+        names,
+        walk,
+        from_top,
+    };
+    run_list(alloc, &mut picker, reader, writer)
 }
 
 /// The sets of the patterns that pick names, and of those that leave them out, where files have these

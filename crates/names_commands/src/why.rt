@@ -4,13 +4,13 @@ ghost use Rattle.os_ignore.specs.Ignores.{HasNoText, HasText, files_of};
 ghost use Rattle.os_quote.specs.Escape.{IsLineEscape};
 ghost use Rattle.os_str_bytes.specs.Strings.{bytes};
 ghost use Rattle.os_str_bytes.specs.UnixPlatform.TheImpl.{ghosts as unix};
-ghost use Rattle.names_commands.specs.Ignoring.{text_of};
+ghost use Rattle.names_commands.specs.Ignoring.{needs_tree, text_of};
 ghost use Rattle.names_commands.specs.Names.{IsNoName};
 ghost use Rattle.names_commands.specs.Why.{IsDecidedText, IsNameAt, IsReason, IsTextOfDecided, LinesAreKnown, deciding, place_text};
 
 use crate::fault::Rejection;
-use crate::ignoring::{decider, file_in, value_of};
-use crate::item::named;
+use crate::ignoring::{decider, file_in, needs_tree, value_of};
+use crate::item::named_in;
 use list_programs::fault::ItemFault;
 use list_programs::items::push_ended;
 use list_programs::lines::{push_escape, push_line};
@@ -21,7 +21,9 @@ use os_str_bytes::{OsStr, Platform, Unix};
 use std::alloc::{AllocError, Allocator, Global};
 use std::marker::PhantomData;
 
-/// Each name that a line of the ignore files decides is written on a line, after that line.
+/// Each name that a line of the ignore files decides is written on a line, after that line. If some
+/// value states a file, a name that isn't a path from the top is rejected
+/// ([`Rejection::NotFromTop`]).
 #[derive(Drop)]
 pub struct Reasons<'g, E, A: Allocator = Global> {
     /// The values of `--ignore`, which state the files.
@@ -83,10 +85,11 @@ fn write_decided<E: Platform, A: Allocator + Copy, B: Allocator + Copy>(
     ensures ok { OnOk result ((text : List ℕ)
         × (IsTextOfDecided ⟦<E as Platform>⟧ (map text_of values.now) (files_of ignore.now) item.now
         text × (output.new.items ≡ output.old.items ++ text))) }
-    ensures fault { IfErr result (λ fault. IsNoName ⟦<E as Platform>⟧ item.now fault) }
+    ensures fault { IfErr result (λ fault. IsNoName ⟦<E as Platform>⟧
+        (needs_tree (map text_of values.now)) item.now fault) }
     ensures unchanged { OnErr result (output.new.items ≡ output.old.items) }
 {
-    let name = named::<E>(item)?;
+    let name = named_in::<E>(item, needs_tree(values))?;
     let text = text_of_decided::<E, A, B>(alloc, values, ignore, name)?;
     Ok(output.extend_from_slice(&text)?)
 }

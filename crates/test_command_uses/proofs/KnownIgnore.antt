@@ -372,7 +372,7 @@ module _ (known : KnownFiles) (A : Type 0) (folds : Bool) (file : List ℕ) (inp
 
     -- some command has them
     makes_up : MakesUp given (On Unix (Picked Name))
-    makes_up = ([], (operands, ((tt, (tt, (tt, case_fits folds name.Filter tt))), (tt, (inr (inr (inl (inr (inr (inl refl))))), λ h. tt)))))
+    makes_up = ([], (operands, ((tt, (tt, (tt, case_fits folds name.Filter tt))), (tt, (inl (inr (inr (inl (inr (inr (inl refl)))))), (λ h. inr (inr (inl (inr (inr (inl refl))))), λ h. tt))))))
 
     some : (requested : Requested) × IsRequestFor given requested
     some = (record { command = On Unix (Picked Name); list = usual; plain = 0; globs = []; pattern_files = []; files = value.now ∷ []; inverted = false; case_insensitive = folds; excluded = [] }, inr (no_help folds command platform value, inr (no_version folds command platform value, (is_usual folds command platform value, (makes_up, states_one folds command platform value is_platform (subst (Lacks 0x3D) (sym is_file) plain) (On Unix (Picked Name)) usual)))))
@@ -426,12 +426,12 @@ module _ (A : Type 0) (folds : Bool) (file bytes name : List ℕ) (plain : Lacks
   err_written : (answer : Result ⊤ Fault) (fault : Fault) → answer ≡ Err fault → Written answer
   err_written answer fault e = subst Written (sym e) tt
 
-  run_written : (files : List (File A)) → AreRead (only file bytes) folds (file ∷ []) files → (run : Result ⊤ (ListFault Rejection)) → IsRun (picking (strings Unix) Name usual (IsLeftBy folds files)) (Some (name ++ 0 ∷ [])) left old new run → Written (answer_of OfList run)
+  run_written : (files : List (File A)) → AreRead (only file bytes) folds (file ∷ []) files → (run : Result ⊤ (ListFault Rejection)) → IsRun (picking (strings Unix) Name usual true (IsLeftBy folds files)) (Some (name ++ 0 ∷ [])) left old new run → Written (answer_of OfList run)
   run_written files read (Err fault) is = tt
   run_written files read (Ok done) is =
       let w = is.written in
-      let said = ended_filtered (strings Unix) (IsLeftBy folds files) name w.0 whole w.1.0 in
-      (w.0, (record { files = files; only = only_read folds file bytes files plain read; ignored = λ i. left_out i said; kept = λ n. kept n said }, w.1.1))
+      let said = ended_filtered (strings Unix) true (IsLeftBy folds files) name w.0 whole w.1.0 in
+      (w.0, (record { from_top = said.0 refl; files = files; only = only_read folds file bytes files plain read; ignored = λ i. left_out i said.1; kept = λ n. kept n said.1 }, w.1.1))
     where
       left_out : {text : List ℕ} → IsIgnored files name → (((Unit {0} × (¬ (IsIgnored files name))) × (⊥ → ⊥)) × (text ≡ name ++ 0 ∷ [])) ⊎ ((¬ ((Unit {0} × (¬ (IsIgnored files name))) × (⊥ → ⊥))) × (text ≡ [])) → text ≡ []
       left_out i (inl seen) = absurd (seen.0.0.1 i)
@@ -478,9 +478,9 @@ module _ (A : Type 0) (folds : Bool) (file bytes name : List ℕ) (whole : Lacks
   abbrev IsFine : Result ⊤ Fault → Type 0
   IsFine ended = IsOk ended
 
-  not_run : (files : List (File A)) (run : Result ⊤ (ListFault Rejection)) → IsRun (picking (strings Unix) Name usual (IsLeftBy folds files)) (Some name) left old new run → ¬ (IsFine (answer_of OfList run))
+  not_run : (files : List (File A)) (run : Result ⊤ (ListFault Rejection)) → IsRun (picking (strings Unix) Name usual true (IsLeftBy folds files)) (Some name) left old new run → ¬ (IsFine (answer_of OfList run))
   not_run files (Err fault) is ok = let never : false ≡ true = ok in cc
-  not_run files (Ok done) is ok = let w = is.written in never_read (strings Unix) (picking (strings Unix) Name usual (IsLeftBy folds files)) name w.0 whole some (λ never. never) w.1.0
+  not_run files (Ok done) is ok = let w = is.written in never_read (strings Unix) (picking (strings Unix) Name usual true (IsLeftBy folds files)) name w.0 whole some (λ never. never) w.1.0
 
   not_err : (answer : Result ⊤ Fault) (fault : Fault) → answer ≡ Err fault → ¬ (IsOk answer)
   not_err answer fault e ok = let never : false ≡ true = subst IsOk e ok in cc

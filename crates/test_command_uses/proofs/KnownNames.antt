@@ -1,5 +1,5 @@
 -- Lists of which the first name is known.
-use Rattle.std.proofs.Common.{◌≡◌, ◌≢◌, ◌⊎◌, ⊎_elim, inl, inr, ℕ, ◌+◌, ◌≤◌, List, [], ◌∷◌, ◌++◌, length, drop, get_or, refl, sym, ap, ◌∙◌, subst, arith, append_assoc, append-nil, length-append}
+use Rattle.std.proofs.Common.{◌≡◌, ◌≢◌, ◌⊎◌, ⊎_elim, inl, inr, Bool, ℕ, ◌+◌, ◌≤◌, List, [], ◌∷◌, ◌++◌, length, drop, get_or, refl, sym, ap, ◌∙◌, subst, arith, append_assoc, append-nil, length-append}
 use Rattle.std.specs.List.{AllByRecursion}
 use Rattle.std.specs.Prelude.{OnOk, IsOk, Result, Ok, Err}
 use Rattle.os_quote.specs.Escape.{IsLineEscape}
@@ -9,12 +9,14 @@ use Rattle.program_frame.specs.declared.fault.Failure.TheVariants.{Write}
 use Rattle.list_programs.specs.declared.fault.ListFault.{ListFault}
 use Rattle.list_programs.specs.declared.fault.ListFault.TheVariants.{Rejected, Run, Unended}
 use Rattle.names_commands.specs.declared.fault.Rejection.{Rejection}
-use Rattle.names_commands.specs.declared.fault.Rejection.TheVariants.{NoString}
+use Rattle.names_commands.specs.declared.fault.Rejection.TheVariants.{NoString, NotFromTop}
 use Rattle.names_commands.specs.declared.task.EmptyLine.TheVariants.{IsRejected}
 use Rattle.names_commands.specs.declared.task.Task.TheVariants.{Check, Join, JoinWords, ListAll, ListWords}
 use Rattle.names_commands.specs.declared.task.WordForm.TheVariants.{Posix}
 use Rattle.names_commands.specs.declared.matching.Form.TheVariants.{Name}
+use Rattle.names_commands.specs.Ignoring.{IsFromTop, IsInTree}
 use Rattle.names_commands.specs.Matching.{picking}
+use Rattle.names_commands.specs.Names.{IsListRejection}
 use Rattle.names_commands.specs.declared.task.Settings.{Settings}
 use Rattle.names_commands.specs.Back.{listing}
 use Rattle.list_programs.specs.Items.{Entry, Lacks, items_of, texts_of}
@@ -114,30 +116,42 @@ module _ {E : Type 0} (p : Ghosts E) where
       by (e ∷ es) item rest j ended f = absurd (has_end 0 e.0 (items_of 0 es ++ (item ++ rest)) (subst (Lacks 0) (j ∙ in_prefix 0 e.0 (items_of 0 es) (item ++ rest)) l))
 
   -- what is written for one name that is filtered
-  pub known_filtered : (Picked : List ℕ → Type 0) (max : ℕ) (name output : List ℕ) → Lacks 0 name → name ≢ [] → IsOutput (picking p Name (unended max) Picked) name output
+  pub known_filtered : (from_top : Bool) (Picked : List ℕ → Type 0) (max : ℕ) (name output : List ℕ) → Lacks 0 name → name ≢ [] → IsOutput (picking p Name (unended max) from_top Picked) name output
       → (Picked name × (output ≡ name ++ 0 ∷ [])) ⊎ ((¬ (Picked name)) × (output ≡ []))
-  known_filtered Picked max name output l some o =
-      let rules = picking p Name (unended max) Picked in
+  known_filtered from_top Picked max name output l some o =
+      let rules = picking p Name (unended max) from_top Picked in
       let one = one_item rules o.entries name l some o.items in
       let entry = (subst (λ es. AllByRecursion (IsEntry rules) es) one.1 o.are).0 in
       let is : output ≡ one.0 = o.written ∙ ap texts_of one.1 ∙ append-nil one.0 in
       ⊎_elim
       (λ yes. inl (yes.0, is ∙ yes.1))
       (λ no. inr (no.0, is ∙ no.1))
-      entry.text.1.1
+      entry.text.1.1.1
 
   -- what is written for one name with its end that is filtered
-  pub ended_filtered : (Picked : List ℕ → Type 0) (name output : List ℕ) → Lacks 0 name → IsOutput (picking p Name usual Picked) (name ++ 0 ∷ []) output
-      → (Picked name × (output ≡ name ++ 0 ∷ [])) ⊎ ((¬ (Picked name)) × (output ≡ []))
-  ended_filtered Picked name output l o =
-      let rules = picking p Name usual Picked in
+  pub ended_filtered : (from_top : Bool) (Picked : List ℕ → Type 0) (name output : List ℕ) → Lacks 0 name → IsOutput (picking p Name usual from_top Picked) (name ++ 0 ∷ []) output
+      → IsInTree from_top name × ((Picked name × (output ≡ name ++ 0 ∷ [])) ⊎ ((¬ (Picked name)) × (output ≡ [])))
+  ended_filtered from_top Picked name output l o =
+      let rules = picking p Name usual from_top Picked in
       let one = one_ended rules o.entries name l (λ never. never) o.items (all_whole rules o.entries o.are) in
       let entry = (subst (λ es. AllByRecursion (IsEntry rules) es) one.1 o.are).0 in
-      let is : output ≡ one.0 = o.written ∙ ap texts_of one.1 ∙ append-nil one.0 in
-      ⊎_elim
-      (λ yes. inl (yes.0, is ∙ yes.1))
-      (λ no. inr (no.0, is ∙ no.1))
-      entry.text.1.1
+      let is : output ≡ one.0 = o.written ∙ ap texts_of one.1 ∙ append-nil one.0 in (
+        entry.text.1.1.0,
+        ⊎_elim
+            (λ yes. inl (yes.0, is ∙ yes.1))
+            (λ no. inr (no.0, is ∙ no.1))
+            entry.text.1.1.1,
+      )
+
+  -- a name from the top isn't rejected as one that isn't
+  pub never_outside : (from_top : Bool) (Picked : List ℕ → Type 0) (max : ℕ) (name output : List ℕ) (number : ℕ) → Lacks 0 name → IsFromTop name → Stops (picking p Name (unended max) from_top Picked) start name output (Rejected number NotFromTop) → ⊥
+  never_outside from_top Picked max name output number l placed s = by s.entries s.item s.rest s.joined s.ended s.because.1.1
+    where
+      by : (es : List Entry) (item rest : List ℕ) → name ≡ items_of 0 es ++ (item ++ rest) → ((rest ≡ []) × Unit {0}) ⊎ ((more : List ℕ) × (rest ≡ 0 ∷ more)) → IsListRejection p from_top item NotFromTop → ⊥
+      by [] item rest j ended (inl never) = never
+      by [] item rest j (inl none) (inr out) = out.1.1 (subst IsFromTop (j ∙ ap (λ x. item ++ x) none.0 ∙ append-nil item) placed)
+      by [] item rest j (inr more) (inr out) = has_end 0 item more.0 (subst (Lacks 0) (j ∙ ap (λ x. item ++ x) more.1) l)
+      by (e ∷ es) item rest j ended f = has_end 0 e.0 (items_of 0 es ++ (item ++ rest)) (subst (Lacks 0) (j ∙ in_prefix 0 e.0 (items_of 0 es) (item ++ rest)) l)
 
   -- an item without its end isn't read where the last must have its end
   pub never_read : {F : Type 0} (list : ListRules F) (input output : List ℕ) → Lacks list.end input → input ≢ [] → ¬ list.takes_unended → ¬ (IsOutput list input output)

@@ -22,7 +22,7 @@ use Rattle.list_programs.specs.declared.options.ListOptions.{ListOptions}
 use Rattle.program_frame.specs.declared.os.Os.{Os}
 use Rattle.program_frame.specs.declared.os.Os.TheVariants.{Unix, Windows, Wasm}
 use Rattle.names_commands.specs.Command.{Requested, IsRequestFor, HasOperands, IsListed, Line, MakesUp, MakesUpWork, StatesPicks, name_word}
-use Rattle.names_commands.specs.Ignoring.{AreRead}
+use Rattle.names_commands.specs.Ignoring.{AreRead, IsFromTop}
 use Rattle.names_commands.specs.Options.{has_value, spelled}
 use Rattle.names_commands.specs.Program.{Does, DoesCommand, DoesWork, Fault, RejectsLine, RunsLine, RunsReasons, RunsTo, UnlessOutOfMemory}
 use Rattle.names_commands.specs.Why.{IsDecidedText, IsNameAt, IsTextOfNumbers, deciding}
@@ -176,13 +176,13 @@ module _ (A : Type 0) (file bytes item : List ℕ) (plain : Lacks 0x3D file) (wh
       let named = only_name file plain at.0 is.file_name is.file_is in
       (is.pattern, is.file_escape, is.pattern_escape, is.escape, subst (λ n. HasText files n at.1 is.pattern) named.0 is.pattern_is, subst (λ f. IsLineEscape unix.ghosts.units f is.file_escape) named.1 is.file_shown, is.pattern_shown, is.escape_is, named.0, is.text_is)
 
-  known_decided : (files : List (File A)) (output : List ℕ) → IsOutput (deciding (strings Unix) usual (file ∷ []) files) (item ++ 0 ∷ []) output → IsDecidedText (strings Unix) (file ∷ []) files item output
+  known_decided : (files : List (File A)) (output : List ℕ) → IsOutput (deciding (strings Unix) usual (file ∷ []) files) (item ++ 0 ∷ []) output → IsFromTop item × IsDecidedText (strings Unix) (file ∷ []) files item output
   known_decided files output o =
       let rules = deciding (strings Unix) usual (file ∷ []) files in
       let one = one_ended rules o.entries item whole (λ never. never) o.items (all_whole rules o.entries o.are) in
       let entry = (subst (λ es. AllByRecursion (IsEntry rules) es) one.1 o.are).0 in
       let is : output ≡ one.0 = o.written ∙ ap texts_of one.1 ∙ append-nil one.0 in
-      subst (IsDecidedText (strings Unix) (file ∷ []) files item) (sym is) entry.text.1.1
+      (entry.text.1.1.0 refl, subst (IsDecidedText (strings Unix) (file ∷ []) files item) (sym is) entry.text.1.1.1)
 
   abbrev Written : Result ⊤ Fault → Type 0
   Written answer = OnOk answer ((text : List ℕ) × (IsExplainedBy A file bytes item text × Appends old new text))
@@ -195,7 +195,7 @@ module _ (A : Type 0) (file bytes item : List ℕ) (plain : Lacks 0x3D file) (wh
   run_written files read (Ok done) is =
       let w = is.written in
       let said = known_decided files w.0 w.1.0 in
-      (w.0, (record { files = files; only = only_read false file bytes files plain read; numbers = said.numbers; decided = said.decided; reason = reason_of files w.0 said.numbers said.text_is }, w.1.1))
+      (w.0, (record { from_top = said.0; files = files; only = only_read false file bytes files plain read; numbers = said.1.numbers; decided = said.1.decided; reason = reason_of files w.0 said.1.numbers said.1.text_is }, w.1.1))
 
   written : (answer : Result ⊤ Fault) → Explains (only file bytes) A file (Some (item ++ 0 ∷ [])) left old new answer → Written answer
   written answer (inl memory) = err_written answer _ memory.0

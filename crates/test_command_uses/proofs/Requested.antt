@@ -1,13 +1,17 @@
 -- Arguments that request something, for the programs `names` and `paths`.
 use Rattle.std.proofs.Common.{◌≡◌, ◌⊎◌, inl, inr, ℕ, List, Option, Result, Ok, Err, refl, ◌∙◌, subst, sym}
-use Rattle.std.specs.Prelude.{⊤, IfErr, IsTrue, ◌↔◌}
-use Rattle.names_commands.specs.Command.{Requested, IsRequestFor, IsListed, IsRequestError, Line, MakesUp, StatesPicks}
+use Rattle.std.specs.Prelude.{⊤, [], codes, IfErr, IsTrue, ◌↔◌}
+use Rattle.names_commands.proofs.lemmas.NeverBoth.{no_request}
+use Rattle.names_commands.specs.Command.{Requested, HasOperands, IsRequestFor, IsListed, IsRequestError, Line, MakesUp, OptionsMatch, StatesPicks}
+use Rattle.names_commands.specs.declared.command.Name.{Name}
 use Rattle.names_commands.specs.declared.command.Command.TheVariants.{Version as VersionCommand}
-use Rattle.names_commands.specs.declared.option.NamesOption.TheVariants.{Exclude, GlobsFrom, Help, IgnoreCase, Version}
+use Rattle.names_commands.specs.declared.option.NamesOption.TheVariants.{Exclude, GlobsFrom, Help, IgnoreCase, Invert, Version}
 use Rattle.list_programs.specs.Arguments.{AreValues, HasOption}
 use Rattle.names_commands.specs.declared.command.RequestError.{RequestError}
 use Rattle.names_commands.specs.declared.command.RequestError.TheVariants.{Misuse, Memory as NoMemory}
+use Rattle.list_programs.specs.declared.misuse.Misuse.TheVariants.{Missing}
 use Rattle.program_frame.specs.declared.fault.Failure.TheVariants.{Memory}
+use Rattle.program_frame.specs.declared.os.Os.{Os}
 use Rattle.list_programs.specs.declared.fault.ListFault.TheVariants.{Run}
 use Rattle.list_programs.specs.declared.program_fault.Fault.TheVariants.{List as OfList}
 use Rattle.paths_commands.specs.Program.{Fault, RunsTo}
@@ -61,3 +65,14 @@ case_stated given requested no_help no_version (inr requests) = by requests.1
     by : ((HasOption Version given × (requested.command ≡ VersionCommand)) ⊎ ((¬ (HasOption Version given)) × (IsListed given requested.list × (MakesUp given requested.command × StatesPicks given requested)))) → IsTrue requested.case_insensitive ↔ HasOption IgnoreCase given
     by (inl version) = absurd (no_version version.0)
     by (inr c) = c.1.1.1.1.1.1.0
+
+-- a request never inverts where no names that match are stated, and no help and no version is requested
+pub never_inverted : (given : Line) (requested : Requested) → (command : Name) × ((os : Os) × HasOperands given command os []) → ¬ (OptionsMatch given) → ¬ (HasOption Help given) → ¬ (HasOption Version given) → IsRequestFor given requested → ¬ (IsTrue requested.inverted)
+never_inverted given requested has none no_help no_version (inl help) yes = no_help help.0
+never_inverted given requested has none no_help no_version (inr requests) yes = by requests.1
+  where
+    by : ((HasOption Version given × (requested.command ≡ VersionCommand)) ⊎ ((¬ (HasOption Version given)) × (IsListed given requested.list × (MakesUp given requested.command × StatesPicks given requested)))) → ⊥
+    by (inl version) = no_version version.0
+    by (inr c) =
+        let inverts : HasOption Invert given = c.1.1.1.1.1.0.0 yes in
+        no_request given no_help no_version (Missing (record { ref_ptr = (0, 0); now = codes "GLOB, --glob, --globs-from, --name or --ignore for --invert" })) (inr (inr (inl (refl, (has.0, has.1.0, (has.1.1, (inverts, none))))))) requested (inr requests)

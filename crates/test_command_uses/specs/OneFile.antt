@@ -13,7 +13,7 @@ use Rattle.list_programs.specs.declared.options.LastItem.TheVariants.{MustEnd, M
 use Rattle.list_programs.specs.declared.options.ListOptions.{ListOptions}
 use Rattle.list_programs.specs.declared.program_fault.Fault.TheVariants.{List as OfList, Words}
 use Rattle.names_commands.specs.Command.{name_word}
-use Rattle.names_commands.specs.Ignoring.{IsIgnored}
+use Rattle.names_commands.specs.Ignoring.{IsFromTop, IsIgnored}
 use Rattle.names_commands.specs.Program.{Fault}
 use Rattle.names_commands.specs.Why.{IsDecided, place_text}
 use Rattle.names_commands.specs.declared.command.Name.{Name}
@@ -57,8 +57,9 @@ filtering folds file = asking Filter folds file
 abbrev pub explaining : List ℕ → List (List ℕ)
 explaining file = asking Why false file
 
--- nothing is written for the name if the lines of an ignore file with this content, in which case is folded or matters, ignore it, and else the name and NUL
+-- the name is a path from the top. Nothing is written for it if the lines of an ignore file with this content, in which case is folded or matters, ignore it, and else the name and NUL
 pub record IsFilteredBy (A : Type 0) (folds : Bool) (content name text : List ℕ) : Type 0 where
+  pub from_top : IsFromTop name
   pub files : List (File A)
   pub only : IsAddedTo folds [] content [] files
   pub ignored : IsIgnored files name → text ≡ []
@@ -69,8 +70,9 @@ abbrev pub IsReasonOf : {A : Type 0} → List ℕ → List (File A) → List ℕ
 IsReasonOf file files name text None = text ≡ []
 IsReasonOf file files name text (Some at) = (pattern : List ℕ) × (shown_file : List ℕ) × (shown : List ℕ) × (escape : List ℕ) × HasText files 0 at.1 pattern × IsLineEscape unix.ghosts.units file shown_file × IsLineEscape unix.ghosts.units pattern shown × IsLineEscape unix.ghosts.units name escape × (at.0 ≡ 0) × (text ≡ place_text shown_file at.1 shown ++ (escape ++ codes "\n"))
 
--- this is written for the name if an ignore file of this name with this content decides names
+-- the name is a path from the top, and this is written for it if an ignore file of this name with this content decides names
 pub record IsExplainedBy (A : Type 0) (file content name text : List ℕ) : Type 0 where
+  pub from_top : IsFromTop name
   pub files : List (File A)
   pub only : IsAddedTo false [] content [] files
   pub numbers : Option (ℕ × ℕ)

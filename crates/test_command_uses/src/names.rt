@@ -12,17 +12,20 @@ ghost use Rattle.list_programs.specs.ListOptions.{byte_of};
 ghost use Rattle.list_programs.specs.ListRun.{IsOutput, StopsOn};
 ghost use Rattle.program_frame.specs.Marked.{marked_inner, has_failed};
 ghost use Rattle.program_frame.specs.declared.fault.Failure.TheVariants.{Write as WriteFailure};
+ghost use Rattle.program_frame.specs.declared.os.Os.{Os};
 ghost use Rattle.list_programs.specs.declared.fault.ListFault.TheVariants.{Rejected, Run, Unended};
 ghost use Rattle.list_programs.specs.declared.options.ItemEnd.{ItemEnd as ItemEndOf};
 ghost use Rattle.names_commands.specs.Back.{listing, listing_words, AreFirst, IsCompleted};
-ghost use Rattle.names_commands.specs.Command.{Requested, IsRequestFor};
+ghost use Rattle.names_commands.specs.Command.{HasOperands, IsRequestFor, OptionsMatch, Requested};
+ghost use Rattle.names_commands.specs.Ignoring.{IsFromTop};
 ghost use Rattle.names_commands.specs.Matching.{IsMatchedBy, IsPickedBy};
 ghost use Rattle.names_commands.specs.Task.{rules_of};
 ghost use Rattle.names_commands.specs.Words.{AreNamesOf};
 ghost use Rattle.test_command_uses.specs.OneFile.{unended, usual};
+ghost use Rattle.names_commands.specs.declared.command.Name.{Name};
 ghost use Rattle.names_commands.specs.declared.command.RequestError.TheVariants.{Memory as NoMemory};
 ghost use Rattle.names_commands.specs.declared.fault.Rejection.{Rejection};
-ghost use Rattle.names_commands.specs.declared.fault.Rejection.TheVariants.{NoString};
+ghost use Rattle.names_commands.specs.declared.fault.Rejection.TheVariants.{NoString, NotFromTop};
 ghost use Rattle.names_commands.specs.declared.option.NamesOption.TheVariants.{Exclude, GlobsFrom, Help, IgnoreCase, Version};
 
 use list_programs::arguments::Given;
@@ -126,6 +129,24 @@ pub fn pattern_files<'a, A: Allocator + Copy>(
 {
     match Request::parse(alloc, given) {
         Ok(request) => Ok(request.pattern_files),
+        Err(error) => Err(error),
+    }
+}
+
+/// Whether the request inverts which options and operands make up that state no names that match: it
+/// never does.
+pub fn inverts_nothing<'a, A: Allocator + Copy>(
+    alloc: A,
+    given: Line<'_, 'a>,
+) -> Result<bool, RequestError<'a>>
+    requires operands { (command : Name) × ((os : Os) × HasOperands given.now command os []) }
+    requires none { ¬ (OptionsMatch given.now) }
+    requires help { ¬ (HasOption Help given.now) }
+    requires version { ¬ (HasOption Version given.now) }
+    ensures { IfOk result (λ inverted. ¬ (IsTrue inverted)) }
+{
+    match Request::parse(alloc, given) {
+        Ok(request) => Ok(request.inverted),
         Err(error) => Err(error),
     }
 }
@@ -374,6 +395,35 @@ pub fn filtered<E: Platform, A: Allocator, B: Allocator + Copy, W: Write>(
         name.now)) × (text ≡ [])))
         × Appends (W.contents (marked_inner writer.old)) (W.contents (marked_inner writer.new))
         text)) }
+{
+    let mut reader = Marked::new(name);
+    let mut picker = picker;
+    picker.names = Matching {
+        globs: picker.names.globs,
+        inverted: picker.names.inverted,
+        excluded: picker.names.excluded,
+        form: Form::Name,
+        list: ListOptions {
+            end: ItemEnd::Nul,
+            last: LastItem::MayLackEnd,
+            max,
+        },
+    };
+    run(alloc, &mut picker, &mut reader, writer)
+}
+
+/// Filters one name that is a path from the top of the tree, which is never rejected as one that isn't.
+pub fn filtered_in_tree<E: Platform, A: Allocator, B: Allocator + Copy, W: Write>(
+    alloc: A,
+    max: usize,
+    picker: Picker<'_, E, B>,
+    name: &[u8],
+    writer: &mut Marked<W>,
+) -> Result<(), ListFault<Rejection>>
+    requires whole { Lacks 0 name.now }
+    requires placed { IsFromTop name.now }
+    requires unmarked { has_failed writer.old ≡ false }
+    ensures { IfErr result (λ fault. (number : ℕ) → fault ≢ Rejected number NotFromTop) }
 {
     let mut reader = Marked::new(name);
     let mut picker = picker;

@@ -15,7 +15,7 @@ use Rattle.program_frame.specs.declared.os.Os.TheVariants.{Unix}
 -- where nothing is picked there is no pattern that is an operand
 pub none_picked : (given : Line) (more : List (List ℕ)) → ¬ (SomePicked given more) → more ≡ []
 none_picked given [] none = refl
-none_picked given (word ∷ more) none = absurd (none (inl (λ e. cc)))
+none_picked given (word ∷ more) none = absurd (none (inl (inl (λ e. cc))))
 
 -- `list` makes up its work, whether names are picked or not
 module _ (given : Line) (os : Os) where

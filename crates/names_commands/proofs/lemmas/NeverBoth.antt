@@ -1,5 +1,5 @@
 -- Options and operands that make up a command have nothing wrong with them.
-use Rattle.std.proofs.Common.{◌≡◌, ◌⊎◌, ℕ, nat_eq, cond, List, [], ◌∷◌, get_or, Bool, true, false, Option, Some, None, inl, inr, refl, sym, ap, ◌∙◌, subst}
+use Rattle.std.proofs.Common.{◌≡◌, ◌⊎◌, ⊎_elim, ℕ, nat_eq, cond, List, [], ◌∷◌, get_or, Bool, true, false, Option, Some, None, inl, inr, refl, sym, ap, ◌∙◌, subst}
 use Rattle.std.specs.List.{AllByRecursion}
 use Rattle.list_programs.specs.Arguments.{AreValues, HasOption, HasValue, IsOf, LastValue}
 use Rattle.program_frame.specs.Os.{os_word}
@@ -9,7 +9,7 @@ use Rattle.list_programs.specs.declared.misuse.Misuse as misuse
 use Rattle.list_programs.specs.declared.misuse.Misuse.TheVariants.{Argument, Missing, Invalid, Misplaced}
 use Rattle.program_frame.specs.declared.os.Os.{Os}
 use Rattle.program_frame.specs.declared.os.Os.TheVariants.{Unix, Windows, Wasm}
-use Rattle.names_commands.specs.Command.{Requested, IsRequestFor, AtMostOne, Fits, FitsOne, HasOperands, IsForPlatform, IsInvalid, IsLimit, IsListed, IsMax, IsMisplaced, IsMissing, IsMisuse, IsTooMany, Line, Lists, MakesUp, MakesUpWork, NeedsPick, NoWords, Picks, SomePicked, StatesPicks, TakesOption, name_word}
+use Rattle.names_commands.specs.Command.{Requested, IsRequestFor, AtMostOne, Fits, FitsOne, HasOperands, IsForPlatform, IsInvalid, IsLimit, IsListed, IsMax, IsMisplaced, IsMissing, IsMisuse, IsTooMany, Line, Lists, MakesUp, MakesUpWork, NoWords, Picks, SomeMatch, SomePicked, StatesPicks, TakesOption, name_word}
 use Rattle.names_commands.specs.Ignoring.{IsPlaced}
 use Rattle.names_commands.specs.Operands.{HasPlatform, LacksPlatform}
 use Rattle.names_commands.specs.Pick.{TakesIgnore}
@@ -106,7 +106,8 @@ record IsMade (given : Line) : Type 0 where
   pub operands : HasOperands given command os more
   pub fits : Fits command given
   pub few : (TakesOption command option.Glob × AtMostOne more) ⊎ ((¬ (TakesOption command option.Glob)) × (more ≡ []))
-  pub needs : NeedsPick given command → SomePicked given more
+  pub needs : command ≡ name.Filter → SomePicked given more
+  pub turns : HasOption option.Invert given → SomeMatch given more
   pub states : command ≡ name.Why → HasOption option.Ignore given
   pub for_platform : (it : NamesOption) → HasOption it given → IsForPlatform os it
 
@@ -115,17 +116,12 @@ few_picked given os more false n = subst AtMostOne (sym (none_picked given more 
 few_picked given os more true p = p.0
 
 ignores_of : (given : Line) (os : Os) (more : List (List ℕ)) (picks : Bool) → Picks given os more picks → HasOption option.Ignore given → TakesIgnore os
-ignores_of given os more false n h = absurd (n.0 (inr (inr (inl h))))
-ignores_of given os more true p h = p.1.1 h
+ignores_of given os more false n h = absurd (n.0 (inl (inr (inr (inl h)))))
+ignores_of given os more true p h = p.1.1.1 h
 
-needs_of : (given : Line) (os : Os) (more : List (List ℕ)) (picks : Bool) → Picks given os more picks → NeedsPick given name.List → SomePicked given more
-needs_of given os more false n (inl e) = cc
-needs_of given os more false n (inr h) = absurd (n.1 h)
-needs_of given os more true p k = p.1.0
-
-not_needed : (command : Name) (given : Line) → Fits command given → (command ≡ name.Filter → ⊥) → (TakesOption command option.Invert → ⊥) → NeedsPick given command → SomePicked given []
-not_needed command given f a b (inl e) = absurd (a e)
-not_needed command given f a b (inr h) = absurd (b (all_fit command given f option.Invert h))
+turns_of : (given : Line) (os : Os) (more : List (List ℕ)) (picks : Bool) → Picks given os more picks → HasOption option.Invert given → SomeMatch given more
+turns_of given os more false n h = absurd (n.1 h)
+turns_of given os more true p h = p.1.1.0 h
 
 no_words : (command : Name) (given : Line) → Fits command given → (TakesOption command option.Sh → ⊥) → (TakesOption command option.ShLine → ⊥) → NoWords given
 no_words command given f a b = (λ h. a (all_fit command given f option.Sh h), λ h. b (all_fit command given f option.ShLine h))
@@ -177,7 +173,8 @@ module _ (given : Line) (os : Os) where
     operands = l.1.0;
     fits = l.1.1.0;
     few = inl (tt, few_picked given os l.0 picks l.1.1.1);
-    needs = needs_of given os l.0 picks l.1.1.1;
+    needs = λ e. cc;
+    turns = turns_of given os l.0 picks l.1.1.1;
     states = λ e. cc;
     for_platform = fit;
   }
@@ -194,7 +191,8 @@ module _ (given : Line) (os : Os) where
     operands = operands;
     fits = fits;
     few = inr (no_glob, refl);
-    needs = not_needed command given fits no_filter no_invert;
+    needs = λ e. absurd (no_filter e);
+    turns = λ h. absurd (no_invert (all_fit command given fits option.Invert h));
     states = states;
     for_platform = fit;
   }
@@ -214,9 +212,10 @@ module _ (given : Line) (os : Os) where
     operands = m.1.0;
     fits = m.1.1.0;
     few = inl (tt, m.1.1.1.0);
-    needs = λ k. m.1.1.1.1.0;
+    needs = λ e. m.1.1.1.1.0;
+    turns = m.1.1.1.1.1.0;
     states = λ e. cc;
-    for_platform = plain os given (no_words name.Filter given m.1.1.0 (λ t. t) (λ t. t)) m.1.1.1.1.1;
+    for_platform = plain os given (no_words name.Filter given m.1.1.0 (λ t. t) (λ t. t)) m.1.1.1.1.1.1;
   }
   made_work Tar m = bare name.Tar m.0 m.1 (λ t. t) (λ e. cc) (λ t. t) (λ e. cc) (plain os given (no_words name.Tar given m.1 (λ t. t) (λ t. t)) (λ h. absurd (all_fit name.Tar given m.1 option.Ignore h)))
   made_work Why m = bare name.Why m.0 m.1.0 (λ t. t) (λ e. cc) (λ t. t) (λ e. m.1.1.0) (plain os given (no_words name.Why given m.1.0 (λ t. t) (λ t. t)) (λ h. m.1.1.1))
@@ -230,9 +229,12 @@ module _ (given : Line) (m : IsMade given) where
   not_missing : (what : List ℕ) → IsMissing given what → ⊥
   not_missing what (inl k) = not_nil (sym k.1 ∙ m.operands.1.0)
   not_missing what (inr (inl k)) =
+      let same = one_command given m.command name.Filter m.os k.1.0 m.more [] m.operands k.1.1.0 in
+      k.1.1.1 (subst (SomePicked given) same.1.1 (m.needs same.0))
+  not_missing what (inr (inr (inl k))) =
       let same = one_command given m.command k.1.0 m.os k.1.1 m.more [] m.operands k.1.2.0 in
-      k.1.2.1.1 (subst (SomePicked given) same.1.1 (m.needs (subst (NeedsPick given) (sym same.0) k.1.2.1.0)))
-  not_missing what (inr (inr k)) = k.1.1.1 (m.states (one_command given m.command name.Why m.os k.1.0 m.more [] m.operands k.1.1.0).0)
+      ⊎_elim (λ more. more refl) k.1.2.1.1 (subst (SomeMatch given) same.1.1 (m.turns k.1.2.1.0))
+  not_missing what (inr (inr (inr k))) = k.1.1.1 (m.states (one_command given m.command name.Why m.os k.1.0 m.more [] m.operands k.1.1.0).0)
 
   not_invalid : (max : ℕ) → IsMax given max → (files : List (List ℕ)) → AreValues option.Ignore given files × AllByRecursion IsPlaced files → (what word : List ℕ) → IsInvalid given what word → ⊥
   not_invalid max limit files placed what word (inl k) = k.1.0 m.command (head_is (sym k.1.1.1 ∙ m.operands.1.0))

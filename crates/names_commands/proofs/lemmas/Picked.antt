@@ -30,19 +30,19 @@ use Rattle.wildcards.specs.declared.set.Pattern.{Pattern}
 use Rattle.list_programs.specs.declared.program_fault.Fault.TheVariants.{List as OfList}
 use Rattle.os_ignore.specs.declared.file.File.{File}
 use Rattle.program_frame.specs.Files.{KnownFiles}
-use Rattle.names_commands.specs.Ignoring.{IsIgnored}
+use Rattle.names_commands.specs.Ignoring.{IsIgnored, needs_tree}
 use Rattle.names_commands.specs.Matching.{picking, AreWrittenOut, IsChosen, IsChosenBy, IsFirstFault, IsMatched, IsMatchedBy, IsPattern, IsPicked, IsSelected, IsTextOfPicked}
 use Rattle.names_commands.specs.Program.{Fault, RunsBut}
 
-module _ {E : Type 0} (p : Ghosts E) (form : Form) (list : ListOptions) (Picked Other : List ℕ → Type 0) (same : (name : List ℕ) → Picked name ↔ Other name) where
+module _ {E : Type 0} (p : Ghosts E) (form : Form) (list : ListOptions) (from_top : Bool) (Picked Other : List ℕ → Type 0) (same : (name : List ℕ) → Picked name ↔ Other name) where
   abbrev ours : ListRules Rejection
-  ours = picking p form list Picked
+  ours = picking p form list from_top Picked
 
   abbrev theirs : ListRules Rejection
-  theirs = picking p form list Other
+  theirs = picking p form list from_top Other
 
-  one_text : (name text : List ℕ) → IsTextOfPicked p form list.end Picked name text → IsTextOfPicked p form list.end Other name text
-  one_text name text t = (t.0, (t.1.0, ⊎_elim (λ k. inl ((same name).0 k.0, k.1)) (λ k. inr (λ other. k.0 ((same name).1 other), k.1)) t.1.1))
+  one_text : (name text : List ℕ) → IsTextOfPicked p form list.end from_top Picked name text → IsTextOfPicked p form list.end from_top Other name text
+  one_text name text t = (t.0, (t.1.0, (t.1.1.0, ⊎_elim (λ k. inl ((same name).0 k.0, k.1)) (λ k. inr (λ other. k.0 ((same name).1 other), k.1)) t.1.1.1)))
 
   one_entry : (e : Entry) → IsEntry ours e → IsEntry theirs e
   one_entry e i = record { whole = i.whole; short = i.short; text = one_text e.0 e.1 i.text }
@@ -114,7 +114,7 @@ module _ (Chosen Other Excluded Left : List ℕ → Type 0) (same : (name : List
   pub same_but : {E : Type 0} (known : KnownFiles) (A : Type 0) (p : Ghosts E) (form : Form) (list : ListOptions) (inverted folds : Bool) (names : List (List ℕ)) (input left old new : Option (List ℕ)) (answer : Result ⊤ Fault)
       → RunsBut known A p form list inverted folds Chosen Excluded names input left old new answer → RunsBut known A p form list inverted folds Other Left names input left old new answer
   same_but known A p form list inverted folds names input left old new answer (inl fault) = inl fault
-  same_but known A p form list inverted folds names input left old new answer (inr k) = inr (k.0, k.1, same_runs p form list (IsPicked inverted Chosen Excluded k.0) (IsPicked inverted Other Left k.0) (picked_alike inverted k.0) OfList input left old new answer k.2)
+  same_but known A p form list inverted folds names input left old new answer (inr k) = inr (k.0, k.1, same_runs p form list (needs_tree names) (IsPicked inverted Chosen Excluded k.0) (IsPicked inverted Other Left k.0) (picked_alike inverted k.0) OfList input left old new answer k.2)
 
 -- a name that is chosen is selected where the files don't ignore its text
 pub selected_shown : {A : Type 0} (Chosen : List ℕ → Type 0) (files : List (File A)) (name text : List ℕ) (shown : Bool) → text ≡ name → Chosen name

@@ -36,10 +36,9 @@ not_so true e q = (λ t. absurd (false≢true t), λ x. absurd (q.0 x (e.0 refl)
 not_so false e q = (λ t. q.1 (λ p. false≢true (e.1 p)), λ x. refl)
 
 -- the one path that a word is leads down, or none does
-pub inside_where : (word path : List ℕ) (is_dir : Bool) → IsPath (without_dot word) path is_dir → IsInside word → ¬ (word ≡ 0x2E ∷ []) → ¬ (without_dot word ≡ []) → LeadsDown path
-inside_where word path is_dir is (inl top) not_top some = absurd (not_top top)
-inside_where word path is_dir is (inr (inl none)) not_top some = absurd (some none)
-inside_where word path is_dir is (inr (inr k)) not_top some = subst LeadsDown (one_path (without_dot word) k.0 path k.1 is_dir k.2.0 is).0 k.2.1
+pub inside_where : (word path : List ℕ) (is_dir : Bool) → IsPath (without_dot word) path is_dir → IsInside word → ¬ (without_dot word ≡ []) → LeadsDown path
+inside_where word path is_dir is (inl none) some = absurd (some none)
+inside_where word path is_dir is (inr k) some = subst LeadsDown (one_path (without_dot word) k.0 path k.1 is_dir k.2.0 is).0 k.2.1
 
 -- bytes are cut at one place
 head_is : {x y : ℕ} {xs ys : List ℕ} → x ∷ xs ≡ y ∷ ys → x ≡ y

@@ -8,7 +8,7 @@ use Rattle.list_programs.specs.declared.fault.ItemFault.TheVariants.{Rejected, T
 use Rattle.list_programs.specs.ListOptions.{byte_of}
 use Rattle.list_programs.specs.declared.options.ListOptions.{ListOptions}
 use Rattle.names_commands.specs.declared.fault.Rejection.{Rejection}
-use Rattle.names_commands.specs.declared.fault.Rejection.TheVariants.{NoString, BadEscape, NotCanonical, HasNul, HasNewline, EndsInReturn as InReturn, EmptyLine, BadWords, BadArchive}
+use Rattle.names_commands.specs.declared.fault.Rejection.TheVariants.{NoString, BadEscape, NotCanonical, HasNul, HasNewline, EndsInReturn as InReturn, EmptyLine, BadWords, BadArchive, NotFromTop}
 use Rattle.names_commands.specs.Names.{EndsInReturn}
 use Rattle.names_commands.specs.Words.{IsName, AreNames, AreNamesOf, Comes, IsAfterNames, IsWordFault, IsLineFault}
 
@@ -60,5 +60,6 @@ module _ (list : ListOptions) (line : List ℕ) where
     word_fault left old new word (Rejected EmptyLine) b h = absurd h
     word_fault left old new word (Rejected (BadWords fault)) b h = absurd h
     word_fault left old new word (Rejected (BadArchive fault)) b h = absurd h
+    word_fault left old new word (Rejected NotFromTop) b h = absurd h
     word_fault left old new word TooLong b h = (word, word_after left old new word b, h)
     word_fault left old new word Memory b h = tt

@@ -9,7 +9,7 @@ use Rattle.list_programs.specs.ListOptions.{byte_of}
 use Rattle.list_programs.specs.Rules.{IsItemFault}
 use Rattle.list_programs.specs.declared.options.ListOptions.{ListOptions}
 use Rattle.names_commands.specs.declared.fault.Rejection.{Rejection}
-use Rattle.names_commands.specs.declared.fault.Rejection.TheVariants.{NoString, BadEscape, NotCanonical, HasNul, HasNewline, EndsInReturn as InReturn, EmptyLine as IsEmptyLine, BadWords, BadArchive}
+use Rattle.names_commands.specs.declared.fault.Rejection.TheVariants.{NoString, BadEscape, NotCanonical, HasNul, HasNewline, EndsInReturn as InReturn, EmptyLine as IsEmptyLine, BadWords, BadArchive, NotFromTop}
 use Rattle.names_commands.specs.declared.task.EmptyLine.{EmptyLine}
 use Rattle.names_commands.specs.declared.task.Task.TheVariants.{Join}
 use Rattle.names_commands.specs.Names.{EndsInReturn, IsFit, IsUnfit}
@@ -41,6 +41,7 @@ unfit_line P empty list line name n InReturn h = absurd h
 unfit_line P empty list line name n IsEmptyLine h = absurd h
 unfit_line P empty list line name n (BadWords fault) h = absurd h
 unfit_line P empty list line name n (BadArchive fault) h = absurd h
+unfit_line P empty list line name n NotFromTop h = absurd h
 
 pub returns-in-Err : goal.returns-in-Err
 returns-in-Err g c = record { ok = tt; fault = λ empty. (c.requires, c.in-Err.ensures); unchanged = refl }

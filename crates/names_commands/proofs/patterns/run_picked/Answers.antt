@@ -1,10 +1,12 @@
-use Rattle.std.proofs.Common.{◌≡◌, ◌≢◌, ◌⊎◌, ◌++◌, [], ⊎_elim, inl, inr, map, string_bytes, refl, sym, ap, subst, Err}
+use Rattle.std.proofs.Common.{◌≡◌, ◌≢◌, ◌⊎◌, ◌++◌, [], ⊎_elim, inl, inr, map, string_bytes, refl, sym, ap, ◌∙◌, subst, Err}
 use Rattle.std.specs.Prelude.{MatchOption}
 use Rattle.os_ignore.specs.Walks.{files_of_walk}
 use Rattle.program_frame.specs.Marked.{marked_inner}
+use Rattle.list_programs.specs.ListRun.{Runs}
+use Rattle.list_programs.specs.declared.program_fault.Fault.TheVariants.{List as OfList}
 use Rattle.names_commands.specs.Command.{requested_of, options_of, sources_of}
-use Rattle.names_commands.specs.Ignoring.{AreRead, text_of}
-use Rattle.names_commands.specs.Matching.{IsChosen, IsChosenBy, IsMatched, IsMatchedBy, IsSetOf}
+use Rattle.names_commands.specs.Ignoring.{AreRead, needs_tree, text_of}
+use Rattle.names_commands.specs.Matching.{IsChosen, IsChosenBy, IsMatched, IsMatchedBy, IsPicked, IsSetOf, picking}
 use Rattle.names_commands.specs.PatternFiles.{ArePatternsOf, IsUnreadOf, pattern_line, text_of as pattern_text}
 use Rattle.names_commands.specs.Program.{IsFaultOf, IsOfGlobs}
 use Rattle.names_commands.proofs.lemmas.Picked.{are_written, chosen, matched, same_but, where_stated, written_of}
@@ -44,7 +46,7 @@ returns-in-Err-read_ignore-clause-run g c =
     let of_lines = subst (λ items. IsSetOf P g.row.A.Denot c.options_of-options.result (requested.globs ++ map pattern_text (map pattern_line items)) set) c.as_slice-lines.ensures.value c.in-Ok-sets_of.ensures.0 in
     let made = subst (λ z. IsSetOf P g.row.A.Denot z texts set) c.options_of-options.ensures of_lines in
     let left_out = subst (λ z. IsSetOf P g.row.A.Denot z requested.excluded excluded) c.options_of-options.ensures c.in-Ok-sets_of.ensures.1 in
-    let why = subst (λ items. IsFaultOf (g.F.Files.known c.args.files.now) g.row.A.Denot requested.case_insensitive (map text_of items) c.in-Err-read_ignore.fault) c.as_slice.ensures.value c.in-Err-read_ignore.ensures in
+    let why = subst (λ items. IsFaultOf (g.F.Files.known c.args.files.now) g.row.A.Denot requested.case_insensitive (map text_of items) c.in-Err-read_ignore.fault) c.as_slice-values.ensures.value c.in-Err-read_ignore.ensures in
     ⊎_elim
     (λ memory. inl (ap Err memory, (refl, refl)))
     (λ of. inr (inr (
@@ -77,10 +79,12 @@ returns-clause-run g c =
     let choose = chosen P o texts set made.0 made.1 (sources_of requested) globs stated in
     let leave = matched P o requested.excluded excluded left_out.0 left_out.1 in
     let files = files_of_walk c.new-walk.result in
-    let read = subst (λ items. AreRead known requested.case_insensitive (map text_of items) files) c.as_slice.ensures.value (subst (AreRead known requested.case_insensitive (map text_of c.as_slice.result.now)) (sym c.new-walk.ensures) c.in-Ok-read_ignore.ensures) in
+    let read = subst (λ items. AreRead known requested.case_insensitive (map text_of items) files) c.as_slice-values.ensures.value (subst (AreRead known requested.case_insensitive (map text_of c.as_slice-values.result.now)) (sym c.new-walk.ensures) c.in-Ok-read_ignore.ensures) in
     let input = g.R.Read.remaining (marked_inner c.args.reader.now) in
     let left = g.R.Read.remaining (marked_inner c.run_list.new.reader) in
     let old = g.W.Write.contents (marked_inner c.args.writer.now) in
     let new = g.W.Write.contents (marked_inner c.run_list.new.writer) in
-    let ran = same_but (IsChosenBy P globs) (IsChosen P (sources_of requested) o written) (IsMatchedBy P excluded) (IsMatched P o without) choose leave known g.row.A.Denot P c.args.form requested.list requested.inverted requested.case_insensitive requested.files input left old new c.run_list.result (inr (files, read, c.run_list.ensures.run)) in
+    let from_top = c.needs_tree-from_top.ensures ∙ ap (λ items. needs_tree (map text_of items)) c.as_slice-values.ensures.value in
+    let run = subst (λ z. Runs (picking P c.args.form requested.list z (IsPicked requested.inverted (IsChosenBy P globs) (IsMatchedBy P excluded) files)) OfList input left old new c.run_list.result) from_top c.run_list.ensures.run in
+    let ran = same_but (IsChosenBy P globs) (IsChosen P (sources_of requested) o written) (IsMatchedBy P excluded) (IsMatched P o without) choose leave known g.row.A.Denot P c.args.form requested.list requested.inverted requested.case_insensitive requested.files input left old new c.run_list.result (inr (files, read, run)) in
     inr (inr (written, without, (lines, (have, are_written P o texts set.set.patterns.items made.1)), (are_written P o requested.excluded excluded.set.patterns.items left_out.1, ran)))

@@ -16,7 +16,7 @@ returns g c =
     let picker = c.args.picker in
     let name = c.args.name.now in
     let Picked = IsPickedBy P picker.names.inverted picker.names.globs picker.names.excluded.now (files_of_walk picker.walk) in
-    let written = subst (λ b. OnOk c.run.result (WritesOutput (picking P Name (unended c.args.max) Picked) (Some b.now) (g.W.Write.contents (marked_inner c.args.writer.now)) (g.W.Write.contents (marked_inner c.run.new.writer)))) c.new-reader.ensures.inner c.run.ensures.written in
+    let written = subst (λ b. OnOk c.run.result (WritesOutput (picking P Name (unended c.args.max) picker.from_top Picked) (Some b.now) (g.W.Write.contents (marked_inner c.args.writer.now)) (g.W.Write.contents (marked_inner c.run.new.writer)))) c.new-reader.ensures.inner c.run.ensures.written in
     on_ok_weaker c.run.result
-    (λ w. (w.0, (known_filtered P Picked c.args.max name w.0 c.requires.whole c.requires.some w.1.0, w.1.1)))
+    (λ w. (w.0, (known_filtered P picker.from_top Picked c.args.max name w.0 c.requires.whole c.requires.some w.1.0, w.1.1)))
     written

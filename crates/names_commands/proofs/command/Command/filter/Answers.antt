@@ -11,7 +11,7 @@ returns-else-picked-clause-misuse c =
     let more = operands_of c.args.more.now in
     let none = subst (Picks given c.args.os more) c.if-picked.false c.in_ok-picked.ensures.picks in
     let no_more = none_picked given more none.0 in
-    inr (inl (refl, (Filter, c.args.os, (subst (HasOperands given Filter c.args.os) no_more c.requires.operands, (inl refl, subst (λ m. ¬ (SomePicked given m)) no_more none.0)))))
+    inr (inl (refl, (c.args.os, (subst (HasOperands given Filter c.args.os) no_more c.requires.operands, subst (λ m. ¬ (SomePicked given m)) no_more none.0))))
 
 pub returns-then-picked-clause-command : goal.returns-then-picked-clause-command
 returns-then-picked-clause-command c =
