@@ -15,3 +15,4 @@ pub mod Pointed
 pub mod Placed
 pub mod Wide
 pub mod Entries
+pub mod FirstGlob

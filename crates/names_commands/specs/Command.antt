@@ -88,13 +88,13 @@ TakesOption name.Check option.Empty = ⊥
 TakesOption name.Tar option.Empty = ⊥
 TakesOption name.List option.Glob = Unit {0}
 TakesOption name.Filter option.Glob = Unit {0}
-TakesOption name.Why option.Glob = ⊥
+TakesOption name.Why option.Glob = Unit {0}
 TakesOption name.Join option.Glob = ⊥
 TakesOption name.Check option.Glob = ⊥
 TakesOption name.Tar option.Glob = ⊥
 TakesOption name.List option.Name = Unit {0}
 TakesOption name.Filter option.Name = Unit {0}
-TakesOption name.Why option.Name = ⊥
+TakesOption name.Why option.Name = Unit {0}
 TakesOption name.Join option.Name = ⊥
 TakesOption name.Check option.Name = ⊥
 TakesOption name.Tar option.Name = ⊥
@@ -201,7 +201,7 @@ MakesUpWork given os (Picked form.Line) = Lists given os true × NoWords given
 MakesUpWork given os (Picked (form.Word words)) = Lists given os true × ((os ≡ Unix) × IsForm given words)
 MakesUpWork given os (Picked form.Name) = (more : List (List ℕ)) × (HasOperands given name.Filter os more × (Fits name.Filter given × Picks given os more true))
 MakesUpWork given os Tar = HasOperands given name.Tar os [] × Fits name.Tar given
-MakesUpWork given os Why = HasOperands given name.Why os [] × (Fits name.Why given × (HasOption option.Ignore given × TakesIgnore os))
+MakesUpWork given os Why = (more : List (List ℕ)) × (HasOperands given name.Why os more × (Fits name.Why given × Picks given os more true))
 
 -- the command that these make up
 abbrev pub MakesUp : Line → Command → Type 0
@@ -268,13 +268,13 @@ IsRequestFor given a =
     ⊎ ((¬ (HasOption option.Version given)) × (IsListed given a.list × (MakesUp given a.command × StatesPicks given a)))
     ))
 
--- what is missing: a command, what picks names, what `--invert` turns round, or an ignore file
+-- what is missing: a command, what picks names, what `--invert` turns round, or what `why` gives the reason for
 abbrev pub IsMissing : Line → List ℕ → Type 0
 IsMissing given what =
     ((what ≡ codes "command (list, filter, why, join, check or tar)") × (operands_of given ≡ []))
     ⊎ (((what ≡ codes "GLOB, --glob, --globs-from, --name, --ignore or --exclude") × ((os : Os) × (HasOperands given name.Filter os [] × (¬ (SomePicked given [])))))
     ⊎ (((what ≡ codes "GLOB, --glob, --globs-from, --name or --ignore for --invert") × ((command : Name) × (os : Os) × (HasOperands given command os [] × (HasOption option.Invert given × (¬ (OptionsMatch given))))))
-    ⊎ ((what ≡ codes "--ignore") × ((os : Os) × (HasOperands given name.Why os [] × (¬ (HasOption option.Ignore given)))))))
+    ⊎ ((what ≡ codes "GLOB, --glob, --name or --ignore") × ((os : Os) × (HasOperands given name.Why os [] × (¬ (SomePicked given [])))))))
 
 -- which word is no command or no number of bytes, or states an ignore file in no directory of the tree
 abbrev pub IsInvalid : Line → List ℕ → List ℕ → Type 0
@@ -312,7 +312,7 @@ pub record IsMisplaced (given : Line) (word where_to : List ℕ) : Type 0 where
   pub operands : HasOperands given command os more
   pub unfit : ((where_to ≡ name_word command) × (¬ (TakesOption command it))) ⊎ ((where_to ≡ os_word os) × (¬ (IsForPlatform os it)))
 
--- an operand is one too many: list and filter take a pattern after the platform, the others nothing
+-- an operand is one too many: list, filter and why take a pattern after the platform, the others nothing
 abbrev pub IsTooMany : Line → List ℕ → Type 0
 IsTooMany given word = (command : Name) × (os : Os) × (more : List (List ℕ)) × (
     (TakesOption command option.Glob × ((glob : List ℕ) × HasOperands given command os (glob ∷ word ∷ more)))

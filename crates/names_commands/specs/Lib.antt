@@ -15,3 +15,4 @@ pub mod Back
 pub mod Words
 pub mod Why
 pub mod Caret
+pub mod FirstGlob

@@ -45,7 +45,8 @@ use Rattle.names_commands.specs.Ignoring.{AreRead, IsFileIn, IsFirstUnread, need
 use Rattle.names_commands.specs.Matching.{picking, AreWrittenOut, IsChosen, IsFirstFault, IsMatched, IsPattern, IsPicked}
 use Rattle.names_commands.specs.PatternFiles.{ArePatternsOf, IsFirstNoString, IsUnreadOf, PatternLine, text_of}
 use Rattle.names_commands.specs.Pick.{added_before, typed_fault}
-use Rattle.names_commands.specs.Why.{deciding}
+use Rattle.names_commands.specs.FirstGlob.{IsFirst}
+use Rattle.names_commands.specs.Why.{Sources, deciding, sources}
 use Rattle.names_commands.specs.Command.{Requested, IsRequestFor, IsRejected, Line, options_of, sources_of}
 use Rattle.names_commands.specs.Tar.{IsTarOutput}
 use Rattle.names_commands.specs.Task.{rules_of}
@@ -115,6 +116,10 @@ IsOfGlobs p o requested patterns why =
     ⊎ ((AllByRecursion (IsPattern p o) requested.globs × IsOfLines p o patterns why)
     ⊎ (AllByRecursion (IsPattern p o) (requested.globs ++ map text_of patterns) × IsOfPatterns p o (length requested.globs) (length requested.excluded) requested.excluded why)))
 
+-- what the texts of reasons are taken of
+abbrev pub reason_sources : Requested → Sources
+reason_sources requested = sources requested.files requested.plain requested.globs
+
 -- the result where this is the first entry of an archive that is rejected, if one is
 abbrev pub tar_outcome : Option (ListFault Rejection) → Result ⊤ Fault
 tar_outcome None = Ok tt
@@ -158,11 +163,17 @@ module _ (known : KnownFiles) (A : Type 0) where
 
   -- where this is requested, on a platform that states this of its strings:
   module _ {E : Type 0} (p : Ghosts E) (requested : Requested) where
-    -- the run ends with the first ignore file that can't be read. Or it writes the lines of the files that decide names, and these names
-    abbrev pub RunsReasons : Doing
-    RunsReasons input left old new answer =
+    -- the run ends with the first ignore file that can't be read. Or it writes what decides names, the lines of the files or else the first pattern that matches, and these names
+    abbrev pub RunsDeciding : (List ℕ → Option ℕ → Type 0) → Doing
+    RunsDeciding First input left old new answer =
         ((why : CommandFault) × IsFileFault requested.case_insensitive requested.files why × EndsAtOnce (Words why) input left old new answer)
-        ⊎ ((files : List (File A)) × AreRead known requested.case_insensitive requested.files files × Runs (deciding p requested.list requested.files files) OfList input left old new answer)
+        ⊎ ((files : List (File A)) × AreRead known requested.case_insensitive requested.files files × Runs (deciding p First requested.list (reason_sources requested) files) OfList input left old new answer)
+
+    -- the run ends with the first of the patterns that has a fault. Or it does that with the patterns
+    abbrev pub RunsReasons : Os → Doing
+    RunsReasons os input left old new answer =
+        ((why : Fault) × IsOfPatterns p (options_of os requested.case_insensitive) 0 requested.plain requested.globs why × EndsAtOnce why input left old new answer)
+        ⊎ ((written : List (List (List Mark))) × AreWrittenOut p (options_of os requested.case_insensitive) requested.globs written × RunsDeciding (IsFirst p (options_of os requested.case_insensitive) written) input left old new answer)
 
     -- why the run ends before names are read: a pattern file can't be read, or a pattern has a fault
     abbrev pub IsOfPicks : GlobOptions → Fault → Type 0
@@ -184,7 +195,7 @@ module _ (known : KnownFiles) (A : Type 0) where
     abbrev pub DoesWork : Os → Work → Doing
     DoesWork os (Each what) input left old new answer = Runs (rules_of p (record { task = what; list = requested.list })) OfList input left old new answer
     DoesWork os (Picked shape) input left old new answer = UnlessOutOfMemory (RunsPicked os shape) input left old new answer
-    DoesWork os Why input left old new answer = UnlessOutOfMemory RunsReasons input left old new answer
+    DoesWork os Why input left old new answer = UnlessOutOfMemory (RunsReasons os) input left old new answer
     DoesWork os Tar input left old new answer = RunsTar p requested.list input left old new answer
 
   -- what a command does

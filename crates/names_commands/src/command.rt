@@ -5,7 +5,7 @@ ghost use Rattle.names_commands.specs.Command.{IsRequestFor, Fits, HasOperands, 
 ghost use Rattle.names_commands.specs.declared.command.Name.{Name as DeclaredName};
 ghost use Rattle.names_commands.specs.declared.command.Name.TheVariants.{Filter as FilterName, Join as JoinName, List as ListName, Why as WhyName};
 
-use crate::fitting::{fits, ignores, no_operand, words};
+use crate::fitting::{fits, no_operand, words};
 use crate::given::{LONGEST_NAME, empty_line, form_of, listed, picks, platform_of};
 use crate::ignoring::first_outside;
 use crate::matching::Form;
@@ -72,7 +72,7 @@ impl<'a, A: Allocator + Copy> Request<'a, A> {
     /// The request that options and operands make up.
     ///
     /// `--help` and `--version` are requests wherever they stand. Otherwise the operands are a
-    /// command, a platform and, for `list` and `filter`, a pattern. A first operand after the command
+    /// command, a platform and, for `list`, `filter` and `why`, a pattern. A first operand after the command
     /// that names no platform isn't one, and the platform is Unix. Options stand anywhere. The last
     /// `--max` counts, and without one a name may have 1,048,576 bytes. Without `--lines` each name is
     /// ended by NUL, and without `--unterminated` the last item has its end, too.
@@ -220,8 +220,8 @@ impl Name {
             NamesOption::Lines => true,
             NamesOption::Unterminated => !matches!(self, Name::Tar),
             NamesOption::Empty => matches!(self, Name::Join),
-            NamesOption::Glob => matches!(self, Name::List | Name::Filter),
-            NamesOption::Name => matches!(self, Name::List | Name::Filter),
+            NamesOption::Glob => matches!(self, Name::List | Name::Filter | Name::Why),
+            NamesOption::Name => matches!(self, Name::List | Name::Filter | Name::Why),
             NamesOption::Ignore => matches!(self, Name::List | Name::Filter | Name::Why),
             NamesOption::Invert => matches!(self, Name::List | Name::Filter),
             NamesOption::IgnoreCase => matches!(self, Name::List | Name::Filter | Name::Why),
@@ -250,8 +250,8 @@ pub enum Work {
     /// The names that are picked are written in this form: `filter`, and `list` where something picks
     /// names.
     Picked(Form),
-    /// `why`: the line of an ignore file that decides a name is written, with the escape of the name. The
-    /// names that no line decides are left out.
+    /// `why`: the line of an ignore file that decides a name is written, with the escape of the name, or
+    /// else the first pattern that matches the name. The other names are left out.
     Why,
     /// `tar`: the input is an archive, and the names of its entries are written.
     Tar,
@@ -339,12 +339,11 @@ impl Command {
         ensures command { IfOk result (λ command. MakesUp given.entry.now command) }
         ensures misuse { IfErr result (λ misuse. IsMisuse given.entry.now misuse) }
     {
-        no_operand(given, Name::Why, os, more)?;
-        ignores(given, os)?;
-        if has(given, NamesOption::Ignore) {
+        let picked = picks(given, Name::Why, os, more)?;
+        if picked {
             Ok(Command::On(os, Work::Why))
         } else {
-            Err(Misuse::Missing("--ignore"))
+            Err(Misuse::Missing("GLOB, --glob, --name or --ignore"))
         }
     }
 

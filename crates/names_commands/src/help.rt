@@ -14,7 +14,7 @@ names: lists of file names, one on each line, and back
 
 names list   [PLATFORM] [GLOB] [OPTION..]  reads names ended by NUL; writes the escape of each on a line
 names filter [PLATFORM] [GLOB] [OPTION..]  reads names ended by NUL; writes those that are picked, ended by NUL
-names why    [PLATFORM] --ignore FILE..    reads names ended by NUL; writes FILE:LINE:PATTERN, a tab and the name, escaped
+names why    [PLATFORM] [GLOB] [OPTION..]  reads names ended by NUL; writes what decides a name, a tab and the name, escaped
 names join   [PLATFORM] [OPTION..]         reads lines that list wrote; writes the names, ended by NUL
 names check  [PLATFORM] [OPTION..]         reads names ended by NUL; writes nothing
 names tar    [PLATFORM] [OPTION..]         reads a tar archive; writes the names of its entries, ended by NUL
@@ -22,11 +22,11 @@ names tar    [PLATFORM] [OPTION..]         reads a tar archive; writes the names
 PLATFORM is unix, windows or wasm, and unix where it is left out: a GLOB of such a name is written after PLATFORM.
 Options may stand anywhere; -- ends them.
 
-  --glob GLOB      list, filter: pick the names that GLOB matches, beside those of other GLOBs
+  --glob GLOB      list, filter, why: pick the names that GLOB matches, beside those of other GLOBs
   --globs-from FILE
                    list, filter: pick the names that a GLOB of FILE matches: each line, or, if FILE has a NUL, what
                    NUL ends; empty ones are left out
-  --name GLOB      list, filter: pick by the last component, in any folder: --glob '**/GLOB'
+  --name GLOB      list, filter, why: pick by the last component, in any folder: --glob '**/GLOB'
   --exclude GLOB   list, filter: leave out the names that GLOB matches, with -v too: '**/*.o' in any folder
   --ignore FILE    list, filter: leave out what the .gitignore file FILE ignores (unix, wasm)
                    with DIR=FILE, as that of the folder DIR does
@@ -61,6 +61,10 @@ FILE is read as git reads a .gitignore at the top of the tree, or in DIR. That o
 one over those before it. DIR ends at the first =, so a FILE whose name has one is written =FILE. DIR and names are paths
 from the top, with or without ./ at the start, and . is the top: /a, a//b and a/../b are rejected. A name that ends with
 / is a directory, another isn't: out/ ignores ./out/ and ./out/a, but not ./out.
+
+why writes FILE:LINE:PATTERN for the line of FILE that decides a name, or else GLOB:NUMBER:PATTERN for the first GLOB that
+matches it. GLOBs are numbered from 1, as in messages: the operand, those of --glob, those of --name. A FILE with the
+name GLOB is written ./GLOB. Nothing is written for the other names.
 
 tar reads the whole archive into memory. It writes each name of an entry that --lines and --max permit, and ends at the
 first entry that readers of archives may read in different ways. The message has the first entry that is rejected.

@@ -19,6 +19,7 @@
 mod caret;
 pub mod command;
 pub mod fault;
+mod first_glob;
 mod fitting;
 mod given;
 pub mod help;

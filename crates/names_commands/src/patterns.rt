@@ -170,7 +170,7 @@ fn line_rejection<A: Allocator + Copy>(
 
 /// The set of patterns, before which `before` others are counted, and the first `plain` of which come
 /// before those of `--name`.
-fn compiled<E: Platform, A: Allocator + Copy>(
+pub(crate) fn compiled<E: Platform, A: Allocator + Copy>(
     alloc: A,
     options: GlobOptions,
     before: usize,

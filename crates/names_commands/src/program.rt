@@ -182,7 +182,7 @@ fn run_on<E: Platform, F: Files, A: Allocator + Copy, R: Read, W: Write>(
         Work::Picked(form) => {
             run_picked::<E, F, A, R, W>(alloc, files, os, form, request, reader, writer)
         }
-        Work::Why => run_why::<E, F, A, R, W>(alloc, files, request, reader, writer),
+        Work::Why => run_why::<E, F, A, R, W>(alloc, files, os, request, reader, writer),
         Work::Tar => run_tar::<E, A, R, W>(alloc, request.list, reader, writer),
     }
 }

@@ -1,14 +1,16 @@
-//! The lines of ignore files that decide names.
-ghost use Rattle.std.specs.Prelude.{◌≡◌, ◌∷◌, ◌++◌, ◌<◌, [], ℕ, List, map, length, IfErr, IfOk, OnErr, OnOk};
+//! The lines of ignore files that decide names, and the patterns that match the others.
+ghost use Rattle.std.specs.Prelude.{◌≡◌, ◌∷◌, ◌++◌, ◌<◌, [], ℕ, List, decimal, map, length, string_bytes, IfErr, IfOk, OnErr, OnOk};
 ghost use Rattle.os_ignore.specs.Ignores.{HasNoText, HasText, files_of};
 ghost use Rattle.os_quote.specs.Escape.{IsLineEscape};
 ghost use Rattle.os_str_bytes.specs.Strings.{bytes};
 ghost use Rattle.os_str_bytes.specs.UnixPlatform.TheImpl.{ghosts as unix};
+ghost use Rattle.names_commands.specs.FirstGlob.{IsFirstBy};
 ghost use Rattle.names_commands.specs.Ignoring.{needs_tree, text_of};
 ghost use Rattle.names_commands.specs.Names.{IsNoName};
-ghost use Rattle.names_commands.specs.Why.{IsDecidedText, IsNameAt, IsReason, IsTextOfDecided, LinesAreKnown, deciding, place_text};
+ghost use Rattle.names_commands.specs.Why.{IsDecidedText, IsNameAt, IsReason, IsTextOfDecided, LinesAreKnown, deciding, place_text, sources};
 
 use crate::fault::Rejection;
+use crate::first_glob::{Globs, text_of_first};
 use crate::ignoring::{decider, file_in, needs_tree, value_of};
 use crate::item::named_in;
 use list_programs::fault::ItemFault;
@@ -19,33 +21,33 @@ use list_programs::task::ListTask;
 use os_ignore::Ignore;
 use os_str_bytes::{OsStr, Platform, Unix};
 use std::alloc::{AllocError, Allocator, Global};
-use std::marker::PhantomData;
 
-/// Each name that a line of the ignore files decides is written on a line, after that line. If some
-/// value states a file, a name that isn't a path from the top is rejected
-/// ([`Rejection::NotFromTop`]).
+/// Each name that a line of the ignore files decides is written on a line, after that line. So is each
+/// that a pattern matches else, after the first pattern that does. If some value states a file, a name
+/// that isn't a path from the top is rejected ([`Rejection::NotFromTop`]).
 #[derive(Drop)]
-pub struct Reasons<'g, E, A: Allocator = Global> {
+pub struct Reasons<'r, 's, E: Platform, A: Allocator = Global> {
     /// The values of `--ignore`, which state the files.
-    pub values: &'g [&'g str],
+    pub values: &'r [&'s str],
     /// The lines of the files.
-    pub ignore: &'g Ignore<A>,
+    pub ignore: Ignore<A>,
+    /// The patterns.
+    pub globs: Globs<'r, E, A>,
     /// How the list is written.
     pub list: ListOptions,
-    /// The platform whose strings the names are.
-    pub platform: PhantomData<E>,
-    ghost known: { LinesAreKnown (length values.now) (files_of ignore.now) },
+    ghost known: { LinesAreKnown (length values.now) (files_of ignore) },
 }
 
-impl<'g, E: Platform, B: Allocator + Copy> ListTask for Reasons<'g, E, B> {
+impl<'r, 's, E: Platform, B: Allocator + Copy> ListTask for Reasons<'r, 's, E, B> {
     type Rejection = Rejection;
 
     ghost Planned = { Self };
 
     ghost plan = { λ r. r };
 
-    ghost rules = { λ r. deciding ⟦<E as Platform>⟧ r.list (map text_of r.values.now)
-        (files_of r.ignore.now) };
+    ghost rules = { λ r. deciding ⟦<E as Platform>⟧ (IsFirstBy ⟦<E as Platform>⟧ r.globs.set) r.list
+        (sources (map text_of r.values.now) r.globs.plain (map string_bytes r.globs.texts.now))
+        (files_of r.ignore) };
 
     fn end(&self) -> ItemEnd {
         self.list.end
@@ -69,45 +71,52 @@ impl<'g, E: Platform, B: Allocator + Copy> ListTask for Reasons<'g, E, B> {
         item: &[u8],
         output: &mut Vec<u8, A>,
     ) -> Result<(), ItemFault<Rejection>> {
-        write_decided::<E, A, B>(alloc, self.values, self.ignore, item, output)
+        let it: &Self = self;
+        write_decided::<E, A, B>(alloc, it.values, &it.ignore, &it.globs, item, output)
     }
 }
 
-/// Appends the line that decides a name, and the escape of the name, if some line decides it.
+/// Appends what decides a name, and the escape of the name, if something does.
 fn write_decided<E: Platform, A: Allocator + Copy, B: Allocator + Copy>(
     alloc: A,
     values: &[&str],
     ignore: &Ignore<B>,
+    globs: &Globs<'_, E, B>,
     item: &[u8],
     output: &mut Vec<u8, A>,
 ) -> Result<(), ItemFault<Rejection>>
     requires { LinesAreKnown (length values.now) (files_of ignore.now) }
     ensures ok { OnOk result ((text : List ℕ)
-        × (IsTextOfDecided ⟦<E as Platform>⟧ (map text_of values.now) (files_of ignore.now) item.now
-        text × (output.new.items ≡ output.old.items ++ text))) }
+        × (IsTextOfDecided ⟦<E as Platform>⟧ (IsFirstBy ⟦<E as Platform>⟧ globs.now.set)
+        (sources (map text_of values.now) globs.now.plain (map string_bytes globs.now.texts.now))
+        (files_of ignore.now) item.now text × (output.new.items ≡ output.old.items ++ text))) }
     ensures fault { IfErr result (λ fault. IsNoName ⟦<E as Platform>⟧
         (needs_tree (map text_of values.now)) item.now fault) }
     ensures unchanged { OnErr result (output.new.items ≡ output.old.items) }
 {
     let name = named_in::<E>(item, needs_tree(values))?;
-    let text = text_of_decided::<E, A, B>(alloc, values, ignore, name)?;
+    let text = text_of_decided::<E, A, B>(alloc, values, ignore, globs, name)?;
     Ok(output.extend_from_slice(&text)?)
 }
 
-/// What is written for a name: the line that decides it, and its escape, or nothing where none does.
+/// What is written for a name: the line that decides it or else the first pattern that matches it, and
+/// its escape, or nothing where there is neither.
 fn text_of_decided<E: Platform, A: Allocator + Copy, B: Allocator + Copy>(
     alloc: A,
     values: &[&str],
     ignore: &Ignore<B>,
+    globs: &Globs<'_, E, B>,
     name: OsStr<'_, E>,
 ) -> Result<Vec<u8, A>, AllocError>
     requires { LinesAreKnown (length values.now) (files_of ignore.now) }
-    ensures { IfOk result (λ text. IsDecidedText ⟦<E as Platform>⟧ (map text_of values.now)
+    ensures { IfOk result (λ text. IsDecidedText ⟦<E as Platform>⟧
+        (IsFirstBy ⟦<E as Platform>⟧ globs.now.set)
+        (sources (map text_of values.now) globs.now.plain (map string_bytes globs.now.texts.now))
         (files_of ignore.now) (bytes name.entry) text.items) }
 {
     match decider(ignore, name.as_encoded_bytes()) {
         Some((file, line)) => reason_of::<E, A, B>(alloc, values, ignore, file, line, name),
-        None => Ok(Vec::new(alloc)),
+        None => text_of_first::<E, A, B>(alloc, globs, name),
     }
 }
 
@@ -144,12 +153,26 @@ fn place_of<A: Allocator + Copy>(
         × IsLineEscape unix.units pattern.now shown_pattern)
         × (place.items ≡ place_text shown_file line shown_pattern))) }
 {
-    let number = line.to_string(alloc)?;
     let mut place = Vec::new(alloc);
     push_shown(alloc, file, b':', &mut place)?;
-    push_ended(number.as_bytes(), b':', &mut place)?;
-    push_shown(alloc, pattern, b'\t', &mut place)?;
+    push_at(alloc, line, pattern, &mut place)?;
     Ok(place)
+}
+
+/// Appends a number, and the escape of a text.
+pub(crate) fn push_at<A: Allocator + Copy>(
+    alloc: A,
+    number: usize,
+    text: &[u8],
+    output: &mut Vec<u8, A>,
+) -> Result<(), AllocError>
+    ensures { OnOk result ((shown : List ℕ) × (IsLineEscape unix.units text.now shown
+        × (output.new.items ≡ output.old.items
+        ++ ((decimal number ++ 0x3A ∷ []) ++ (shown ++ 0x09 ∷ []))))) }
+{
+    let number = number.to_string(alloc)?;
+    push_ended(number.as_bytes(), b':', output)?;
+    push_shown(alloc, text, b'\t', output)
 }
 
 /// Appends the escape of any bytes on one line, and this byte.

@@ -229,7 +229,7 @@ module _ (one_word : OneWord) (one_value : OneValue) where
   no_fault : {r after next : Reading} {kind : Kind} {fault : Fault} → TakesWord r (Err fault) after → TakesWord r (Ok (Some kind)) next → ⊥
   no_fault {r} {after} {next} {kind} {fault} h k = let never = (one_word r (Err fault) (Ok (Some kind)) after next h k).0 in cc
 
-  no_end : {r after next : Reading} {kind : Kind} → TakesWord r (Ok None) after → TakesWord r (Ok (Some kind)) next → ⊥
+  pub no_end : {r after next : Reading} {kind : Kind} → TakesWord r (Ok None) after → TakesWord r (Ok (Some kind)) next → ⊥
   no_end {r} {after} {next} {kind} h k = let never = (one_word r (Ok None) (Ok (Some kind)) after next h k).0 in cc
 
   one_operand : {a b : List ℕ} → Value a ≡ Value b → a ≡ b
@@ -248,7 +248,7 @@ module _ (one_word : OneWord) (one_value : OneValue) where
     operand_fails fault (inr (inl f)) = subst IsOption (same_kind f.taken step).0 f.option
     operand_fails fault (inr (inr f)) = no_option f.option f.kind f.is (same_kind f.taken step).0
 
-    operand_taken : (one : Given NamesOption) (after : Reading) → Takes spelled has_value r one after → (held : Bor (List ℕ)) × ((one ≡ Operand held) × ((held.now ≡ word) × (after ≡ next)))
+    pub operand_taken : (one : Given NamesOption) (after : Reading) → Takes spelled has_value r one after → (held : Bor (List ℕ)) × ((one ≡ Operand held) × ((held.now ≡ word) × (after ≡ next)))
     operand_taken (Operand held) after t = let both = same_kind t step in (held, (refl, (one_operand both.0, both.1)))
     operand_taken (Flag it) after t = absurd (no_option it t.0 t.1.0.0 (same_kind t.1.1 step).0)
     operand_taken (Valued it value) after t = absurd (no_option it t.0 t.2.0.0 (same_kind t.2.1.0 step).0)
@@ -307,7 +307,7 @@ module _ (one_word : OneWord) (one_value : OneValue) where
     end_fails fault (inr (inl f)) = no_end end f.taken
     end_fails fault (inr (inr f)) = no_end end f.taken
 
-    none_taken : (one : Given NamesOption) (after : Reading) → ¬ (Takes spelled has_value r one after)
+    pub none_taken : (one : Given NamesOption) (after : Reading) → ¬ (Takes spelled has_value r one after)
     none_taken (Operand held) after t = no_end end t
     none_taken (Flag it) after t = no_end end t.1.1
     none_taken (Valued it value) after t = no_end end t.2.1.0

@@ -29,7 +29,7 @@ use Rattle.names_commands.specs.Ignoring.{AreAdded, AreRead, FileRead, IsFileIn,
 use Rattle.names_commands.specs.Matching.{AreWrittenOut, IsChosen, IsMatched, IsPicked, picking}
 use Rattle.names_commands.specs.Options.{has_value, spelled}
 use Rattle.names_commands.specs.Operands.{HasPlatform, IsGlobOperand, first_of}
-use Rattle.names_commands.specs.Pick.{in_any_folder}
+use Rattle.names_commands.specs.Pick.{ArePatterns, in_any_folder}
 use Rattle.names_commands.specs.PatternFiles.{ArePatternsOf, IsUnreadOf, PatternLine, text_of as pattern_text}
 use Rattle.names_commands.specs.Program.{Does, DoesCommand, DoesWork, EndsAtOnce, Fault, IsFileFault, IsOfGlobs, IsOfPicks, RejectsLine, RunsBut, RunsLine, RunsPicked, RunsTo, UnlessOutOfMemory}
 use Rattle.names_commands.specs.declared.command.Command.{Command}
@@ -269,7 +269,19 @@ module _ (folds : Bool) (command platform value : Bor (List ℕ)) where
   no_operand : platform.now ≡ codes "unix" → (own : List (List ℕ)) → IsGlobOperand (operands_of given_of) own → own ≡ []
   no_operand is own has = has.2.1 ∙ ap first_of (is_unix is has.0 has.1 has.2.0).1
 
-  -- no pattern is stated, and this ignore file
+  -- so no pattern is stated
+  pub no_patterns : platform.now ≡ codes "unix" → (plain : ℕ) (globs : List (List ℕ)) → ArePatterns given_of plain globs → (plain ≡ 0) × (globs ≡ [])
+  no_patterns is plain globs patterns =
+      let own : patterns.0 ≡ [] = no_operand is patterns.0 patterns.3.0 in
+      let more : patterns.1 ≡ [] = no_values option.Glob (λ e. cc) patterns.1 patterns.3.1.0 in
+      let of_names : patterns.2 ≡ [] = no_values option.Name (λ e. cc) patterns.2 patterns.3.1.1.0 in
+      let before : patterns.0 ++ patterns.1 ≡ [] = ap (λ x. x ++ patterns.1) own ∙ more in
+      (patterns.3.1.1.1.1 ∙ ap length before, patterns.3.1.1.1.0 ∙ ap (λ x. x ++ map in_any_folder patterns.2) before ∙ ap (map in_any_folder) of_names)
+
+  pub no_pattern_files : (files : List (List ℕ)) → AreValues option.GlobsFrom given_of files → files ≡ []
+  no_pattern_files files values = no_values option.GlobsFrom (λ e. cc) files values
+
+  -- but this ignore file
   pub states_one : platform.now ≡ codes "unix" → Lacks 0x3D value.now → (requested : Command) (list : ListOptions) → StatesPicks given_of (record { command = requested; list = list; plain = 0; globs = []; pattern_files = []; files = value.now ∷ []; inverted = false; case_insensitive = folds; excluded = [] })
   states_one is plain requested list = (
     (([], [], [], ((Unix, [], (has_unix is, refl)), (none_stated option.Glob (λ e. cc), (none_stated option.Name (λ e. cc), (refl, refl))))), none_stated option.GlobsFrom (λ e. cc)),
@@ -324,12 +336,8 @@ module _ (known : KnownFiles) (A : Type 0) (folds : Bool) (file : List ℕ) (inp
     picked : (requested : Requested) → requested.list ≡ usual → StatesPicks given requested → UnlessOutOfMemory (RunsPicked known A (strings Unix) requested Unix Name) input left old new answer → Filters
     picked requested is_usual states (inl memory) = inl memory
     picked requested is_usual states (inr runs) =
-        let patterns = states.0.0 in
-        let pattern_files : requested.pattern_files ≡ [] = no_values folds command platform value option.GlobsFrom (λ e. cc) requested.pattern_files states.0.1 in
-        let own : patterns.0 ≡ [] = no_operand folds command platform value is_platform patterns.0 patterns.3.0 in
-        let more : patterns.1 ≡ [] = no_values folds command platform value option.Glob (λ e. cc) patterns.1 patterns.3.1.0 in
-        let of_names : patterns.2 ≡ [] = no_values folds command platform value option.Name (λ e. cc) patterns.2 patterns.3.1.1.0 in
-        let globs_are : requested.globs ≡ [] = patterns.3.1.1.1.0 ∙ ap (λ x. (x ++ patterns.1) ++ map in_any_folder patterns.2) own ∙ ap (λ x. x ++ map in_any_folder patterns.2) more ∙ ap (map in_any_folder) of_names in
+        let pattern_files = no_pattern_files folds command platform value requested.pattern_files states.0.1 in
+        let globs_are = (no_patterns folds command platform value is_platform requested.plain requested.globs states.0.0).1 in
         let files_are : requested.files ≡ file ∷ [] = one_file folds command platform value requested.files states.1.0.0 ∙ ap (λ x. x ∷ []) is_file in
         let excluded : requested.excluded ≡ [] = no_values folds command platform value option.Exclude (λ e. cc) requested.excluded states.1.1.1.1 in
         ran requested globs_are pattern_files excluded is_usual (not_inverted folds command platform value requested.inverted states.1.1.0) (is_case folds command platform value requested.case_insensitive states.1.1.1.0) files_are runs
@@ -355,7 +363,7 @@ module _ (known : KnownFiles) (A : Type 0) (folds : Bool) (file : List ℕ) (inp
     by_work os (Picked form.Line) requested listed states m does = absurd (not_list (is_word name.List os m.0.0 m.0.1.0))
     by_work os (Picked (form.Word words)) requested listed states m does = absurd (not_list (is_word name.List os m.0.0 m.0.1.0))
     by_work os (Picked form.Name) requested listed states m does = by_platform os requested (is_unix folds command platform value is_platform os m.0 (subst (λ after. HasPlatform after os m.0) (sym (later m.1.0.1.0)) m.1.0.1.1)).0 listed states does
-    by_work os Why requested listed states m does = absurd (not_why (is_word name.Why os [] m.0))
+    by_work os Why requested listed states m does = absurd (not_why (is_word name.Why os m.0 m.1.0))
 
     by_command : (command : Command) (requested : Requested) → requested.list ≡ usual → StatesPicks given requested → MakesUp given command → DoesCommand known A requested command input left old new answer → Filters
     by_command (On os work) requested listed states m does = by_work os work requested listed states m does

@@ -1,6 +1,7 @@
 pub mod CommonPaths
 pub mod GivenPaths
 pub mod GivenWords
+pub mod KnownGlob
 pub mod KnownIgnore
 pub mod KnownLists
 pub mod KnownNames

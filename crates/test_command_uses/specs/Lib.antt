@@ -1,3 +1,4 @@
 pub mod Archives
 pub mod OneFile
 pub mod Requests
+pub mod OneGlob

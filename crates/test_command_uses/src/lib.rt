@@ -7,6 +7,7 @@
 
 mod archives;
 mod arguments;
+mod choosing;
 mod ignoring;
 mod marks;
 mod names;
@@ -20,6 +21,7 @@ pub use archives::{sizeless_first, sparse_first};
 pub use arguments::{
     last_limit, only_operand, options_of_names, patterns_of_options, requests_help,
 };
+pub use choosing::chosen;
 pub use ignoring::{OneFile, left_out, left_out_in_either_case, unread};
 pub use marks::{
     closed_by_a_flush, closed_by_a_write, closed_by_no_bytes, marked_by_no_bytes, unmarked,

@@ -108,7 +108,7 @@ record IsMade (given : Line) : Type 0 where
   pub few : (TakesOption command option.Glob × AtMostOne more) ⊎ ((¬ (TakesOption command option.Glob)) × (more ≡ []))
   pub needs : command ≡ name.Filter → SomePicked given more
   pub turns : HasOption option.Invert given → SomeMatch given more
-  pub states : command ≡ name.Why → HasOption option.Ignore given
+  pub states : command ≡ name.Why → SomePicked given more
   pub for_platform : (it : NamesOption) → HasOption it given → IsForPlatform os it
 
 few_picked : (given : Line) (os : Os) (more : List (List ℕ)) (picks : Bool) → Picks given os more picks → AtMostOne more
@@ -183,8 +183,8 @@ module _ (given : Line) (os : Os) where
   lists_plain picks l none = lists picks l (plain os given none (ignores_of given os l.0 picks l.1.1.1))
 
   -- a command that takes no pattern
-  bare : (command : Name) → HasOperands given command os [] → Fits command given → ¬ (TakesOption command option.Glob) → (command ≡ name.Filter → ⊥) → (TakesOption command option.Invert → ⊥) → (command ≡ name.Why → HasOption option.Ignore given) → ((it : NamesOption) → HasOption it given → IsForPlatform os it) → IsMade given
-  bare command operands fits no_glob no_filter no_invert states fit = record {
+  bare : (command : Name) → HasOperands given command os [] → Fits command given → ¬ (TakesOption command option.Glob) → (command ≡ name.Filter → ⊥) → (TakesOption command option.Invert → ⊥) → (command ≡ name.Why → ⊥) → ((it : NamesOption) → HasOption it given → IsForPlatform os it) → IsMade given
+  bare command operands fits no_glob no_filter no_invert no_why fit = record {
     command = command;
     os = os;
     more = [];
@@ -193,8 +193,23 @@ module _ (given : Line) (os : Os) where
     few = inr (no_glob, refl);
     needs = λ e. absurd (no_filter e);
     turns = λ h. absurd (no_invert (all_fit command given fits option.Invert h));
-    states = states;
+    states = λ e. absurd (no_why e);
     for_platform = fit;
+  }
+
+  -- a command that is about the names that are picked
+  of_picked : (command : Name) → TakesOption command option.Glob → (TakesOption command option.Sh → ⊥) → (TakesOption command option.ShLine → ⊥) → (more : List (List ℕ)) × (HasOperands given command os more × (Fits command given × Picks given os more true)) → IsMade given
+  of_picked command glob no_sh no_sh_line m = record {
+    command = command;
+    os = os;
+    more = m.0;
+    operands = m.1.0;
+    fits = m.1.1.0;
+    few = inl (glob, m.1.1.1.0);
+    needs = λ e. m.1.1.1.1.0;
+    turns = m.1.1.1.1.1.0;
+    states = λ e. m.1.1.1.1.0;
+    for_platform = plain os given (no_words command given m.1.1.0 no_sh no_sh_line) m.1.1.1.1.1.1;
   }
 
   made_work : (work : Work) → MakesUpWork given os work → IsMade given
@@ -205,20 +220,9 @@ module _ (given : Line) (os : Os) where
   made_work (Each JoinWords) m = bare name.Join m.0 m.1.0 (λ t. t) (λ e. cc) (λ t. t) (λ e. cc) (for_words os given m.1.1.0)
   made_work (Picked form.Line) m = lists_plain true m.0 m.1
   made_work (Picked (form.Word words)) m = lists true m.0 (for_words os given m.1.0)
-  made_work (Picked form.Name) m = record {
-    command = name.Filter;
-    os = os;
-    more = m.0;
-    operands = m.1.0;
-    fits = m.1.1.0;
-    few = inl (tt, m.1.1.1.0);
-    needs = λ e. m.1.1.1.1.0;
-    turns = m.1.1.1.1.1.0;
-    states = λ e. cc;
-    for_platform = plain os given (no_words name.Filter given m.1.1.0 (λ t. t) (λ t. t)) m.1.1.1.1.1.1;
-  }
+  made_work (Picked form.Name) m = of_picked name.Filter tt (λ t. t) (λ t. t) m
   made_work Tar m = bare name.Tar m.0 m.1 (λ t. t) (λ e. cc) (λ t. t) (λ e. cc) (plain os given (no_words name.Tar given m.1 (λ t. t) (λ t. t)) (λ h. absurd (all_fit name.Tar given m.1 option.Ignore h)))
-  made_work Why m = bare name.Why m.0 m.1.0 (λ t. t) (λ e. cc) (λ t. t) (λ e. m.1.1.0) (plain os given (no_words name.Why given m.1.0 (λ t. t) (λ t. t)) (λ h. m.1.1.1))
+  made_work Why m = of_picked name.Why tt (λ t. t) (λ t. t) m
 
 made : (given : Line) (command : Command) → MakesUp given command → IsMade given
 made given (On os work) m = made_work given os work m
@@ -234,7 +238,9 @@ module _ (given : Line) (m : IsMade given) where
   not_missing what (inr (inr (inl k))) =
       let same = one_command given m.command k.1.0 m.os k.1.1 m.more [] m.operands k.1.2.0 in
       ⊎_elim (λ more. more refl) k.1.2.1.1 (subst (SomeMatch given) same.1.1 (m.turns k.1.2.1.0))
-  not_missing what (inr (inr (inr k))) = k.1.1.1 (m.states (one_command given m.command name.Why m.os k.1.0 m.more [] m.operands k.1.1.0).0)
+  not_missing what (inr (inr (inr k))) =
+      let same = one_command given m.command name.Why m.os k.1.0 m.more [] m.operands k.1.1.0 in
+      k.1.1.1 (subst (SomePicked given) same.1.1 (m.states same.0))
 
   not_invalid : (max : ℕ) → IsMax given max → (files : List (List ℕ)) → AreValues option.Ignore given files × AllByRecursion IsPlaced files → (what word : List ℕ) → IsInvalid given what word → ⊥
   not_invalid max limit files placed what word (inl k) = k.1.0 m.command (head_is (sym k.1.1.1 ∙ m.operands.1.0))

@@ -8,7 +8,7 @@ use Rattle.os_str_bytes.specs.Platform.{Ghosts}
 use Rattle.list_programs.specs.Items.{Entry}
 use Rattle.list_programs.specs.ListRun.{IsBegun, IsOutput, IsRun, Runs, StopsOn, WritesBeginning, WritesOutput, WritesUpTo, start}
 use Rattle.list_programs.specs.Reading.{State, Stops}
-use Rattle.list_programs.specs.Rules.{ListRules, IsEntry}
+use Rattle.list_programs.specs.Rules.{ListRules, IsEntry, with_texts}
 use Rattle.list_programs.specs.declared.fault.ListFault.{ListFault}
 use Rattle.list_programs.specs.declared.options.ListOptions.{ListOptions}
 use Rattle.list_programs.specs.declared.fault.ListFault.TheVariants.{Rejected, TooLong, Unended, TooMuch, Run}
@@ -21,6 +21,7 @@ use Rattle.glob_patterns.specs.GlobSets.{AreMeanings, HasMeaning}
 use Rattle.glob_patterns.specs.declared.glob_set.GlobSet.{GlobSet}
 use Rattle.glob_patterns.specs.declared.options.GlobOptions.{GlobOptions}
 use Rattle.glob_text.specs.Marks.{Mark}
+use Rattle.glob_text.specs.Meaning.{MatchesWrittenOut}
 use Rattle.glob_text.specs.Texts as pattern
 use Rattle.glob_text.specs.Texts.{IsMeaning}
 use Rattle.glob_text.specs.declared.fault.PatternFault.{PatternFault}
@@ -30,22 +31,21 @@ use Rattle.wildcards.specs.declared.set.Pattern.{Pattern}
 use Rattle.list_programs.specs.declared.program_fault.Fault.TheVariants.{List as OfList}
 use Rattle.os_ignore.specs.declared.file.File.{File}
 use Rattle.program_frame.specs.Files.{KnownFiles}
+use Rattle.names_commands.specs.FirstGlob.{IsFirst, IsFirstBy, IsFirstMatch}
 use Rattle.names_commands.specs.Ignoring.{IsIgnored, needs_tree}
 use Rattle.names_commands.specs.Matching.{picking, AreWrittenOut, IsChosen, IsChosenBy, IsFirstFault, IsMatched, IsMatchedBy, IsPattern, IsPicked, IsSelected, IsTextOfPicked}
 use Rattle.names_commands.specs.Program.{Fault, RunsBut}
 
-module _ {E : Type 0} (p : Ghosts E) (form : Form) (list : ListOptions) (from_top : Bool) (Picked Other : List ℕ → Type 0) (same : (name : List ℕ) → Picked name ↔ Other name) where
+-- what may be written for a name may be written by other rules that permit as much:
+module _ (list : ListRules Rejection) (Is Other : List ℕ → List ℕ → Type 0) (more : (name text : List ℕ) → Is name text → Other name text) where
   abbrev ours : ListRules Rejection
-  ours = picking p form list from_top Picked
+  ours = with_texts Is list
 
   abbrev theirs : ListRules Rejection
-  theirs = picking p form list from_top Other
-
-  one_text : (name text : List ℕ) → IsTextOfPicked p form list.end from_top Picked name text → IsTextOfPicked p form list.end from_top Other name text
-  one_text name text t = (t.0, (t.1.0, (t.1.1.0, ⊎_elim (λ k. inl ((same name).0 k.0, k.1)) (λ k. inr (λ other. k.0 ((same name).1 other), k.1)) t.1.1.1)))
+  theirs = with_texts Other list
 
   one_entry : (e : Entry) → IsEntry ours e → IsEntry theirs e
-  one_entry e i = record { whole = i.whole; short = i.short; text = one_text e.0 e.1 i.text }
+  one_entry e i = record { whole = i.whole; short = i.short; text = more e.0 e.1 i.text }
 
   all_entries : (es : List Entry) → AllByRecursion (IsEntry ours) es → AllByRecursion (IsEntry theirs) es
   all_entries [] a = tt
@@ -86,6 +86,17 @@ module _ {E : Type 0} (p : Ghosts E) (form : Form) (list : ListOptions) (from_to
   pub same_runs : {X : Type 0} (fault : ListFault Rejection → X) (input left old new : Option (List ℕ)) (answer : Result ⊤ X) → Runs ours fault input left old new answer → Runs theirs fault input left old new answer
   same_runs fault input left old new answer r = (r.0, (one_run input left old new r.0 r.1.0, r.1.1))
 
+-- where two conditions pick the same names, the same is written
+module _ {E : Type 0} (p : Ghosts E) (form : Form) (list : ListOptions) (from_top : Bool) (Picked Other : List ℕ → Type 0) (same : (name : List ℕ) → Picked name ↔ Other name) where
+  abbrev pub Texts : (List ℕ → Type 0) → List ℕ → List ℕ → Type 0
+  Texts These = IsTextOfPicked p form list.end from_top These
+
+  one_text : (name text : List ℕ) → Texts Picked name text → Texts Other name text
+  one_text name text t = (t.0, (t.1.0, (t.1.1.0, ⊎_elim (λ k. inl ((same name).0 k.0, k.1)) (λ k. inr (λ other. k.0 ((same name).1 other), k.1)) t.1.1.1)))
+
+  same_picked : {X : Type 0} (fault : ListFault Rejection → X) (input left old new : Option (List ℕ)) (answer : Result ⊤ X) → Runs (picking p form list from_top Picked) fault input left old new answer → Runs (picking p form list from_top Other) fault input left old new answer
+  same_picked = same_runs (picking p form list from_top Picked) (Texts Picked) (Texts Other) one_text
+
 not_nil : {X : Type 0} {x : X} {xs : List X} → x ∷ xs ≡ [] → ⊥
 not_nil e = cc
 
@@ -114,7 +125,7 @@ module _ (Chosen Other Excluded Left : List ℕ → Type 0) (same : (name : List
   pub same_but : {E : Type 0} (known : KnownFiles) (A : Type 0) (p : Ghosts E) (form : Form) (list : ListOptions) (inverted folds : Bool) (names : List (List ℕ)) (input left old new : Option (List ℕ)) (answer : Result ⊤ Fault)
       → RunsBut known A p form list inverted folds Chosen Excluded names input left old new answer → RunsBut known A p form list inverted folds Other Left names input left old new answer
   same_but known A p form list inverted folds names input left old new answer (inl fault) = inl fault
-  same_but known A p form list inverted folds names input left old new answer (inr k) = inr (k.0, k.1, same_runs p form list (needs_tree names) (IsPicked inverted Chosen Excluded k.0) (IsPicked inverted Other Left k.0) (picked_alike inverted k.0) OfList input left old new answer k.2)
+  same_but known A p form list inverted folds names input left old new answer (inr k) = inr (k.0, k.1, same_picked p form list (needs_tree names) (IsPicked inverted Chosen Excluded k.0) (IsPicked inverted Other Left k.0) (picked_alike inverted k.0) OfList input left old new answer k.2)
 
 -- a name that is chosen is selected where the files don't ignore its text
 pub selected_shown : {A : Type 0} (Chosen : List ℕ → Type 0) (files : List (File A)) (name text : List ℕ) (shown : Bool) → text ≡ name → Chosen name
@@ -137,6 +148,22 @@ picked_unless inverted Chosen Excluded files name picks said other = (λ yes. (s
 -- and where it is, it isn't picked
 pub never_picked : {A : Type 0} (inverted : Bool) (Chosen Excluded : List ℕ → Type 0) (files : List (File A)) (name : List ℕ) → Excluded name → (false ≡ true) ↔ IsPicked inverted Chosen Excluded files name
 never_picked inverted Chosen Excluded files name excluded = (λ yes. let never : false ≡ true = yes in absurd (cc), λ k. absurd (k.1 excluded))
+
+module _ {E : Type 0} (p : Ghosts E) (o : GlobOptions) (name : List ℕ) where
+  abbrev Fitting : List (List Mark) → Type 0
+  Fitting w = MatchesWrittenOut (options_of o) w (letters_of p.units name)
+
+  -- the first that matches is the same after one that doesn't
+  one_later : (w : List (List Mark)) (written : List (List (List Mark))) (index : ℕ) → ¬ (Fitting w) → IsFirstMatch p o written name index → IsFirstMatch p o (w ∷ written) name (suc index)
+  one_later w written index other f = record {
+    before = w ∷ f.before;
+    one = f.one;
+    after = f.after;
+    joined = ap (λ x. w ∷ x) f.joined;
+    index_is = ap suc f.index_is;
+    matches = f.matches;
+    first = ⊎_elim other f.first;
+  }
 
 module _ {E A : Type 0} (p : Ghosts E) (o : GlobOptions) where
   abbrev AreCompiled : List (List ℕ) → List (Pattern A) → Type 0
@@ -161,6 +188,13 @@ module _ {E A : Type 0} (p : Ghosts E) (o : GlobOptions) where
   all_fine (t ∷ texts) [] c = absurd c
   all_fine (t ∷ texts) (q ∷ ps) c = ((c.0.are.are.written_out, one_written t q.choices.items c.0), all_fine texts ps c.1)
 
+  -- as many patterns are compiled as there are texts
+  pub as_many : (texts : List (List ℕ)) (ps : List (Pattern A)) → AreCompiled texts ps → length texts ≡ length ps
+  as_many [] [] c = refl
+  as_many [] (q ∷ ps) c = absurd c
+  as_many (t ∷ texts) [] c = absurd c
+  as_many (t ∷ texts) (q ∷ ps) c = let more = as_many texts ps c.1 in omega (arith, more)
+
   -- a compiled pattern matches what its text does
   module _ (name : List ℕ) where
     abbrev Hits : List (Pattern A) → ℕ → Type 0
@@ -182,6 +216,25 @@ module _ {E A : Type 0} (p : Ghosts E) (o : GlobOptions) where
         let below = more.1.0 in
         (suc more.0, (omega (arith, below), more.1.1))
 
+    -- the first compiled pattern that matches is that of the first text that does
+    first_hit : (texts : List (List ℕ)) (ps : List (Pattern A)) (c : AreCompiled texts ps) (index : ℕ) → Hits ps index → ((i : ℕ) → i < index → ¬ (Hits ps i)) → IsFirstMatch p o (written_of texts ps c) name index
+    first_hit [] [] c index h none = absurd (omega (arith, h.0))
+    first_hit [] (q ∷ ps) c index h none = absurd c
+    first_hit (t ∷ texts) [] c index h none = absurd c
+    first_hit (t ∷ texts) (q ∷ ps) c zero h none = record {
+      before = [];
+      one = c.0.are.are.written_out;
+      after = written_of texts ps c.1;
+      joined = refl;
+      index_is = refl;
+      matches = (c.0.are.are.matched (options_of o) refl (letters_of p.units name)).0 (h.1 q);
+      first = λ m. m;
+    }
+    first_hit (t ∷ texts) (q ∷ ps) c (suc index) h none =
+        let more = first_hit texts ps c.1 index (omega (arith, h.0), h.1) (λ i below hit. none (suc i) (omega (arith, below)) (omega (arith, hit.0), hit.1)) in
+        let other : ¬ (Fitting p o name c.0.are.are.written_out) = λ m. none 0 (omega arith) (omega arith, λ d. (c.0.are.are.matched (options_of o) refl (letters_of p.units name)).1 m) in
+        one_later p o name c.0.are.are.written_out (written_of texts ps c.1) index other more
+
   module _ (texts : List (List ℕ)) (set : GlobSet E A) (same : set.set.options ≡ options_of o) (c : AreCompiled texts set.set.patterns.items) where
     -- a compiled set matches what one of its texts does
     pub matched : (name : List ℕ) → IsMatchedBy p set name ↔ IsMatched p o (written_of texts set.set.patterns.items c) name
@@ -191,6 +244,13 @@ module _ {E A : Type 0} (p : Ghosts E) (o : GlobOptions) where
           let hit = matches_hit name texts set.set.patterns.items c m in
           (hit.0, subst (λ z. IsHit z set.set.patterns.items (letters_of p.units name) hit.0) (sym same) hit.1),
     )
+
+    -- and the first that matches is that of its texts
+    pub first_alike : (name : List ℕ) (first : Option ℕ) → IsFirstBy p set name first → IsFirst p o (written_of texts set.set.patterns.items c) name first
+    first_alike name None f = λ m. f ((matched name).1 m)
+    first_alike name (Some index) f = first_hit name texts set.set.patterns.items c index
+        (subst (λ z. IsHit z set.set.patterns.items (letters_of p.units name) index) same f.hit)
+        (λ i below hit. f.first i below (subst (λ z. IsHit z set.set.patterns.items (letters_of p.units name) i) (sym same) hit))
 
     -- so a set that there is where patterns are stated chooses what the texts do
     pub chosen : (sources : List (List ℕ)) (globs : Option (Bor (GlobSet E A))) → MatchOption globs (sources ≡ []) (λ held. (sources ≢ []) × (held.now ≡ set)) → (name : List ℕ) → IsChosenBy p globs name ↔ IsChosen p sources o (written_of texts set.set.patterns.items c) name
