@@ -68,11 +68,11 @@ case_stated given requested no_help no_version (inr requests) = by requests.1
 
 -- a request never inverts where no names that match are stated, and no help and no version is requested
 pub never_inverted : (given : Line) (requested : Requested) → (command : Name) × ((os : Os) × HasOperands given command os []) → ¬ (OptionsMatch given) → ¬ (HasOption Help given) → ¬ (HasOption Version given) → IsRequestFor given requested → ¬ (IsTrue requested.inverted)
-never_inverted given requested has none no_help no_version (inl help) yes = no_help help.0
-never_inverted given requested has none no_help no_version (inr requests) yes = by requests.1
+never_inverted given requested has none no_help no_version (inl help) held = no_help help.0
+never_inverted given requested has none no_help no_version (inr requests) held = by requests.1
   where
     by : ((HasOption Version given × (requested.command ≡ VersionCommand)) ⊎ ((¬ (HasOption Version given)) × (IsListed given requested.list × (MakesUp given requested.command × StatesPicks given requested)))) → ⊥
     by (inl version) = no_version version.0
     by (inr c) =
-        let inverts : HasOption Invert given = c.1.1.1.1.1.0.0 yes in
+        let inverts : HasOption Invert given = c.1.1.1.1.1.0.0 held in
         no_request given no_help no_version (Missing (record { ref_ptr = (0, 0); now = codes "GLOB, --glob, --globs-from, --name or --ignore for --invert" })) (inr (inr (inl (refl, (has.0, has.1.0, (has.1.1, (inverts, none))))))) requested (inr requests)
