@@ -9,10 +9,10 @@ use Rattle.glob_patterns.specs.Letters.{letters_of}
 use Rattle.glob_patterns.specs.Options as options
 use Rattle.glob_text.specs.Marks.{Mark}
 use Rattle.glob_text.specs.Meaning.{MatchesWrittenOut}
-use Rattle.os_args.specs.Word.{Kind, Value, dash, dashes}
-use Rattle.os_args.specs.Reading.{Reading, StartsWithDashes, TakesWord, words_left}
+use Rattle.os_args.specs.Word.{Value, dash, dashes}
+use Rattle.os_args.specs.Reading.{Reading, TakesWord, words_left}
 use Rattle.os_ignore.specs.Verdicts as rule
-use Rattle.os_ignore.specs.Verdicts.{Decides, IsOwn, IsVerdict}
+use Rattle.os_ignore.specs.Verdicts.{IsOwn, IsVerdict}
 use Rattle.os_ignore.specs.declared.file.File.{File}
 use Rattle.os_ignore.specs.declared.verdict.Verdict.{Verdict}
 use Rattle.os_ignore.specs.declared.verdict.Verdict.TheVariants.{Neither, Ignored, TakenIn}
@@ -24,26 +24,23 @@ use Rattle.program_frame.specs.Strings.{strings}
 use Rattle.program_frame.specs.declared.fault.Failure.TheVariants.{Memory}
 use Rattle.program_frame.specs.declared.os.Os.{Os}
 use Rattle.program_frame.specs.declared.os.Os.TheVariants.{Unix, Windows, Wasm}
-use Rattle.list_programs.specs.Arguments.{AreGiven, AreValues, HasOption, LastValue, Takes, TakesAll, operands_of}
+use Rattle.list_programs.specs.Arguments.{AreValues, HasOption, LastValue, TakesAll}
 use Rattle.list_programs.specs.Items.{Lacks, texts_of}
 use Rattle.list_programs.specs.ListRun.{IsOutput, IsRun, answer_of}
 use Rattle.list_programs.specs.Rules.{IsEntry}
-use Rattle.list_programs.specs.declared.arguments.Given.{Given}
 use Rattle.list_programs.specs.declared.arguments.Given.TheVariants.{Operand}
 use Rattle.list_programs.specs.declared.fault.ListFault.{ListFault}
 use Rattle.list_programs.specs.declared.fault.ListFault.TheVariants.{Run}
-use Rattle.list_programs.specs.declared.options.ListOptions.{ListOptions}
 use Rattle.list_programs.specs.declared.program_fault.Fault.TheVariants.{List as OfList}
 use Rattle.names_commands.specs.Command.{Requested, IsRequestFor, IsListed, IsMax, Line, MakesUp, StatesPicks}
-use Rattle.names_commands.specs.FirstGlob.{IsFirst, IsFirstMatch, IsTypedAt}
+use Rattle.names_commands.specs.FirstGlob.{IsFirst, IsTypedAt}
 use Rattle.names_commands.specs.Ignoring.{AreRead, AreAdded, FileRead, value_of}
-use Rattle.names_commands.specs.Matching.{AreWrittenOut, IsMatched}
-use Rattle.names_commands.specs.Operands.{HasPlatform, IsGlobOperand, first_of}
+use Rattle.names_commands.specs.Matching.{AreWrittenOut}
+use Rattle.names_commands.specs.Operands.{HasPlatform, first_of}
 use Rattle.names_commands.specs.Options.{has_value, spelled}
 use Rattle.names_commands.specs.Pick.{ArePatterns, added_before, in_any_folder}
-use Rattle.names_commands.specs.Program.{Does, DoesCommand, DoesWork, Fault, RunsDeciding, RunsLine, RunsReasons, RunsTo, UnlessOutOfMemory}
+use Rattle.names_commands.specs.Program.{Does, DoesCommand, DoesWork, Fault, RunsDeciding, RunsLine, RunsTo}
 use Rattle.names_commands.specs.Why.{IsDecided, IsDecidedText, IsTextOfFirst, IsTextOfNumbers, Sources, deciding, numbers_of, place_text, sources}
-use Rattle.names_commands.specs.declared.command.Command.{Command}
 use Rattle.names_commands.specs.declared.command.Command.TheVariants.{On, Version}
 use Rattle.names_commands.specs.declared.command.Work.TheVariants.{Why}
 use Rattle.names_commands.specs.declared.fault.Rejection.{Rejection}
@@ -57,9 +54,11 @@ use Rattle.test_command_uses.proofs.KnownLists.{is_usual_list}
 use Rattle.test_command_uses.proofs.KnownNames.{all_whole, one_ended}
 use Rattle.test_command_uses.proofs.KnownWhy.{Reasons, is_why, none_before}
 
-head_of : List ℕ → ℕ
-head_of [] = 0
-head_of (x ∷ xs) = x
+head_is : {X : Type 0} {x y : X} {xs ys : List X} → x ∷ xs ≡ y ∷ ys → x ≡ y
+head_is e = cc
+
+no_dash : (c : ℕ) (w : List ℕ) → c ≢ 45 → ¬ (IsPrefix dash (c ∷ w))
+no_dash c w differs p = differs (head_is p.joined)
 
 -- how the words are read
 abbrev at : List ℕ → ℕ → Reading
@@ -90,10 +89,10 @@ module _ (glob : List ℕ) (plain : ¬ (IsPrefix dash glob)) where
   })
 
   why_next : TakesWord (at glob 0) (Ok (Some (Value (codes "why")))) (at glob 1)
-  why_next = operand_next 0 (codes "why") (codes "unix" ∷ glob ∷ []) refl (λ p. let never : 119 ≡ 45 = ap head_of p.joined in let no : 119 ≢ 45 = omega arith in no never)
+  why_next = operand_next 0 (119 ∷ codes "hy") (codes "unix" ∷ glob ∷ []) refl (no_dash 119 (codes "hy") (omega arith))
 
   unix_next : TakesWord (at glob 1) (Ok (Some (Value (codes "unix")))) (at glob 2)
-  unix_next = operand_next 1 (codes "unix") (glob ∷ []) refl (λ p. let never : 117 ≡ 45 = ap head_of p.joined in let no : 117 ≢ 45 = omega arith in no never)
+  unix_next = operand_next 1 (117 ∷ codes "nix") (glob ∷ []) refl (no_dash 117 (codes "nix") (omega arith))
 
   glob_next : TakesWord (at glob 2) (Ok (Some (Value glob))) (at glob 3)
   glob_next = operand_next 2 glob [] refl plain
@@ -163,7 +162,7 @@ not_stated words it true is = absurd (none words it (is.0 refl))
 not_stated words it false is = refl
 
 -- where no file was read, no line decides
-module _ {A : Type 0} where
+module _ (A : Type 0) where
   no_files : (known : KnownFiles) (files : List (File A)) → AreRead known false [] files → files ≡ []
   no_files known files r = by r.reads r.values_are r.added
     where
@@ -185,9 +184,6 @@ module _ {A : Type 0} where
 
   no_line : (files : List (File A)) (name : List ℕ) (numbers : Option (ℕ × ℕ)) → files ≡ [] → IsDecided files name numbers → numbers ≡ None
   no_line files name numbers none d = d.numbers_are ∙ of_verdict d.path d.is_dir d.verdict (subst (λ f. IsVerdict f d.path d.is_dir d.verdict) none d.verdict_is)
-
-head_is : {X : Type 0} {x y : X} {xs ys : List X} → x ∷ xs ≡ y ∷ ys → x ≡ y
-head_is e = cc
 
 tail_is : {X : Type 0} {x y : X} {xs ys : List X} → x ∷ xs ≡ y ∷ ys → xs ≡ ys
 tail_is e = cc
@@ -245,7 +241,7 @@ module _ (A : Type 0) (glob item : List ℕ) (whole : Lacks 0 item) (left old ne
         let entry = (subst (λ es. AllByRecursion (IsEntry rules) es) one_item.1 o.are).0 in
         let is : output ≡ one_item.0 = o.written ∙ ap texts_of one_item.1 ∙ append-nil one_item.0 in
         let said = subst (IsDecidedText (strings Unix) First from files item) (sym is) entry.text.1.1.1 in
-        of_numbers files output said.numbers (no_line files item said.numbers none said.decided) said.text_is
+        of_numbers files output said.numbers (no_line A files item said.numbers none said.decided) said.text_is
 
     run_written : (files : List (File A)) → files ≡ [] → (run : Result ⊤ (ListFault Rejection)) → IsRun (deciding (strings Unix) First usual from files) (Some (item ++ 0 ∷ [])) left old new run → Written (answer_of OfList run)
     run_written files none (Err fault) is = tt
@@ -259,7 +255,7 @@ module _ (A : Type 0) (glob item : List ℕ) (whole : Lacks 0 item) (left old ne
     by_written : (written : List (List (List Mark))) → AreWrittenOut (strings Unix) unix_options (glob ∷ []) written → RunsDeciding known A (strings Unix) stated (IsFirst (strings Unix) unix_options written) (Some (item ++ 0 ∷ [])) left old new answer → Written answer
     by_written [] are runs = absurd are
     by_written (one ∷ rest) are (inl unread) = err_written answer _ unread.2.0
-    by_written (one ∷ rest) are (inr ran) = subst Written (sym ran.2.1.1) (run_written one rest are ran.0 (no_files known ran.0 ran.1) ran.2.0 ran.2.1.0)
+    by_written (one ∷ rest) are (inr ran) = subst Written (sym ran.2.1.1) (run_written one rest are ran.0 (no_files A known ran.0 ran.1) ran.2.0 ran.2.1.0)
 
     written : Reasons known A (Some (item ++ 0 ∷ [])) left old new answer usual 1 (glob ∷ []) [] false [] → Written answer
     written (inl memory) = err_written answer _ memory.0
@@ -334,6 +330,6 @@ module _ (A : Type 0) (glob item : List ℕ) (whole : Lacks 0 item) (left old ne
 -- what the whole program writes for one name with its end, unless memory is refused before it runs
 pub program_chosen : OneWord → OneValue → (known : KnownFiles) (A : Type 0) (glob item : List ℕ) → ¬ (IsPrefix dash glob) → Lacks 0 item → (words : List (List ℕ)) → words ≡ choosing glob → (left old new : Option (List ℕ)) {X : Type 0} (names : List ℕ) (outcome answer : Result ⊤ Fault) → names ≡ item ++ 0 ∷ [] → answer ≡ outcome
     → ((outcome ≡ Err (OfList (Run Memory))) × X) ⊎ RunsTo known A words (Some names) left old new outcome → OnOk answer ((text : List ℕ) × (IsChosenBy glob item text × Appends old new text))
-program_chosen one_word one_value known A glob item plain whole words are left old new names outcome answer ended e (inl memory) = err_written A glob item whole left old new answer _ (e ∙ memory.0)
-program_chosen one_word one_value known A glob item plain whole words are left old new names outcome answer ended e (inr runs) =
+program_chosen one_word one_value known A glob item plain whole line are left old new names outcome answer ended e (inl memory) = err_written A glob item whole left old new answer _ (e ∙ memory.0)
+program_chosen one_word one_value known A glob item plain whole line are left old new names outcome answer ended e (inr runs) =
     subst (Written A glob item whole left old new) (sym e) (of_words A glob item whole left old new known outcome one_word one_value plain (subst (λ n. RunsTo known A (choosing glob) (Some n) left old new outcome) ended (subst (λ w. RunsTo known A w (Some names) left old new outcome) are runs)))
