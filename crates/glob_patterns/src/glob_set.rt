@@ -21,10 +21,9 @@ use wildcards::{Pattern, PatternSet};
 ///
 /// Patterns are looked up by the literal parts that a path must have to match them: the whole path,
 /// the end of its last component, or a component or its first letters. Only the patterns found are
-/// tried, each at most once. In a set that is written out as up to 16,384 patterns, a path is looked
-/// up in time in proportion to its length. In a larger set, the rest of a path may be read again
-/// after each component that is found. A set takes the memory of its patterns, and some more for
-/// each pattern that they are written out as.
+/// tried, each at most once. A path of which many different components are looked up and found is
+/// read again after each of them. A set takes the memory of its patterns, and some more for each
+/// pattern that they are written out as.
 #[derive(Drop)]
 pub struct GlobSet<E: Platform, A: Allocator = Global> {
     set: PatternSet<A>,

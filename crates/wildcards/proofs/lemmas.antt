@@ -12,7 +12,6 @@ pub mod Found
 pub mod Covers
 pub mod Small
 pub mod Extensions
-pub mod Visited
 pub mod Queries
 pub mod Adding
 pub mod Orders

@@ -1,5 +1,5 @@
 -- The places that a path is matched with: only private contracts name this.
-use Rattle.std.specs.Prelude.{◌≡◌, ◌-◌, ◌<◌, ◌⊎◌, ◌↔◌, ◌||◌, nat_eq, ltb, ℕ, Bool, List, [], ◌∷◌, ◌++◌, map, length, drop, if◌then◌else◌, true, false, Option, Some, None, MatchOption}
+use Rattle.std.specs.Prelude.{◌≡◌, ◌-◌, ◌<◌, ◌⊎◌, ◌||◌, nat_eq, ℕ, Bool, List, [], ◌∷◌, ◌++◌, map, length, drop, if◌then◌else◌, true, false, Option, Some, None, MatchOption}
 use denote.Ref.{Bor}
 use Rattle.wildcards.specs.declared.candidates.Query.{Query}
 use Rattle.wildcards.specs.declared.candidates.Stage.{Stage}
@@ -7,14 +7,12 @@ use Rattle.wildcards.specs.declared.candidates.Stage.TheVariants as stage
 use Rattle.wildcards.specs.declared.filter.Filter.{Filter}
 use Rattle.wildcards.specs.declared.filter.Place.{Place}
 use Rattle.wildcards.specs.declared.separators.Separators.{Separators}
-use Rattle.wildcards.specs.declared.visited.Visited.{Visited}
 use Rattle.wildcards.specs.Components.{components}
 use Rattle.wildcards.specs.Extensions.{LacksExtension, IsExtension}
 use Rattle.wildcards.specs.Filters.{AsksName}
 use Rattle.wildcards.specs.Keys.{EndsIn, first_letters, key_separators}
 use Rattle.wildcards.specs.Sets.{Has}
-use Rattle.wildcards.specs.Tables.{bucket, places_at, slot_of}
-use Rattle.wildcards.specs.Visited.{IsVisited}
+use Rattle.wildcards.specs.Tables.{bucket, slot_of}
 
 -- one of the lists has the element
 abbrev pub OneHas : {X : Type 0} → List (List X) → X → Type 0
@@ -78,27 +76,23 @@ module _ {A : Type 0} where
     slot_in key = slot_of q.filter.now.folds (length q.filter.now.buckets.items) key
 
     -- one of the keys has the bucket of this index
-    abbrev pub is_of : ℕ → List (List ℕ) → Bool
-    is_of slot [] = false
-    is_of slot (key ∷ keys) = nat_eq (slot_in key) slot || is_of slot keys
+    abbrev pub comes_again : ℕ → List (List ℕ) → Bool
+    comes_again slot [] = false
+    comes_again slot (key ∷ keys) = nat_eq (slot_in key) slot || comes_again slot keys
 
-    -- what the key's bucket has: unless an earlier key has the same or, from the bucket of index 65,536 on, a later one
-    abbrev pub asked : List (List ℕ) → List ℕ → List (List ℕ) → List Place
-    asked earlier key later = if is_of (slot_in key) (if ltb (slot_in key) 65536 then earlier else later) then [] else bucket q.filter.now.folds q.filter.now.buckets.items key
+    -- what the key's bucket has, unless a later key has the same
+    abbrev pub asked : List ℕ → List (List ℕ) → List Place
+    asked key later = if comes_again (slot_in key) later then [] else bucket q.filter.now.folds q.filter.now.buckets.items key
 
     -- the list of each key
-    abbrev pub key_lists : List (List ℕ) → List (List ℕ) → List (List Place)
-    key_lists earlier [] = []
-    key_lists earlier (key ∷ keys) = asked earlier key keys ∷ key_lists (key ∷ earlier) keys
+    abbrev pub key_lists : List (List ℕ) → List (List Place)
+    key_lists [] = []
+    key_lists (key ∷ keys) = asked key keys ∷ key_lists keys
 
     -- all lists: that of the choices that need no key, and those of keys
     abbrev pub all_lists : List (List Place)
-    all_lists = q.filter.now.others.items ∷ key_lists [] path_keys
+    all_lists = q.filter.now.others.items ∷ key_lists path_keys
 
-    -- of the buckets below index 65,536 that have places, those of the keys were handed out
-    abbrev pub AreVisited : Visited → List (List ℕ) → Type 0
-    AreVisited v keys = (i : ℕ) → i < 65536 → (places_at q.filter.now.buckets.items i ≡ [] → ⊥) → IsVisited v i ↔ (is_of i keys ≡ true)
-
-    -- the list of the first of the keys after earlier ones, and the stage at which the others are left; None where there is none
-    abbrev pub IsNext : List (List ℕ) → List (List ℕ) → Visited → Option (Bor (List Place) × Stage) → Type 0
-    IsNext earlier keys v result = MatchOption result (keys ≡ []) (λ next. (length (left_keys next.1) < length keys) × ((key : List ℕ) × (AreVisited v (key ∷ earlier) × (key_lists earlier keys ≡ next.0.now ∷ key_lists (key ∷ earlier) (left_keys next.1)))))
+    -- the list of the first of the keys, and the stage at which the others are left; None where there is none
+    abbrev pub IsNext : List (List ℕ) → Option (Bor (List Place) × Stage) → Type 0
+    IsNext keys result = MatchOption result (keys ≡ []) (λ next. (length (left_keys next.1) < length keys) × (key_lists keys ≡ next.0.now ∷ key_lists (left_keys next.1)))

@@ -21,5 +21,4 @@ pub mod Extensions
 pub mod Keys
 pub mod Small
 pub mod Filters
-pub mod Visited
 pub mod Candidates

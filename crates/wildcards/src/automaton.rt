@@ -1,17 +1,32 @@
 //! Pieces against the letters of a component, each of which is read once. A word has a flag for
 //! each number of items that the letters read so far may have matched.
-ghost use Rattle.std.specs.Prelude.{◌↔◌, ◌∷◌, IsTrue, IfSome};
+ghost use Rattle.std.specs.Prelude.{◌↔◌, ◌<◌, ◌∷◌, IsTrue, IfSome};
 ghost use Rattle.wildcards.specs.declared.piece.Piece.TheVariants.{Many};
-ghost use Rattle.wildcards.specs.Flags.{IsStepped};
+ghost use Rattle.wildcards.specs.Flags.{Set, IsShifted, SetsLowest, IsStepped};
 ghost use Rattle.wildcards.specs.Match.{Fits, TakesLetter};
 ghost use Rattle.wildcards.specs.Places.{Stays, AreFlags, AreFitting, AreKnown, IsFew};
 ghost use Rattle.wildcards.specs.Wild.{Wild};
 
-use crate::flags::{is_set, shifted, with_lowest};
 use crate::letters::Letters;
 use crate::piece::{Item, Piece};
 use crate::run::first_letter;
 use std::alloc::Allocator;
+
+/// The flags, each one place higher. The highest is lost.
+#[inline(always)]
+fn shifted(word: u128) -> u128
+    ensures { IsShifted word result }
+{
+    word << 1
+}
+
+/// The flags and, at the lowest place, this one too.
+#[inline(always)]
+fn with_lowest(word: u128, flag: bool) -> u128
+    ensures { SetsLowest word flag result }
+{
+    if flag { word | 1 } else { word }
+}
 
 /// The places after one letter more: the next after an item that fits it, and the same before a
 /// `*`.
@@ -20,6 +35,15 @@ fn stepped(word: u128, fitting: u128, staying: u128) -> u128
     ensures { IsStepped word fitting staying result }
 {
     shifted(word & fitting) | (word & staying)
+}
+
+/// Whether the flag of this place is set.
+#[inline(always)]
+fn is_set(word: u128, place: u32) -> bool
+    requires { place < 128 }
+    ensures { IsTrue result ↔ Set word place }
+{
+    (word >> place) & 1 == 1
 }
 
 /// The flags of the items that fit a letter.

@@ -1,9 +1,9 @@
 //! The choices of a set that a path may match, list by list.
-ghost use Rattle.std.specs.Prelude.{◌≡◌, ◌∷◌, ℕ, List, true, MatchOption};
+ghost use Rattle.std.specs.Prelude.{◌≡◌, ◌∷◌, true, MatchOption};
 ghost use Rattle.wildcards.specs.Components.{components};
 ghost use Rattle.wildcards.specs.Extensions.{LacksExtension, IsExtension};
 ghost use Rattle.wildcards.specs.Keys.{EndsIn, first_letters};
-ghost use Rattle.wildcards.specs.Candidates.{IsQuery, IsNext, IsNextKey, AreVisited, asked, is_of, left_keys, path_keys, component_keys, name_keys, extension_keys, end_keys};
+ghost use Rattle.wildcards.specs.Candidates.{IsQuery, IsNext, IsNextKey, asked, comes_again, left_keys, path_keys, component_keys, name_keys, extension_keys, end_keys};
 
 use crate::component;
 use crate::component::{split_first, split_last};
@@ -11,7 +11,6 @@ use crate::filter::{Filter, Place};
 use crate::key::key_separators;
 use crate::letters::Bytes;
 use crate::separators::Separators;
-use crate::visited::Visited;
 use std::alloc::Allocator;
 
 /// Which lists are left. There are lists for keys of a kind only where there are such keys.
@@ -94,37 +93,23 @@ impl<'s, 'p, A: Allocator> Query<'s, 'p, A> {
 
     /// The next list of places, and the stage after it.
     #[inline(always)]
-    pub fn next(
-        &self,
-        stage: Stage<'s, 'p>,
-        visited: &mut Visited,
-    ) -> Option<(&'s [Place], Stage<'s, 'p>)>
-        ensures { (earlier : List (List ℕ)) → AreVisited self.now visited.old earlier →
-            IsNext self.now earlier (left_keys self.now stage.entry) visited.new result }
+    pub fn next(&self, stage: Stage<'s, 'p>) -> Option<(&'s [Place], Stage<'s, 'p>)>
+        ensures { IsNext self.now (left_keys self.now stage.entry) result }
     {
         let (key, more) = self.next_key(stage)?;
-        Some((self.asked(key, more, visited), more))
+        Some((self.asked(key, more), more))
     }
 
-    /// The places of a key's bucket. It is handed out for the first key that has it, and for no
-    /// other, so that each place is handed out once. A bucket past the 65,536 that can be noted is
-    /// handed out for the last key.
+    /// The places of a key's bucket. It is handed out for the last key that has it, and for no other, so
+    /// that each place is handed out once.
     #[inline(always)]
-    fn asked(&self, key: &[u8], later: Stage<'s, 'p>, visited: &mut Visited) -> &'s [Place]
-        ensures { (earlier : List (List ℕ)) → AreVisited self.now visited.old earlier →
-            (result.now ≡ asked self.now earlier key.now (left_keys self.now later.entry))
-            × AreVisited self.now visited.new (key.now ∷ earlier) }
+    fn asked(&self, key: &[u8], later: Stage<'s, 'p>) -> &'s [Place]
+        ensures { result.now ≡ asked self.now key.now (left_keys self.now later.entry) }
     {
         let slot = self.filter.slot(key);
         let places = self.filter.places(slot);
         if places.is_empty() {
             return &[];
-        }
-        if slot < 65536 {
-            if visited.visit(slot) {
-                return &[];
-            }
-            return places;
         }
         if self.comes_again(slot, later) {
             return &[];
@@ -134,7 +119,7 @@ impl<'s, 'p, A: Allocator> Query<'s, 'p, A> {
 
     /// Whether one of the keys that are left has the bucket of this index.
     fn comes_again(&self, slot: usize, stage: Stage<'s, 'p>) -> bool
-        ensures { result ≡ is_of self.now slot (left_keys self.now stage.entry) }
+        ensures { result ≡ comes_again self.now slot (left_keys self.now stage.entry) }
     {
         let mut left = stage;
         while let Some((key, more)) = self.next_key(left) {

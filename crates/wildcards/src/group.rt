@@ -34,8 +34,7 @@ pub fn push_group<A: Allocator>(
     deep: bool,
     joined: bool,
 ) -> Result<(), AllocError>
-    ensures appended { OnOk result
-        (pattern.new.items ≡ pattern.old.items ++ group deep joined part) }
+    ensures appended { OnOk result (pattern.new.items ≡ pattern.old.items ++ group deep joined part) }
     ensures unchanged { OnErr result (pattern.new.items ≡ pattern.old.items) }
 {
     if deep {

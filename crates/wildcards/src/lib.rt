@@ -15,7 +15,6 @@ mod class_name;
 mod component;
 mod digest;
 mod filter;
-mod flags;
 mod group;
 mod hidden;
 mod indices;
@@ -33,7 +32,6 @@ mod run;
 mod separators;
 mod set;
 mod small;
-mod visited;
 
 pub use class::Class;
 pub use class_name::ClassName;

@@ -13,14 +13,12 @@ use crate::path::matches;
 use crate::pattern::{Choice, matches_choice};
 use crate::set::Pattern;
 use crate::small::folds;
-use crate::visited::Visited;
 use std::alloc::{AllocError, Allocator, Global};
 
 /// A set of patterns. A path is matched only with the choices whose literal parts it has. Each
 /// choice is listed once: by its whole text, by a component or its first letters, or by the
 /// extension or the last letters of its last component. So a path is matched with a choice at most
-/// once. In a set of up to 16,384 choices, a path is looked up in time in proportion to its length.
-/// In a larger set, the rest of a path may be read again after each component that is such a text.
+/// once. What comes after a component that is such a text is read again, to find the last one.
 #[derive(Drop)]
 pub struct PatternSet<A: Allocator = Global> {
     options: Options,
@@ -201,9 +199,8 @@ impl<A: Allocator> PatternSet<A> {
         }
         let query = Query::new(&self.filter, self.options.separators, path);
         self.add_hits::<L, B>(path, &self.filter.others, found)?;
-        let mut visited = Visited::new();
         let mut stage = Stage::Path;
-        while let Some((places, more)) = query.next(stage, &mut visited) {
+        while let Some((places, more)) = query.next(stage) {
             self.add_hits::<L, B>(path, places, found)?;
             stage = more;
         }
@@ -291,9 +288,8 @@ impl<A: Allocator> PatternSet<A> {
         if self.any_hit::<L>(path, &self.filter.others) {
             return true;
         }
-        let mut visited = Visited::new();
         let mut stage = Stage::Path;
-        while let Some((places, more)) = query.next(stage, &mut visited) {
+        while let Some((places, more)) = query.next(stage) {
             if self.any_hit::<L>(path, places) {
                 return true;
             }

@@ -2,9 +2,7 @@
 use Rattle.std.proofs.Common.{◌≡◌, ◌⊎◌, ◌↔◌, inl, inr, ◌<◌, ◌+◌, ◌*◌, ◌/◌, ◌%◌, ◌^◌, ℕ, zero, suc, Bool, true, IsTrue, refl, sym, ap, ◌∙◌, subst, arith}
 use Rattle.std.specs.Int.{bit_at}
 use Rattle.std.specs.Int.RustNames.{bit_and, bit_or}
-use Rattle.std.proofs.lemmas.Nat.Bits.{bit_at_and, bit_at_or, bit_at-lt, bit_at-suc, bit_at_lowest, bit_at_cat_low, bit_at-zero, bit_at-pow_same, bit_at-pow_other}
-use Rattle.std.proofs.lemmas.Bool.{cases_eq}
-use Rattle.std.proofs.lemmas.Nat.{one_shl}
+use Rattle.std.proofs.lemmas.Nat.Bits.{bit_at_and, bit_at_or, bit_at-lt, bit_at-suc, bit_at_lowest, bit_at_cat_low, bit_at-zero}
 use Rattle.wildcards.specs.Flags.{Set, IsShifted, SetsLowest, IsStepped}
 
 -- what is lost above doesn't change the bits below
@@ -74,21 +72,3 @@ sets_lowest word flag e = record {
     only : (i : ℕ) → Set word (suc i) ⊎ Set 1 (suc i) → Set word (suc i)
     only i (inl h) = h
     only i (inr h) = let e = h.one in absurd (omega (arith, one_higher i))
-
-pub sets_flag : (word place : ℕ) → place < 128 → (i : ℕ) → Set (bit_or word (1 * 2 ^ place % 2 ^ 128)) i ↔ (Set word i ⊎ (i ≡ place))
-sets_flag word place l i = (λ h. either ((set_or word (1 * 2 ^ place % 2 ^ 128) i).0 h), λ h. (set_or word (1 * 2 ^ place % 2 ^ 128) i).1 (back h))
-  where
-    power : 1 * 2 ^ place % 2 ^ 128 ≡ 2 ^ place
-    power = one_shl place 128 l
-
-    only : bit_at (2 ^ place) i ≡ 1 → (i ≡ place) ⊎ (i ≡ place → ⊥) → i ≡ place
-    only h (inl e) = e
-    only h (inr n) = absurd (omega (arith, h, bit_at-pow_other place i n))
-
-    either : Set word i ⊎ Set (1 * 2 ^ place % 2 ^ 128) i → Set word i ⊎ (i ≡ place)
-    either (inl h) = inl h
-    either (inr h) = inr (only (ap (λ z. bit_at z i) (sym power) ∙ h.one) (cases_eq i place))
-
-    back : Set word i ⊎ (i ≡ place) → Set word i ⊎ Set (1 * 2 ^ place % 2 ^ 128) i
-    back (inl h) = inl h
-    back (inr e) = inr (record { one = ap (λ z. bit_at z i) power ∙ (ap (bit_at (2 ^ place)) e ∙ bit_at-pow_same place) })

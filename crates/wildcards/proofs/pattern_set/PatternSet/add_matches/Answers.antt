@@ -1,8 +1,7 @@
-use Rattle.std.proofs.Common.{◌∙◌, [], ◌∷◌, refl, sym, ap, subst}
+use Rattle.std.proofs.Common.{◌∙◌, refl, sym, ap, subst}
 use Rattle.wildcards.specs.Candidates.{all_lists, key_lists, path_keys}
 use Rattle.wildcards.specs.Filters.{AddsHits}
 use Rattle.wildcards.proofs.lemmas.Adding.{none_found, list_found, all_found}
-use Rattle.wildcards.proofs.lemmas.Visited.{none_visited}
 use Rattle.wildcards.proofs.lemmas.Queries.{of_hit}
 use Rattle.wildcards.proofs.pattern_set.PatternSet.add_matches.Goals as goal
 
@@ -10,29 +9,18 @@ pub loop-places-init : goal.loop-places-init
 loop-places-init g c =
     let set = c.args.self.now in
     let path = g.L.Letters.letters c.args.path.now in
-    let q = c.new-query.result in (
-      [],
-      (
-        none_visited q c.new-visited.result c.new-visited.ensures,
-        list_found set.options set.patterns.items path (all_lists q) (all_lists q) (key_lists q [] (path_keys q)) q.filter.now.others.items c.args.found.now.items c.add_hits.new.found.items refl
-            (none_found set.options set.patterns.items path (all_lists q) c.args.found.now.items c.requires.empty)
-            (subst (λ z. AddsHits set.options set.patterns.items path z c.args.found.now.items c.add_hits.new.found.items) (c.deref.ensures.value ∙ sym (ap (λ z. z.others.items) c.new-query.ensures.filter_is)) c.in_ok-add_hits.ensures),
-      ),
-    )
+    let q = c.new-query.result in
+    list_found set.options set.patterns.items path (all_lists q) (all_lists q) (key_lists q (path_keys q)) q.filter.now.others.items c.args.found.now.items c.add_hits.new.found.items refl
+    (none_found set.options set.patterns.items path (all_lists q) c.args.found.now.items c.requires.empty)
+    (subst (λ z. AddsHits set.options set.patterns.items path z c.args.found.now.items c.add_hits.new.found.items) (c.deref.ensures.value ∙ sym (ap (λ z. z.others.items) c.new-query.ensures.filter_is)) c.in_ok-add_hits.ensures)
 
 pub loop-places-preserved : goal.loop-places-preserved
 loop-places-preserved g c =
-    let before = c.loop-places.invariant in
-    let next = c.in-Some.ensures before.0 before.1.0 in
-    (next.1.0 ∷ before.0, (next.1.1.0, list_found c.args.self.now.options c.args.self.now.patterns.items (g.L.Letters.letters c.args.path.now) (all_lists c.new-query.result) _ _ c.in-Some.places.now c.loop-places.found.items c.add_hits-in-Some.new.found.items next.1.1.1 before.1.1 c.in_ok-add_hits-2.ensures))
-
-pub loop-places-smaller : goal.loop-places-smaller
-loop-places-smaller g c = (c.in-Some.ensures c.loop-places.invariant.0 c.loop-places.invariant.1.0).0
+    list_found c.args.self.now.options c.args.self.now.patterns.items (g.L.Letters.letters c.args.path.now) (all_lists c.new-query.result) _ _ c.in-Some.places.now c.loop-places.found.items c.add_hits-in-Some.new.found.items c.in-Some.ensures.1 c.loop-places.invariant c.in_ok-add_hits-2.ensures
 
 pub returns : goal.returns
 returns g c =
-    let before = c.loop-places.invariant in
     let set = c.args.self.now in
     all_found set.options set.patterns.items (g.L.Letters.letters c.args.path.now) (all_lists c.new-query.result)
     (λ i hit none. of_hit g.L.Letters.formed g.L.Letters.letters g.met.L.Letters.laws set.options c.new-query.result set.filter c.args.path.now c.new-query.ensures c.requires.formed (c.tries_all.ensures c.if-tries_all.false) set.patterns.items set.covered i hit none)
-    _ c.loop-places.found.items (ap (key_lists c.new-query.result before.0) (c.in_default.ensures before.0 before.1.0)) before.1.1
+    _ c.loop-places.found.items (ap (key_lists c.new-query.result) c.in_default.ensures) c.loop-places.invariant
