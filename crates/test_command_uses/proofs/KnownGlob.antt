@@ -49,7 +49,7 @@ use Rattle.names_commands.specs.declared.option.NamesOption.TheVariants as optio
 use Rattle.test_command_uses.specs.OneFile.{usual}
 use Rattle.test_command_uses.specs.OneGlob.{IsChosenBy, choosing, unix_options}
 use Rattle.test_command_uses.proofs.GivenWords.{OneValue, OneWord, no_end, none_taken, operand_taken}
-use Rattle.test_command_uses.proofs.KnownIgnore.{first, later, not_wasm, not_windows}
+use Rattle.test_command_uses.proofs.LineWords.{first, later, not_wasm, not_windows}
 use Rattle.test_command_uses.proofs.KnownLists.{is_usual_list}
 use Rattle.test_command_uses.proofs.KnownNames.{all_whole, one_ended}
 use Rattle.test_command_uses.proofs.KnownWhy.{Reasons, is_why, none_before}

@@ -42,7 +42,8 @@ use Rattle.os_args.specs.Views.{fault_of}
 use Rattle.list_programs.specs.Arguments.{AreGiven, HasOption, operands_of}
 use Rattle.test_command_uses.specs.OneFile.{IsExplainedBy, IsReasonOf, explaining, only, usual}
 use Rattle.test_command_uses.proofs.GivenWords.{OneValue, OneWord, are_asking, no_fault_of}
-use Rattle.test_command_uses.proofs.KnownIgnore.{at_top, first, given_of, has_operands, is_case, is_unix, is_usual, later, no_help, no_pattern_files, no_patterns, no_version, not_wasm, not_windows, one_file, only_read, states_one, usual_list}
+use Rattle.test_command_uses.proofs.LineWords.{first, later, not_wasm, not_windows}
+use Rattle.test_command_uses.proofs.GivenIgnore.{at_top, given_of, has_operands, is_case, is_unix, is_usual, no_help, no_pattern_files, no_patterns, no_version, one_file, only_read, states_one, usual_list}
 use Rattle.test_command_uses.proofs.KnownNames.{all_whole, one_ended}
 
 not_list : codes "why" ≡ codes "list" → ⊥

@@ -1,4 +1,5 @@
 pub mod CommonPaths
+pub mod GivenIgnore
 pub mod GivenPaths
 pub mod GivenWords
 pub mod KnownGlob
@@ -7,6 +8,8 @@ pub mod KnownLists
 pub mod KnownNames
 pub mod KnownPaths
 pub mod KnownWhy
+pub mod LineWords
 pub mod Requested
 pub mod TurnsEnded
 pub mod UnreadArchives
+pub mod WrittenIgnore

@@ -8,12 +8,15 @@
 mod archives;
 mod arguments;
 mod choosing;
+mod filtering;
 mod ignoring;
+mod joining;
+mod listing;
 mod marks;
-mod names;
 mod paths;
 mod plans;
 mod programs;
+mod requests;
 mod runs;
 mod words;
 
@@ -22,14 +25,12 @@ pub use arguments::{
     last_limit, only_operand, options_of_names, patterns_of_options, requests_help,
 };
 pub use choosing::chosen;
+pub use filtering::{filtered, picks_excluded};
 pub use ignoring::{OneFile, left_out, left_out_in_either_case, unread};
+pub use joining::{empty_line, first_names_again, names_again, returned_line, unended_line};
+pub use listing::{check_one, escape_of, line_before, line_of, unended_name};
 pub use marks::{
     closed_by_a_flush, closed_by_a_write, closed_by_no_bytes, marked_by_no_bytes, unmarked,
-};
-pub use names::{
-    check_one, empty_line, ends, escape_of, excluded_globs, filtered, first_names_again,
-    known_request, line_before, line_of, list_of_two, names_again, pattern_files, picks_excluded,
-    returned_line, unended_line, unended_name,
 };
 pub use paths::{
     answered, begins_with, components_of, joined_one, kept_below, kept_separator, line_with_nul,
@@ -42,5 +43,6 @@ pub use programs::{
     paths_without_arguments, silent_where_closed, statuses, unreported, with_arguments, with_words,
     without_arguments,
 };
+pub use requests::{ends, excluded_globs, known_request, list_of_two, pattern_files};
 pub use runs::{faults_match_marks, run_once, split_at_nothing};
 pub use words::{known_words, splits_at_nothing, too_many_words};

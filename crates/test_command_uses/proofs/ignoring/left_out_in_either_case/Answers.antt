@@ -1,6 +1,6 @@
 use Rattle.std.proofs.Common.{true}
 use Rattle.program_frame.specs.Ended.{outcome_of}
-use Rattle.test_command_uses.proofs.KnownIgnore.{program_written}
+use Rattle.test_command_uses.proofs.WrittenIgnore.{program_written}
 use Rattle.test_command_uses.proofs.Requested.{of_run}
 use Rattle.test_command_uses.proofs.ignoring.left_out_in_either_case.Goals as goal
 

@@ -1,6 +1,6 @@
 use Rattle.std.proofs.Common.{false}
 use Rattle.program_frame.specs.Ended.{outcome_of}
-use Rattle.test_command_uses.proofs.KnownIgnore.{program_unended}
+use Rattle.test_command_uses.proofs.WrittenIgnore.{program_unended}
 use Rattle.test_command_uses.proofs.Requested.{of_run}
 use Rattle.test_command_uses.proofs.ignoring.unended_by_program.Goals as goal
 

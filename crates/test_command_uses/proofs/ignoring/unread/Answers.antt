@@ -1,7 +1,7 @@
 use Rattle.std.proofs.Common.{false}
 use Rattle.program_frame.specs.Ended.{outcome_of}
 use Rattle.program_frame.specs.Marked.{marked_inner}
-use Rattle.test_command_uses.proofs.KnownIgnore.{end_of, status_unread}
+use Rattle.test_command_uses.proofs.WrittenIgnore.{end_of, status_unread}
 use Rattle.test_command_uses.proofs.Requested.{of_run}
 use Rattle.test_command_uses.proofs.ignoring.unread.Goals as goal
 

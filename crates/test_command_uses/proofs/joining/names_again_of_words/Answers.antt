@@ -1,0 +1,10 @@
+use Rattle.std.proofs.Common.{refl}
+use Rattle.std.proofs.lemmas.Result.{on_ok_weaker}
+use Rattle.test_command_uses.proofs.joining.names_again_of_words.Goals as goal
+
+pub returns : goal.returns
+returns g c =
+    let same = c.names_come_back_from_words.ensures.same c.args.list c.args.list c.args.names.now c.args.lines.now in
+    on_ok_weaker c.run_over.result
+    (λ written. (written.0, (same written.0 refl c.requires.listed written.1.0, written.1.1)))
+    c.run_over.ensures.written
