@@ -3,9 +3,9 @@
 Each tree has directories and files three levels deep, a .gitignore at the top, and others below it. Their lines have
 everything that git's document names: blanks and tabs at a line's end, `\\ `, `#`, `!`, slashes in all positions, `*`,
 `**`, `?`, classes, backslashes, carriage returns, NULs, a byte order mark, bytes that aren't text. Many lines are made
-of names in the tree, so that they match. `git check-ignore -v -n --no-index` runs on each path of a tree, with no other
-ignore file: 5,000 paths. A second file has what git prints with `core.ignorecase`, for
-5,000 paths too. There each letter of a name or a line is small or capital by chance, and more classes have letters.
+of names in the tree, so that they match. `git check-ignore -v -n --no-index` runs on the top of each tree and on each
+path in it, with no other ignore file: 5,000 paths. A second file has what git prints with `core.ignorecase`, for 5,000
+paths too. There each letter of a name or a line is small or capital by chance, and more classes have letters.
 """
 
 import os
@@ -109,17 +109,18 @@ def ask_git(top: bytes, paths: list[bytes], folds: bool) -> Iterator[tuple[bytes
 
 
 def rows_of(room: Path, number: int, folds: bool) -> Iterator[str]:
-    """Yields a row of a result file for each path of a tree."""
+    """Yields a row of a result file for the top of a tree, whose path is empty and for git `.`, and for each path in it."""
     top = os.fsencode(room / f"tree{number}")
     paths, files = make_files(top, lambda path: True, folds)
     sources = {os.path.join(directory, b".gitignore"): index for index, (directory, _) in enumerate(files)}
     given = ",".join(f"{directory.hex() or '-'}:{content.hex() or '-'}" for directory, content in files)
-    for (path, is_dir), reason in zip(paths, ask_git(top, [path for path, _ in paths], folds)):
+    asked = [(b"", False), (b"", True), *paths]
+    for (path, is_dir), reason in zip(asked, ask_git(top, [path or b"." for path, _ in asked], folds)):
         answer = "-"
         if reason:
             source, line, pattern = reason
             answer = f"{sources[source]}:{'w' if pattern.startswith(b'!') else 'i'}{line.decode()}"
-        yield "\t".join([given, path.hex(), "01"[is_dir], answer])
+        yield "\t".join([given, path.hex() or "-", "01"[is_dir], answer])
 
 
 def answer_file(seed: str, room: Path, folds: bool) -> Path:

@@ -1,5 +1,5 @@
 -- Which paths a line matches (gitignore, "PATTERN FORMAT").
-use Rattle.std.specs.Prelude.{◌≡◌, ℕ, Bool, true, false, map, List, ◌++◌}
+use Rattle.std.specs.Prelude.{◌≡◌, ◌<◌, ◌||◌, ℕ, Bool, true, false, map, length, List, ◌++◌}
 use Rattle.std.specs.Char.{to_ascii_lowercase}
 use Rattle.wildcards.specs.declared.options.Options.{Options}
 use Rattle.wildcards.specs.declared.part.Part.{Part}
@@ -30,8 +30,9 @@ module _ {A : Type 0} where
     pub joined : IsAfter folds literal text rest
     pub matches : Matches by_slashes pattern rest
 
-  -- the line matches the path, which may be a directory
+  -- the line matches the path, which may be a directory. A line with a slash, at its end or elsewhere, doesn't match the empty path, which is the directory of its file: git's dir.c requires a path that is longer (match_pathname), and takes the top for no directory (resolve_dtype)
   pub record LineMatches (line : Line A) (path : List ℕ) (is_dir : Bool) : Type 0 where
+    pub below : (line.anchored || line.directories) ≡ true → 0 < length path
     pub directories : line.directories ≡ true → is_dir ≡ true
     pub target : List ℕ
     pub target_is : IsTarget line.anchored path target

@@ -185,7 +185,8 @@ impl<A: Allocator + Copy> Ignore<A> {
     /// directory above the path, from the top, that is ignored hides all that is in it, whatever
     /// later lines match. The line that ignores this directory is returned. If there is none, the
     /// last line that matches the path decides. A directory that is taken in doesn't take in what
-    /// is in it.
+    /// is in it. The empty path is the top of the tree. As in git, a line such as `*` may decide it,
+    /// and a line with a slash doesn't.
     ///
     /// ```
     /// use os_ignore::{Ignore, Verdict};

@@ -1,5 +1,5 @@
 //! Which line decides a path.
-ghost use Rattle.std.specs.Prelude.{◌≡◌, ◌↔◌, ◌<◌, ◌++◌, List, ℕ, [], length, true, IsTrue, MatchOption};
+ghost use Rattle.std.specs.Prelude.{◌≡◌, ◌↔◌, ◌<◌, ◌++◌, ◌||◌, List, ℕ, [], length, true, IsTrue, MatchOption};
 ghost use Rattle.std.specs.List.{HoldsAt};
 ghost use Rattle.memchr.specs.Find.{is_byte3};
 ghost use Rattle.wildcards.specs.Match.{Matches};
@@ -149,11 +149,21 @@ fn rest_below<'a>(directory: &[u8], path: &'a [u8]) -> &'a [u8]
 }
 
 impl<A: Allocator> Line<A> {
+    /// Whether it has a slash, at its end or elsewhere.
+    fn has_slash(&self) -> bool
+        ensures { result ≡ (self.now.anchored || self.now.directories) }
+    {
+        self.anchored || self.directories
+    }
+
     /// Whether it matches the path, whose last component this is.
     fn matches(&self, path: &[u8], name: &[u8], is_dir: bool) -> bool
         requires { IsLastComponent path.now name.now }
         ensures { IsTrue result ↔ LineMatches self.now path.now is_dir }
     {
+        if path.is_empty() && self.has_slash() {
+            return false;
+        }
         if self.directories && !is_dir {
             return false;
         }

@@ -123,6 +123,7 @@ module _ {A : Type 0} where
               let name : m.target ≡ b ∷ bs = subst (λ z. IsAfter z line.literal.items m.target m.matches.rest) exact m.matches.joined ∙ ap (λ z. z ++ m.matches.rest) literal ∙ pattern.0 m.matches.rest m.matches.matches in
               subst (IsLastComponent path) name (subst (λ z. IsTarget z path m.target) anchored m.target_is),
           λ m. record {
+            below = λ e. let never : false ≡ true = sym (ap (λ z. z || line.directories) anchored ∙ same.1.0) ∙ e in absurd cc;
             directories = λ e. let never : false ≡ true = sym same.1.0 ∙ e in absurd cc;
             target = b ∷ bs;
             target_is = subst (λ z. IsTarget z path (b ∷ bs)) (sym anchored) m;

@@ -1,5 +1,5 @@
 -- A line has one meaning, and a line that says nothing has none.
-use Rattle.std.proofs.Common.{◌≡◌, ℕ, cond, Bool, true, false, List, [], ◌∷◌, ◌++◌, refl, sym, ap, ◌∙◌, subst}
+use Rattle.std.proofs.Common.{◌≡◌, ◌||◌, ℕ, cond, Bool, true, false, List, [], ◌∷◌, ◌++◌, refl, sym, ap, ◌∙◌, subst}
 use Rattle.std.specs.List.{AllByRecursion}
 use Rattle.std.proofs.lemmas.List.{same_from_push}
 use Rattle.os_ignore.specs.declared.letter.Letter.{Letter}
@@ -79,6 +79,7 @@ module _ {A : Type 0} (folds : Bool) where
   -- lines of one body match the same paths
   body_matches : (a b : Line A) (body : List Letter) → a.directories ≡ b.directories → a.folds ≡ b.folds → a.anchored ≡ has_slash body → b.anchored ≡ has_slash body → a.literal.items ≡ literal_prefix folds (strip_first 0x2F body).1 → b.literal.items ≡ literal_prefix folds (strip_first 0x2F body).1 → IsPattern folds (after_literal (strip_first 0x2F body).1) a.pattern.items → IsPattern folds (after_literal (strip_first 0x2F body).1) b.pattern.items → (path : List ℕ) (is_dir : Bool) → LineMatches a path is_dir → LineMatches b path is_dir
   body_matches a b body d f s t l m p q path is_dir h = record {
+    below = λ e. h.below (ap (λ z. z || a.directories) (s ∙ sym t) ∙ ap (λ z. b.anchored || z) d ∙ e);
     directories = λ e. h.directories (d ∙ e);
     target = h.target;
     target_is = subst (λ z. IsTarget z path h.target) (s ∙ sym t) h.target_is;

@@ -1,5 +1,5 @@
 -- What is left of a text after what it begins with.
-use Rattle.std.proofs.Common.{◌≡◌, ◌↔◌, ℕ, Bool, true, false, arith, Option, Some, None, take, drop, nat_eq, length, map, List, [], ◌∷◌, ◌++◌, refl, sym, ap, ◌∙◌, subst}
+use Rattle.std.proofs.Common.{◌≡◌, ◌↔◌, ◌<◌, ◌||◌, ℕ, Bool, true, false, arith, Option, Some, None, take, drop, nat_eq, length, map, List, [], ◌∷◌, ◌++◌, refl, sym, ap, ◌∙◌, subst}
 use Rattle.std.specs.Prelude.{MatchOption}
 use Rattle.std.specs.Char.{to_ascii_lowercase}
 use Rattle.std.specs.List.{insert}
@@ -83,9 +83,9 @@ one_target : (anchored : Bool) (path a b : List ℕ) → IsTarget anchored path 
 one_target true path a b k l = k ∙ sym l
 one_target false path a b k l = one_last path a b k l
 
-pub line_matches : {A : Type 0} (line : Line A) (path target : List ℕ) (is_dir : Bool) → (line.directories ≡ true → is_dir ≡ true) → IsTarget line.anchored path target → MatchesText line.folds line.literal.items line.pattern.items target ↔ LineMatches line path is_dir
-line_matches line path target is_dir d t = (
-  λ m. record { directories = d; target = target; target_is = t; matches = m },
+pub line_matches : {A : Type 0} (line : Line A) (path target : List ℕ) (is_dir : Bool) → ((line.anchored || line.directories) ≡ true → 0 < length path) → (line.directories ≡ true → is_dir ≡ true) → IsTarget line.anchored path target → MatchesText line.folds line.literal.items line.pattern.items target ↔ LineMatches line path is_dir
+line_matches line path target is_dir b d t = (
+  λ m. record { below = b; directories = d; target = target; target_is = t; matches = m },
   λ m. subst (MatchesText line.folds line.literal.items line.pattern.items) (one_target line.anchored path m.target target m.target_is t) m.matches,
 )
 
