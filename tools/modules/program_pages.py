@@ -17,7 +17,7 @@ PLATFORMS = "unix windows wasm"
 TABLES = ROOT / "docs" / "programs"
 STATUSES = {
     0: "success",
-    1: "invalid input; a message has the number of the first invalid item, counted from 1",
+    1: "invalid input; a message has the number of the first invalid item, counted from 1; without a message: nothing printed, with `names --exit-status`",
     2: "usage, or an invalid pattern",
     3: "out of memory",
     4: "a read or write failed, or a file can't be read; no message if the reader closed the pipe",

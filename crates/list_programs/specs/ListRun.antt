@@ -1,5 +1,5 @@
 -- What a run over a list writes for the bytes that its reader had left, as far as they are known.
-use Rattle.std.specs.Prelude.{◌≡◌, ◌≢◌, ◌⊎◌, ℕ, ◌+◌, ◌^◌, ◌≤◌, List, [], ◌++◌, length, Option, IfSome, IfErr, OnOk, Result, Ok, Err, ⊤}
+use Rattle.std.specs.Prelude.{◌≡◌, ◌≢◌, ◌⊎◌, ℕ, ◌+◌, ◌^◌, ◌≤◌, Bool, true, false, List, [], ◌∷◌, ◌++◌, length, Option, None, Some, IfSome, IfErr, OnOk, Result, Ok, Err, ⊤}
 use Rattle.std.specs.List.{AllByRecursion}
 use Rattle.std.specs.Io.KnownBytes.{Appends, Consumes, IsAtEnd}
 use Rattle.program_frame.specs.Written.{AppendsBeginning}
@@ -9,6 +9,15 @@ use Rattle.list_programs.specs.declared.fault.ListFault.TheVariants.{Rejected, T
 use Rattle.list_programs.specs.Items.{Entry, items_of, texts_of}
 use Rattle.list_programs.specs.Rules.{ListRules, AreIn, IsEntry}
 use Rattle.list_programs.specs.Reading.{State, Reads, Stops}
+
+-- whether a text has a byte
+abbrev pub has_some : List ℕ → Bool
+has_some [] = false
+has_some (byte ∷ more) = true
+
+-- the contents grew by a text, and this is whether it has a byte
+abbrev pub WritesSome : Bool → Option (List ℕ) → Option (List ℕ) → Type 0
+WritesSome wrote old new = (text : List ℕ) × (Appends old new text × (wrote ≡ has_some text))
 
 -- nothing has been read
 abbrev pub start : State
@@ -83,3 +92,18 @@ answer_of fault (Err why) = Err (fault why)
 -- the result is that of a run over the list
 abbrev pub Runs : {F X : Type 0} → ListRules F → (ListFault F → X) → Option (List ℕ) → Option (List ℕ) → Option (List ℕ) → Option (List ℕ) → Result ⊤ X → Type 0
 Runs list fault input left old new answer = (ran : Result ⊤ (ListFault _)) × (IsRun list input left old new ran × (answer ≡ answer_of fault ran))
+
+-- the result where something was written, or nothing: this fault, if one is given for that
+abbrev pub ended_by : {X : Type 0} → Option X → Bool → Result ⊤ X
+ended_by None wrote = Ok tt
+ended_by (Some why) true = Ok tt
+ended_by (Some why) false = Err why
+
+-- the result after this outcome of a run by which the contents grew, where nothing written may be a fault
+abbrev pub IsEndedBy : {X : Type 0} → Option X → Option (List ℕ) → Option (List ℕ) → Result ⊤ X → Result ⊤ X → Type 0
+IsEndedBy lacking old new (Ok done) answer = (wrote : Bool) × (WritesSome wrote old new × (answer ≡ ended_by lacking wrote))
+IsEndedBy lacking old new (Err why) answer = answer ≡ Err why
+
+-- this is done, and the result is its outcome, or this fault, if one is given, where nothing was written
+abbrev pub EndedBy : {X : Type 0} → Option X → (Option (List ℕ) → Option (List ℕ) → Option (List ℕ) → Option (List ℕ) → Result ⊤ X → Type 0) → Option (List ℕ) → Option (List ℕ) → Option (List ℕ) → Option (List ℕ) → Result ⊤ X → Type 0
+EndedBy lacking Done input left old new answer = (ran : Result ⊤ _) × (Done input left old new ran × IsEndedBy lacking old new ran answer)

@@ -1,14 +1,15 @@
 //! The outcomes of a program for lists: that of a run over a list, and that of writing a text such
 //! as its help.
 ghost use Rattle.std.specs.Prelude.{◌≡◌, ◌≢◌, ◌↔◌, true, false, Err, IfErr};
-ghost use Rattle.list_programs.specs.ListRun.{Runs};
+ghost use Rattle.std.specs.Option.{option_map};
+ghost use Rattle.list_programs.specs.ListRun.{EndedBy, Runs, ended_by};
 ghost use Rattle.program_frame.specs.Marked.{marked_inner, has_failed};
 ghost use Rattle.list_programs.specs.ProgramFault.{EndsRunOf};
 ghost use Rattle.list_programs.specs.Rules.{passing};
 ghost use Rattle.program_frame.specs.Written.{WritesText};
 ghost use Rattle.program_frame.specs.declared.fault.Failure.{Failure};
 ghost use Rattle.list_programs.specs.declared.fault.ListFault.{ListFault};
-ghost use Rattle.list_programs.specs.declared.program_fault.Fault.TheVariants.{List as OfList};
+ghost use Rattle.list_programs.specs.declared.program_fault.Fault.TheVariants.{List as OfList, Words};
 
 use crate::fault::ListFault;
 use crate::program_fault::Fault;
@@ -26,10 +27,11 @@ use std::io::{Read, Write};
 ///
 /// # Errors
 ///
-/// [`Fault::List`] with the error of [`run`].
+/// [`Fault::List`] with the error of [`run`]. If nothing was written, [`Fault::Words`] with `none`,
+/// where one is given.
 ///
 /// ```
-/// use names_commands::fault::Fault;
+/// use names_commands::fault::{CommandFault, Fault};
 /// use names_commands::task::{OnPlatform, Settings, Task};
 /// use os_str_bytes::Unix;
 /// use list_programs::answers::run_list;
@@ -38,29 +40,50 @@ use std::io::{Read, Write};
 /// let mut taken = Vec::new(alloc);
 /// let (mut reader, mut writer) = (Marked::new(b"a\0".as_slice()), Marked::new(&mut taken));
 /// let mut listing = OnPlatform::<Unix>::new(Settings::new(Task::ListAll, 255));
-/// let ended: Result<(), Fault> = run_list(alloc, &mut listing, &mut reader, &mut writer);
+/// let none = Some(CommandFault::NoOutput);
+/// let ended: Result<(), Fault> = run_list(alloc, &mut listing, none, &mut reader, &mut writer);
 /// assert!(rt; ended.is_ok());
+/// // all has been read
+/// let ended = run_list(alloc, &mut listing, none, &mut reader, &mut writer);
+/// assert!(rt; matches!(ended, Err(Fault::Words(CommandFault::NoOutput))));
 /// assert_eq!(rt; taken.as_slice(), b"a\n".as_slice());
 /// ```
-pub fn run_list<T: ListTask, U, A: Allocator, R: Read, W: Write>(
+pub fn run_list<T: ListTask, U: Copy, A: Allocator, R: Read, W: Write>(
     alloc: A,
     task: &mut T,
+    none: Option<U>,
     reader: &mut Marked<R>,
     writer: &mut Marked<W>,
 ) -> Result<(), Fault<T::Rejection, U>>
     requires reader_unmarked { has_failed reader.old ≡ false }
     requires writer_unmarked { has_failed writer.old ≡ false }
-    ensures run { Runs (T.rules (T.plan task.old)) OfList (R.remaining (marked_inner reader.old))
-        (R.remaining (marked_inner reader.new)) (W.contents (marked_inner writer.old))
-        (W.contents (marked_inner writer.new)) result }
+    ensures run { EndedBy (option_map Words none) (Runs (T.rules (T.plan task.old)) OfList)
+        (R.remaining (marked_inner reader.old)) (R.remaining (marked_inner reader.new))
+        (W.contents (marked_inner writer.old)) (W.contents (marked_inner writer.new)) result }
     ensures read { (result ≡ Err (Fault.List (ListFault.Run Failure.Read)))
         ↔ (has_failed reader.new ≡ true) }
     ensures write { (result ≡ Err (Fault.List (ListFault.Run Failure.Write)))
         ↔ (has_failed writer.new ≡ true) }
 {
     match run(alloc, task, reader, writer) {
-        Ok(()) => Ok(()),
+        Ok(wrote) => ended_by(none, wrote),
         Err(fault) => Err(Fault::List(fault)),
+    }
+}
+
+/// Returns the outcome of a run that wrote something or nothing, which may be a fault.
+fn ended_by<F, U: Copy>(none: Option<U>, wrote: bool) -> Result<(), Fault<F, U>>
+    ensures { result ≡ ended_by (option_map Words none) wrote }
+{
+    match none {
+        None => Ok(()),
+        Some(why) => {
+            if wrote {
+                Ok(())
+            } else {
+                Err(Fault::Words(why))
+            }
+        }
     }
 }
 
@@ -108,7 +131,7 @@ pub fn run_list_with<T: ListTask, N: Rejections<T::Rejection>, U, A: Allocator, 
         ↔ (has_failed writer.new ≡ true) }
 {
     match run_with(alloc, task, rejections, reader, writer) {
-        Ok(()) => Ok(()),
+        Ok(_) => Ok(()),
         Err(fault) => Err(Fault::List(fault)),
     }
 }

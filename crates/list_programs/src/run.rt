@@ -1,5 +1,5 @@
 //! One run over a list: it reads items, makes their output and writes it, block by block.
-ghost use Rattle.std.specs.Prelude.{◌≡◌, ◌≢◌, ◌↔◌, ◌+◌, ◌<◌, ◌≤◌, ◌^◌, ◌++◌, [], length, ℕ, List, true, false, OnOk, OnErr, IfOk, IfErr};
+ghost use Rattle.std.specs.Prelude.{◌≡◌, ◌≢◌, ◌↔◌, ◌+◌, ◌<◌, ◌≤◌, ◌^◌, ◌||◌, ◌++◌, [], length, ℕ, List, true, false, OnOk, OnErr, IfOk, IfErr};
 ghost use Rattle.std.specs.Io.KnownBytes.{Appends, IsAtEnd};
 ghost use Rattle.program_frame.specs.declared.fault.Failure.{Failure};
 ghost use Rattle.list_programs.specs.declared.fault.ListFault.{ListFault};
@@ -7,7 +7,7 @@ ghost use Rattle.program_frame.specs.Marked.{marked_inner, has_failed};
 ghost use Rattle.program_frame.specs.Written.{AppendsBeginning};
 ghost use Rattle.list_programs.specs.Rules.{IsRejected, EndsRun, passing};
 ghost use Rattle.list_programs.specs.Reading.{HasBegun, IsEnded, Reads, Stops, Begins};
-ghost use Rattle.list_programs.specs.ListRun.{WritesOutput, WritesUpTo, WritesBeginning, Finishes, IsLast};
+ghost use Rattle.list_programs.specs.ListRun.{WritesOutput, WritesUpTo, WritesBeginning, WritesSome, Finishes, IsLast, has_some};
 
 use crate::fault::ListFault;
 use crate::reading::{read_block, write_at};
@@ -22,8 +22,17 @@ use std::io::{Read, Write};
 /// How many bytes are read at a time.
 const BLOCK: usize = 16384;
 
-/// Reads all items that the reader has, and writes the output for each, block by block. Both marks
-/// must be unset (test: [`Marked::failed`]).
+/// How far a run has come.
+#[derive(Clone, Copy)]
+struct Progress {
+    // how many items have ended
+    count: u64,
+    // whether something was written
+    wrote: bool,
+}
+
+/// Reads all items that the reader has, and writes the output for each, block by block. Returns
+/// whether the output has a byte. Both marks must be unset (test: [`Marked::failed`]).
 ///
 /// The last item may lack the byte that ends it if [`ListTask::takes_unended`] allows that. After
 /// each block all of its output is written and flushed. Only the item that has begun and the output
@@ -50,7 +59,7 @@ const BLOCK: usize = 16384;
 /// let mut taken = Vec::new(alloc);
 /// let (mut reader, mut writer) = (Marked::new(names), Marked::new(&mut taken));
 /// let mut listing = OnPlatform::<Unix>::new(Settings::new(Task::ListAll, 255));
-/// assert!(rt; run(alloc, &mut listing, &mut reader, &mut writer) == Ok(()));
+/// assert!(rt; run(alloc, &mut listing, &mut reader, &mut writer) == Ok(true));
 /// assert_eq!(rt; taken.as_slice(), b"a\\u000Ab\n\\xFF\nc\n".as_slice());
 /// ```
 pub fn run<T: ListTask, A: Allocator, R: Read, W: Write>(
@@ -58,7 +67,7 @@ pub fn run<T: ListTask, A: Allocator, R: Read, W: Write>(
     task: &mut T,
     reader: &mut Marked<R>,
     writer: &mut Marked<W>,
-) -> Result<(), ListFault<T::Rejection>>
+) -> Result<bool, ListFault<T::Rejection>>
     requires reader_unmarked { has_failed reader.old ≡ false }
     requires writer_unmarked { has_failed writer.old ≡ false }
 
@@ -66,6 +75,8 @@ pub fn run<T: ListTask, A: Allocator, R: Read, W: Write>(
     ensures all_read { OnOk result (IsAtEnd (R.remaining (marked_inner reader.new))) }
     ensures written { OnOk result (WritesOutput (T.rules (T.plan task.old))
         (R.remaining (marked_inner reader.old)) (W.contents (marked_inner writer.old))
+        (W.contents (marked_inner writer.new))) }
+    ensures some { IfOk result (λ wrote. WritesSome wrote (W.contents (marked_inner writer.old))
         (W.contents (marked_inner writer.new))) }
 
     // What was written before a fault.
@@ -85,9 +96,10 @@ pub fn run<T: ListTask, A: Allocator, R: Read, W: Write>(
     run_with(alloc, task, &mut Stop, reader, writer)
 }
 
-/// Reads all items that the reader has, and writes the output for each, as [`run`] does. What
-/// becomes of an item that is rejected is left to `rejections`: where it passes over it, nothing is
-/// written for the item, and the run goes on. Both marks must be unset (test: [`Marked::failed`]).
+/// Reads all items that the reader has, and writes the output for each, as [`run`] does. Returns
+/// whether the output has a byte. What becomes of an item that is rejected is left to `rejections`:
+/// where it passes over it, nothing is written for the item, and the run goes on. Both marks must be
+/// unset (test: [`Marked::failed`]).
 ///
 /// # Errors
 ///
@@ -117,7 +129,7 @@ pub fn run_with<T: ListTask, N: Rejections<T::Rejection>, A: Allocator, R: Read,
     rejections: &mut N,
     reader: &mut Marked<R>,
     writer: &mut Marked<W>,
-) -> Result<(), ListFault<T::Rejection>>
+) -> Result<bool, ListFault<T::Rejection>>
     requires reader_unmarked { has_failed reader.old ≡ false }
     requires writer_unmarked { has_failed writer.old ≡ false }
 
@@ -126,6 +138,8 @@ pub fn run_with<T: ListTask, N: Rejections<T::Rejection>, A: Allocator, R: Read,
     ensures written { OnOk result
         (WritesOutput (passing (N.passed rejections.new) (T.rules (T.plan task.old)))
         (R.remaining (marked_inner reader.old)) (W.contents (marked_inner writer.old))
+        (W.contents (marked_inner writer.new))) }
+    ensures some { IfOk result (λ wrote. WritesSome wrote (W.contents (marked_inner writer.old))
         (W.contents (marked_inner writer.new))) }
 
     // What was written before a fault.
@@ -144,12 +158,17 @@ pub fn run_with<T: ListTask, N: Rejections<T::Rejection>, A: Allocator, R: Read,
     ensures write { (result ≡ Err (ListFault.Run Failure.Write)) ↔ (has_failed writer.new ≡ true) }
 {
     let mut begun = Vec::new(&alloc);
-    let mut count = 0;
+    let mut so_far = Progress {
+        count: 0,
+        wrote: false,
+    };
     let mut total = 0;
     let mut piece = [0u8; BLOCK];
     loop {
         let size = match reader.read(&mut piece) {
-            Ok(0) => return finish::<T, N, &A, W>(&alloc, task, count, &begun, rejections, writer),
+            Ok(0) => {
+                return finish::<T, N, &A, W>(&alloc, task, so_far, &begun, rejections, writer);
+            }
             Ok(size) => size,
             Err(_) => return Err(ListFault::Run(Failure::Read)),
         };
@@ -159,44 +178,44 @@ pub fn run_with<T: ListTask, N: Rejections<T::Rejection>, A: Allocator, R: Read,
         total += size as u64;
         let block = &piece[..size];
         match write_block::<T, N, &A, W>(
-            &alloc, task, count, block, &mut begun, rejections, writer,
+            &alloc, task, so_far, block, &mut begun, rejections, writer,
         ) {
-            Ok(ended) => count = ended,
+            Ok(progress) => so_far = progress,
             Err(fault) => return Err(fault),
         }
     }
 }
 
-/// Reads a block, and writes the output for the items that end in it. It returns the number of
-/// items that have ended.
+/// Reads a block, and writes the output for the items that end in it. It returns how far the run has
+/// come then.
 fn write_block<T: ListTask, N: Rejections<T::Rejection>, A: Allocator + Copy, W: Write>(
     alloc: A,
     task: &mut T,
-    count: u64,
+    so_far: Progress,
     block: &[u8],
     begun: &mut Vec<u8, A>,
     rejections: &mut N,
     writer: &mut Marked<W>,
-) -> Result<u64, ListFault<T::Rejection>>
-    requires counted { count + length begun.old.items + length block.now + 1 < 2 ^ 64 }
+) -> Result<Progress, ListFault<T::Rejection>>
+    requires counted { so_far.count + length begun.old.items + length block.now + 1 < 2 ^ 64 }
     requires begun { HasBegun (passing (N.passed rejections.old) (T.rules (T.plan task.old)))
         begun.old.items }
     requires unmarked { has_failed writer.old ≡ false }
-    ensures ok { IfOk result (λ ended. (text : List ℕ)
+    ensures ok { IfOk result (λ progress. (text : List ℕ)
         × (Reads (passing (N.passed rejections.new) (T.rules (T.plan task.old)))
-        (record { begun = begun.old.items; count = count; output = [] }) block.now
-        (record { begun = begun.new.items; count = ended; output = text })
-        × Appends (W.contents (marked_inner writer.old)) (W.contents (marked_inner writer.new))
-        text)) }
+        (record { begun = begun.old.items; count = so_far.count; output = [] }) block.now
+        (record { begun = begun.new.items; count = progress.count; output = text })
+        × (Appends (W.contents (marked_inner writer.old)) (W.contents (marked_inner writer.new))
+        text × (progress.wrote ≡ (so_far.wrote || has_some text))))) }
     ensures stopped { IfErr result (λ fault. fault ≢ ListFault.Run Failure.Write → (text : List ℕ)
         × (((more : List ℕ) → Stops (passing (N.passed rejections.new) (T.rules (T.plan task.old)))
-        (record { begun = begun.old.items; count = count; output = [] }) (block.now ++ more) text
+        (record { begun = begun.old.items; count = so_far.count; output = [] }) (block.now ++ more) text
         fault)
         × Appends (W.contents (marked_inner writer.old)) (W.contents (marked_inner writer.new))
         text)) }
     ensures beginning { result ≡ Err (ListFault.Run Failure.Write) → (text : List ℕ)
         × (((more : List ℕ) → Begins (passing (N.passed rejections.new) (T.rules (T.plan task.old)))
-        (record { begun = begun.old.items; count = count; output = [] }) (block.now ++ more) text)
+        (record { begun = begun.old.items; count = so_far.count; output = [] }) (block.now ++ more) text)
         × AppendsBeginning (W.contents (marked_inner writer.old))
         (W.contents (marked_inner writer.new)) text) }
     ensures no_read { result ≢ Err (ListFault.Run Failure.Read) }
@@ -206,32 +225,37 @@ fn write_block<T: ListTask, N: Rejections<T::Rejection>, A: Allocator + Copy, W:
     ensures plan { T.plan task.new ≡ T.plan task.old }
 {
     let mut output = Vec::new(alloc);
+    let count = so_far.count;
     let ended = read_block::<T, N, A>(alloc, task, count, block, begun, rejections, &mut output);
-    match write_output(writer, &output) {
-        Ok(()) => ended,
+    match write_output(writer, so_far.wrote, &output) {
+        Ok(wrote) => match ended {
+            Ok(count) => Ok(Progress { count, wrote }),
+            Err(fault) => Err(fault),
+        },
         Err(fault) => Err(fault),
     }
 }
 
-/// Writes what is to be written for the item that has begun where the input ends.
+/// Writes what is to be written for the item that has begun where the input ends. It returns whether
+/// something was written in the run.
 fn finish<T: ListTask, N: Rejections<T::Rejection>, A: Allocator + Copy, W: Write>(
     alloc: A,
     task: &mut T,
-    count: u64,
+    so_far: Progress,
     begun: &[u8],
     rejections: &mut N,
     writer: &mut Marked<W>,
-) -> Result<(), ListFault<T::Rejection>>
-    requires counted { count + 1 < 2 ^ 64 }
+) -> Result<bool, ListFault<T::Rejection>>
+    requires counted { so_far.count + 1 < 2 ^ 64 }
     requires begun { HasBegun (passing (N.passed rejections.old) (T.rules (T.plan task.old)))
         begun.now }
     requires unmarked { has_failed writer.old ≡ false }
-    ensures ok { OnOk result ((text : List ℕ)
+    ensures ok { IfOk result (λ wrote. (text : List ℕ)
         × (Finishes (passing (N.passed rejections.new) (T.rules (T.plan task.old))) begun.now text
-        × Appends (W.contents (marked_inner writer.old)) (W.contents (marked_inner writer.new))
-        text)) }
+        × (Appends (W.contents (marked_inner writer.old)) (W.contents (marked_inner writer.new))
+        text × (wrote ≡ (so_far.wrote || has_some text))))) }
     ensures stopped { IfErr result (λ fault. fault ≢ ListFault.Run Failure.Write
-        → IsRejected (T.rules (T.plan task.old)) (count + 1) begun.now fault) }
+        → IsRejected (T.rules (T.plan task.old)) (so_far.count + 1) begun.now fault) }
     ensures ended { IfErr result (λ fault. IsEnded (T.rules (T.plan task.old)) fault []) }
     ensures unchanged { IfErr result (λ fault. fault ≢ ListFault.Run Failure.Write
         → writer.new ≡ writer.old) }
@@ -245,24 +269,27 @@ fn finish<T: ListTask, N: Rejections<T::Rejection>, A: Allocator + Copy, W: Writ
     ensures ends { IfErr result (λ fault. EndsRun N.stops fault) }
 {
     if begun.is_empty() {
-        return Ok(());
+        return Ok(so_far.wrote);
     }
+    let number = so_far.count + 1;
     if !task.takes_unended() {
-        return Err(ListFault::Unended(count + 1, task.end()));
+        return Err(ListFault::Unended(number, task.end()));
     }
     let mut output = Vec::new(alloc);
-    match write_at::<T, N, A>(alloc, task, count + 1, begun, rejections, &mut output) {
-        Ok(()) => write_output(writer, &output),
+    match write_at::<T, N, A>(alloc, task, number, begun, rejections, &mut output) {
+        Ok(()) => write_output(writer, so_far.wrote, &output),
         Err(fault) => Err(fault),
     }
 }
 
-/// Writes all of the output, and flushes.
+/// Writes all of the output, and flushes. Returns whether something was written, before or now.
 fn write_output<F: Copy, W: Write>(
     writer: &mut Marked<W>,
+    wrote: bool,
     output: &[u8],
-) -> Result<(), ListFault<F>>
+) -> Result<bool, ListFault<F>>
     requires { has_failed writer.old ≡ false }
+    ensures some { IfOk result (λ now. now ≡ (wrote || has_some output.now)) }
     ensures written { OnOk result (Appends (W.contents (marked_inner writer.old))
         (W.contents (marked_inner writer.new)) output.now) }
     ensures fault { IfErr result (λ fault. fault ≡ ListFault.Run Failure.Write) }
@@ -274,7 +301,14 @@ fn write_output<F: Copy, W: Write>(
     ensures ends { IfErr result (λ fault. EndsRun ⊥ fault) }
 {
     match write_out(writer, output) {
-        Ok(()) => Ok(()),
+        Ok(()) => Ok(wrote_some(wrote, output)),
         Err(_) => Err(ListFault::Run(Failure::Write)),
     }
+}
+
+/// Whether something was written, before or with this output.
+fn wrote_some(wrote: bool, output: &[u8]) -> bool
+    ensures { result ≡ (wrote || has_some output.now) }
+{
+    if wrote { true } else { !output.is_empty() }
 }

@@ -128,6 +128,12 @@ TakesOption name.Why option.GlobsFrom = ⊥
 TakesOption name.Join option.GlobsFrom = ⊥
 TakesOption name.Check option.GlobsFrom = ⊥
 TakesOption name.Tar option.GlobsFrom = ⊥
+TakesOption name.List option.ExitStatus = Unit {0}
+TakesOption name.Filter option.ExitStatus = Unit {0}
+TakesOption name.Why option.ExitStatus = Unit {0}
+TakesOption name.Join option.ExitStatus = ⊥
+TakesOption name.Check option.ExitStatus = ⊥
+TakesOption name.Tar option.ExitStatus = ⊥
 
 -- the command takes the option, if this is one
 abbrev pub FitsOne : Name → Given NamesOption → Type 0
@@ -225,7 +231,7 @@ IsMax given max =
 abbrev pub IsListed : Line → ListOptions → Type 0
 IsListed given list = (max : ℕ) × (IsMax given max × AreStated option.Lines option.Unterminated max given list)
 
--- all that options and operands state: the command, how the list is written, the patterns, of which the first `plain` come before those of `--name`, the pattern files, the values of `--ignore`, whether the names are picked that don't match, whether patterns and files match without regard to case, and the patterns of names that are left out in any case
+-- all that options and operands state: the command, how the list is written, the patterns, of which the first `plain` come before those of `--name`, the pattern files, the values of `--ignore`, whether the names are picked that don't match, whether patterns and files match without regard to case, the patterns of names that are left out in any case, and whether it is a fault if nothing is written
 pub record Requested : Type 0 where
   pub command : Command
   pub list : ListOptions
@@ -236,6 +242,7 @@ pub record Requested : Type 0 where
   pub inverted : Bool
   pub case_insensitive : Bool
   pub excluded : List (List ℕ)
+  pub exit_status : Bool
 
 -- what a request states
 abbrev pub requested_of : {A : Type 0} → Request A → Requested
@@ -249,15 +256,16 @@ requested_of request = record {
   inverted = request.inverted;
   case_insensitive = request.case_insensitive;
   excluded = map string_bytes request.excluded.items;
+  exit_status = request.exit_status;
 }
 
 -- what states patterns that pick names: arguments, and files
 abbrev pub sources_of : Requested → List (List ℕ)
 sources_of requested = requested.globs ++ requested.pattern_files
 
--- these state the patterns, the pattern files, the ignore files, each in a directory of the tree, whether the other names are picked, whether case is disregarded, and the patterns of names that are left out
+-- these state the patterns, the pattern files, the ignore files, each in a directory of the tree, whether the other names are picked, whether case is disregarded, the patterns of names that are left out, and whether it is a fault if nothing is written
 abbrev pub StatesPicks : Line → Requested → Type 0
-StatesPicks given a = (ArePatterns given a.plain a.globs × AreValues option.GlobsFrom given a.pattern_files) × ((AreValues option.Ignore given a.files × AllByRecursion IsPlaced a.files) × ((IsTrue a.inverted ↔ HasOption option.Invert given) × ((IsTrue a.case_insensitive ↔ HasOption option.IgnoreCase given) × AreValues option.Exclude given a.excluded)))
+StatesPicks given a = (ArePatterns given a.plain a.globs × AreValues option.GlobsFrom given a.pattern_files) × ((AreValues option.Ignore given a.files × AllByRecursion IsPlaced a.files) × ((IsTrue a.inverted ↔ HasOption option.Invert given) × ((IsTrue a.case_insensitive ↔ HasOption option.IgnoreCase given) × (AreValues option.Exclude given a.excluded × (IsTrue a.exit_status ↔ HasOption option.ExitStatus given)))))
 
 -- these make up the request: help, wherever its option is; the version; or a command
 abbrev pub IsRequestFor : Line → Requested → Type 0
@@ -300,6 +308,7 @@ IsForPlatform os option.Invert = Unit {0}
 IsForPlatform os option.IgnoreCase = Unit {0}
 IsForPlatform os option.Exclude = Unit {0}
 IsForPlatform os option.GlobsFrom = Unit {0}
+IsForPlatform os option.ExitStatus = Unit {0}
 
 -- which option isn't for the command that is given, or for its platform
 pub record IsMisplaced (given : Line) (word where_to : List ℕ) : Type 0 where

@@ -1,5 +1,5 @@
 -- The text of each reason why an item or the words are rejected.
-use Rattle.std.specs.Prelude.{◌≡◌, ℕ, List, ◌++◌, codes, decimal}
+use Rattle.std.specs.Prelude.{◌≡◌, ℕ, Bool, true, false, List, [], ◌++◌, Option, None, Some, codes, decimal}
 use Rattle.glob_patterns.specs.ErrorText as glob
 use Rattle.std.specs.Fmt.Cut.{cut_to}
 use Rattle.std.specs.Fmt.InlineText.{inline_text}
@@ -15,7 +15,7 @@ use Rattle.tar_names.specs.FaultText as tar
 use Rattle.names_commands.specs.declared.fault.Rejection.{Rejection}
 use Rattle.names_commands.specs.declared.fault.Rejection.TheVariants.{NoString, BadEscape, NotCanonical, HasNul, HasNewline, EndsInReturn, EmptyLine, BadWords, BadArchive, NotFromTop}
 use Rattle.names_commands.specs.declared.fault.CommandFault.{CommandFault}
-use Rattle.names_commands.specs.declared.fault.CommandFault.TheVariants.{Unreadable, Misuse, Pattern, NoFile, Unread, NoPatternFile, UnreadPatternFile, LinePattern, LineNoString}
+use Rattle.names_commands.specs.declared.fault.CommandFault.TheVariants.{Unreadable, Misuse, Pattern, NoFile, Unread, NoPatternFile, UnreadPatternFile, LinePattern, LineNoString, NoOutput}
 
 -- what the program prints of the reason why an item is rejected
 abbrev pub rejection_text : Rejection → List ℕ
@@ -45,6 +45,7 @@ words_text (NoPatternFile number) = codes "pattern file " ++ (decimal number ++ 
 words_text (UnreadPatternFile number) = codes "pattern file " ++ (decimal number ++ codes ": read failed")
 words_text (LinePattern file line why lines) = line_text file line ++ (glob.error_text (glob_error.Pattern why) ++ inline_text lines)
 words_text (LineNoString file line error) = line_text file line ++ fault_text error
+words_text NoOutput = []
 
 -- the status that the program ends with then
 abbrev pub words_status : CommandFault → ℕ
@@ -57,6 +58,7 @@ words_status (NoPatternFile number) = 4
 words_status (UnreadPatternFile number) = 4
 words_status (LinePattern file line why lines) = 2
 words_status (LineNoString file line error) = 2
+words_status NoOutput = 1
 
 -- the fault has the text of the misuse, which is cut if it is longer than 400 bytes
 abbrev pub IsOfMisuse : misuse.Misuse → CommandFault → Type 0
@@ -69,3 +71,9 @@ IsOfMisuse why (NoPatternFile number) = ⊥
 IsOfMisuse why (UnreadPatternFile number) = ⊥
 IsOfMisuse why (LinePattern file line fault lines) = ⊥
 IsOfMisuse why (LineNoString file line error) = ⊥
+IsOfMisuse why NoOutput = ⊥
+
+-- what a run ends with that writes nothing, if that is a fault
+abbrev pub none_for : Bool → Option CommandFault
+none_for true = Some NoOutput
+none_for false = None

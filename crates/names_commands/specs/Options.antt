@@ -2,7 +2,7 @@
 use Rattle.std.specs.Prelude.{◌≡◌, ℕ, Bool, true, false, List, codes}
 use Rattle.os_args.specs.Word.{Kind, Long, LongBytes, Short, ShortBytes, Value}
 use Rattle.names_commands.specs.declared.option.NamesOption.{NamesOption}
-use Rattle.names_commands.specs.declared.option.NamesOption.TheVariants.{Help, Version, Max, Sh, ShLine, Lines, Unterminated, Empty, Glob, Name, Ignore, Invert, IgnoreCase, Exclude, GlobsFrom}
+use Rattle.names_commands.specs.declared.option.NamesOption.TheVariants.{Help, Version, Max, Sh, ShLine, Lines, Unterminated, Empty, Glob, Name, Ignore, Invert, IgnoreCase, Exclude, GlobsFrom, ExitStatus}
 
 -- the name of the option after `--`
 abbrev pub name_of : NamesOption → List ℕ
@@ -21,6 +21,7 @@ name_of Invert = codes "invert"
 name_of IgnoreCase = codes "ignore-case"
 name_of Exclude = codes "exclude"
 name_of GlobsFrom = codes "globs-from"
+name_of ExitStatus = codes "exit-status"
 
 -- the option as it is written
 abbrev pub word_of : NamesOption → List ℕ
@@ -39,6 +40,7 @@ word_of Invert = codes "--invert"
 word_of IgnoreCase = codes "--ignore-case"
 word_of Exclude = codes "--exclude"
 word_of GlobsFrom = codes "--globs-from"
+word_of ExitStatus = codes "--exit-status"
 
 -- this character after `-` is the option, too: h, V, v and i
 abbrev pub IsFlagOf : NamesOption → ℕ → Type 0
@@ -57,6 +59,7 @@ IsFlagOf Invert c = c ≡ 0x76
 IsFlagOf IgnoreCase c = c ≡ 0x69
 IsFlagOf Exclude c = ⊥
 IsFlagOf GlobsFrom c = ⊥
+IsFlagOf ExitStatus c = ⊥
 
 -- the argument is the option
 abbrev pub spelled : NamesOption → Kind → Type 0
@@ -83,3 +86,4 @@ has_value Invert = false
 has_value IgnoreCase = false
 has_value Exclude = true
 has_value GlobsFrom = true
+has_value ExitStatus = false

@@ -1,6 +1,7 @@
 -- The whole program, from the words after its name to its exit status.
 use Rattle.std.specs.Prelude.{◌≡◌, ◌⊎◌, ◌+◌, ◌∷◌, ◌++◌, ℕ, Bool, List, map, drop, Option, None, Some, IfSome, Result, Ok, Err, ⊤, length, take, codes}
 use Rattle.std.specs.List.{AllByRecursion}
+use Rattle.std.specs.Option.{option_map}
 use Rattle.std.specs.Io.KnownBytes.{Appends, IsAtEnd}
 use Rattle.std.specs.Fmt.InlineText.{inline_text}
 use Rattle.os_str_bytes.specs.EncodingError.{EncodingError}
@@ -18,14 +19,14 @@ use Rattle.list_programs.specs.Arguments.{AreGiven, HasFault}
 use Rattle.program_frame.specs.Files.{KnownFiles}
 use Rattle.list_programs.specs.declared.misuse.Misuse as misuse
 use Rattle.list_programs.specs.declared.misuse.Misuse.TheVariants.{Argument}
-use Rattle.names_commands.specs.Fault.{IsOfMisuse}
+use Rattle.names_commands.specs.Fault.{IsOfMisuse, none_for}
 use Rattle.names_commands.specs.Options.{has_value, spelled}
 use Rattle.program_frame.specs.Marked.{marked_inner}
 use Rattle.program_frame.specs.declared.marked.Marked.{Marked}
 use Rattle.program_frame.specs.Strings.{strings}
 use Rattle.program_frame.specs.declared.os.Os.{Os}
 use Rattle.program_frame.specs.Written.{AppendsBeginning, WritesText}
-use Rattle.list_programs.specs.ListRun.{Runs}
+use Rattle.list_programs.specs.ListRun.{EndedBy, Runs}
 use Rattle.program_frame.specs.declared.fault.Failure.TheVariants.{Memory, Read, Write}
 use Rattle.list_programs.specs.declared.fault.ListFault.{ListFault}
 use Rattle.list_programs.specs.declared.fault.ListFault.TheVariants.{Run}
@@ -38,7 +39,7 @@ use Rattle.list_programs.specs.declared.program_fault.Fault as program_fault
 use Rattle.list_programs.specs.declared.program_fault.Fault.TheVariants.{List as OfList, Words}
 use Rattle.names_commands.specs.declared.fault.Rejection.{Rejection}
 use Rattle.names_commands.specs.declared.fault.CommandFault.{CommandFault}
-use Rattle.names_commands.specs.declared.fault.CommandFault.TheVariants.{Unreadable, Misuse, Pattern, NoFile, Unread, NoPatternFile, UnreadPatternFile, LinePattern, LineNoString}
+use Rattle.names_commands.specs.declared.fault.CommandFault.TheVariants.{Unreadable, Misuse, Pattern, NoFile, Unread, NoPatternFile, UnreadPatternFile, LinePattern, LineNoString, NoOutput}
 use Rattle.names_commands.specs.declared.matching.Form.{Form}
 use Rattle.names_commands.specs.Caret.{IsPointed}
 use Rattle.names_commands.specs.Ignoring.{AreRead, IsFileIn, IsFirstUnread, needs_tree}
@@ -150,6 +151,7 @@ module _ (known : KnownFiles) (A : Type 0) where
   IsFileFault folds values (UnreadPatternFile number) = ⊥
   IsFileFault folds values (LinePattern file line why lines) = ⊥
   IsFileFault folds values (LineNoString file line error) = ⊥
+  IsFileFault folds values NoOutput = ⊥
 
   -- why ignore files can't be read: that, or that memory was refused
   abbrev pub IsFaultOf : Bool → List (List ℕ) → Fault → Type 0
@@ -191,11 +193,15 @@ module _ (known : KnownFiles) (A : Type 0) where
         ((why : Fault) × IsOfPicks (options_of os requested.case_insensitive) why × EndsAtOnce why input left old new answer)
         ⊎ ((written : List (List (List Mark))) × (excluded : List (List (List Mark))) × ArePicksWrittenOut (options_of os requested.case_insensitive) written × (AreWrittenOut p (options_of os requested.case_insensitive) requested.excluded excluded × RunsBut p shape requested.list requested.inverted requested.case_insensitive (IsChosen p (sources_of requested) (options_of os requested.case_insensitive) written) (IsMatched p (options_of os requested.case_insensitive) excluded) requested.files input left old new answer))
 
+    -- this is done, and where nothing is written, that is a fault if it was requested
+    abbrev pub WithStatus : Doing → Doing
+    WithStatus = EndedBy (option_map Words (none_for requested.exit_status))
+
     -- what is done with a list
     abbrev pub DoesWork : Os → Work → Doing
-    DoesWork os (Each what) input left old new answer = Runs (rules_of p (record { task = what; list = requested.list })) OfList input left old new answer
-    DoesWork os (Picked shape) input left old new answer = UnlessOutOfMemory (RunsPicked os shape) input left old new answer
-    DoesWork os Why input left old new answer = UnlessOutOfMemory (RunsReasons os) input left old new answer
+    DoesWork os (Each what) input left old new answer = WithStatus (Runs (rules_of p (record { task = what; list = requested.list })) OfList) input left old new answer
+    DoesWork os (Picked shape) input left old new answer = WithStatus (UnlessOutOfMemory (RunsPicked os shape)) input left old new answer
+    DoesWork os Why input left old new answer = WithStatus (UnlessOutOfMemory (RunsReasons os)) input left old new answer
     DoesWork os Tar input left old new answer = RunsTar p requested.list input left old new answer
 
   -- what a command does

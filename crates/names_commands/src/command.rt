@@ -46,6 +46,8 @@ pub struct Request<'a, A: Allocator = Global> {
     pub case_insensitive: bool,
     /// The patterns of `--exclude`. A name that one of them matches is left out in any case.
     pub excluded: Vec<String<A>, A>,
+    /// Whether a run that writes nothing ends with status 1.
+    pub exit_status: bool,
 }
 
 /// Why options and operands make up no request.
@@ -128,6 +130,7 @@ impl<'a, A: Allocator + Copy> Request<'a, A> {
         let inverted = has(given, NamesOption::Invert);
         let case_insensitive = has(given, NamesOption::IgnoreCase);
         let excluded = excluded_of(alloc, given)?;
+        let exit_status = has(given, NamesOption::ExitStatus);
         Ok(Request {
             command,
             list,
@@ -138,6 +141,7 @@ impl<'a, A: Allocator + Copy> Request<'a, A> {
             inverted,
             case_insensitive,
             excluded,
+            exit_status,
         })
     }
 
@@ -155,6 +159,7 @@ impl<'a, A: Allocator + Copy> Request<'a, A> {
             inverted: false,
             case_insensitive: false,
             excluded: Vec::new(alloc),
+            exit_status: false,
         }
     }
 }
@@ -227,6 +232,7 @@ impl Name {
             NamesOption::IgnoreCase => matches!(self, Name::List | Name::Filter | Name::Why),
             NamesOption::Exclude => matches!(self, Name::List | Name::Filter),
             NamesOption::GlobsFrom => matches!(self, Name::List | Name::Filter),
+            NamesOption::ExitStatus => matches!(self, Name::List | Name::Filter | Name::Why),
         }
     }
 }

@@ -1,8 +1,8 @@
 //! What keeps the program from its output.
-ghost use Rattle.std.specs.Prelude.{◌++◌, codes, IfOk};
+ghost use Rattle.std.specs.Prelude.{◌≡◌, ◌++◌, codes, IfOk};
 ghost use Rattle.std.specs.Fmt.{WritesStyledOnOk};
 ghost use Rattle.std.specs.Fmt.InlineText.{inline_text};
-ghost use Rattle.names_commands.specs.Fault.{IsOfMisuse, line_text};
+ghost use Rattle.names_commands.specs.Fault.{IsOfMisuse, line_text, none_for};
 
 use glob_patterns::{GlobError, GlobSetError, PatternFault};
 use list_programs::fault::ItemRejection;
@@ -68,6 +68,8 @@ pub enum CommandFault {
     /// This line of this pattern file is the first that isn't a string of the platform: the first
     /// fault of its bytes.
     LineNoString(usize, usize, EncodingError),
+    /// Nothing was written, and `--exit-status` was given. It has no text, so no message is printed.
+    NoOutput,
 }
 
 impl CommandFault {
@@ -92,7 +94,18 @@ impl CommandFault {
     }
 }
 
-/// The reason why a run of the program ended before its input did.
+/// What a run ends with that writes nothing, if that is a fault.
+pub(crate) fn none_for(exit_status: bool) -> Option<CommandFault>
+    ensures { result ≡ none_for exit_status }
+{
+    if exit_status {
+        Some(CommandFault::NoOutput)
+    } else {
+        None
+    }
+}
+
+/// The reason why a run of the program failed.
 pub type Fault = program_fault::Fault<Rejection, CommandFault>;
 
 impl ItemRejection for Rejection {
@@ -145,6 +158,7 @@ impl WordsRejection for CommandFault {
             | CommandFault::Unread(_)
             | CommandFault::NoPatternFile(_)
             | CommandFault::UnreadPatternFile(_) => 4,
+            CommandFault::NoOutput => 1,
         }
     }
 
@@ -185,6 +199,7 @@ impl WordsRejection for CommandFault {
                 write_line(*file, *line, f)?;
                 error.fmt(f)
             }
+            CommandFault::NoOutput => f.write_str(""),
         }
     }
 }

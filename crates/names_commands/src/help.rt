@@ -34,6 +34,7 @@ Options may stand anywhere; -- ends them.
   -v, --invert     list, filter: pick the others, which --glob, --name and --ignore leave out
   -i, --ignore-case
                    list, filter, why: GLOB and FILE match without regard to case
+  --exit-status    list, filter, why: end with status 1, and no message, if nothing is printed
   --sh             list, join: words that every POSIX shell reads as the names (unix)
   --sh-line        list, join: words on one line, for bash, zsh, ksh93, mksh and busybox (unix)
   --lines          a newline ends each name that is read or written, and not NUL; names with a newline are rejected

@@ -41,6 +41,8 @@ pub enum NamesOption {
     Exclude,
     /// `--globs-from FILE`: pick the names that the patterns of a file match.
     GlobsFrom,
+    /// `--exit-status`: end with status 1 if nothing is printed.
+    ExitStatus,
 }
 
 impl NamesOption {
@@ -70,6 +72,7 @@ impl NamesOption {
             NamesOption::IgnoreCase => "--ignore-case",
             NamesOption::Exclude => "--exclude",
             NamesOption::GlobsFrom => "--globs-from",
+            NamesOption::ExitStatus => "--exit-status",
         }
     }
 }
@@ -106,6 +109,7 @@ impl ProgramOption for NamesOption {
             NamesOption::IgnoreCase => false,
             NamesOption::Exclude => true,
             NamesOption::GlobsFrom => true,
+            NamesOption::ExitStatus => false,
         }
     }
 
@@ -135,6 +139,7 @@ fn long_option(name: &str) -> Option<NamesOption>
         "ignore-case" => Some(NamesOption::IgnoreCase),
         "exclude" => Some(NamesOption::Exclude),
         "globs-from" => Some(NamesOption::GlobsFrom),
+        "exit-status" => Some(NamesOption::ExitStatus),
         _ => None,
     }
 }

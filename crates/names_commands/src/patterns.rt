@@ -1,19 +1,22 @@
 //! Runs over names that are picked by patterns and ignore files.
 ghost use Rattle.std.specs.Prelude.{◌≡◌, ◌≢◌, ◌⊎◌, ◌+◌, ◌++◌, ◌<◌, ◌^◌, [], IfErr, IfOk, length, map, string_bytes, false, MatchOption, MatchResult};
 ghost use Rattle.std.specs.List.{AllByRecursion};
+ghost use Rattle.std.specs.Option.{option_map};
 ghost use Rattle.program_frame.specs.Marked.{has_failed};
+ghost use Rattle.list_programs.specs.ListRun.{EndedBy};
 ghost use Rattle.list_programs.specs.ProgramFault.{BlamesEnds};
 ghost use Rattle.program_frame.specs.declared.fault.Failure.TheVariants.{Memory};
 ghost use Rattle.list_programs.specs.declared.fault.ListFault.TheVariants.{Run};
-ghost use Rattle.list_programs.specs.declared.program_fault.Fault.TheVariants.{List as OfList};
+ghost use Rattle.list_programs.specs.declared.program_fault.Fault.TheVariants.{List as OfList, Words};
 ghost use Rattle.names_commands.specs.Command.{requested_of};
+ghost use Rattle.names_commands.specs.Fault.{none_for};
 ghost use Rattle.names_commands.specs.Matching.{IsPattern, IsSetOf};
 ghost use Rattle.names_commands.specs.PatternFiles.{pattern_line, text_of};
 ghost use Rattle.names_commands.specs.Program.{Did, IsOfGlobs, IsOfLine, IsOfLines, IsOfNoString, IsOfPattern, IsOfPatterns, RunsPicked, UnlessOutOfMemory};
 
 use crate::caret::pointed;
 use crate::command::Request;
-use crate::fault::{CommandFault, Fault};
+use crate::fault::{CommandFault, Fault, none_for};
 use crate::given::options_of;
 use crate::ignoring::{needs_tree, read_ignore};
 use crate::matching::{Form, Matching, Picker};
@@ -44,8 +47,9 @@ pub(crate) fn run_picked<E: Platform, F: Files, A: Allocator + Copy, R: Read, W:
 ) -> Result<(), Fault>
     requires reader_unmarked { has_failed reader.old ≡ false }
     requires writer_unmarked { has_failed writer.old ≡ false }
-    ensures run { Did R.remaining W.contents (UnlessOutOfMemory
-        (RunsPicked (F.known files.now) A ⟦<E as Platform>⟧ (requested_of request.now) os form))
+    ensures run { Did R.remaining W.contents (EndedBy
+        (option_map Words (none_for request.now.exit_status)) (UnlessOutOfMemory
+        (RunsPicked (F.known files.now) A ⟦<E as Platform>⟧ (requested_of request.now) os form)))
         reader.old reader.new writer.old writer.new result }
     ensures ends { BlamesEnds result (has_failed reader.new) (has_failed writer.new) }
 {
@@ -82,7 +86,8 @@ pub(crate) fn run_picked<E: Platform, F: Files, A: Allocator + Copy, R: Read, W:
         walk,
         from_top,
     };
-    run_list(alloc, &mut picker, reader, writer)
+    let none = none_for(request.exit_status);
+    run_list(alloc, &mut picker, none, reader, writer)
 }
 
 /// The sets of the patterns that pick names, and of those that leave them out, where files have these

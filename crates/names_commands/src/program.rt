@@ -6,7 +6,7 @@ ghost use Rattle.names_commands.specs.Command.{requested_of};
 ghost use Rattle.names_commands.specs.Program.{Did, Does, DoesWork, RunsLine, UnlessOutOfMemory};
 
 use crate::command::{Command, Line, Request, RequestError, Work};
-use crate::fault::{CommandFault, Fault, Rejection};
+use crate::fault::{CommandFault, Fault, Rejection, none_for};
 use crate::help::{HELP, VERSION};
 use crate::option::NamesOption;
 use crate::patterns::run_picked;
@@ -177,7 +177,8 @@ fn run_on<E: Platform, F: Files, A: Allocator + Copy, R: Read, W: Write>(
         Work::Each(task) => {
             let list = request.list;
             let mut each = OnPlatform::<E>::new(Settings { task, list });
-            run_list(alloc, &mut each, reader, writer)
+            let none = none_for(request.exit_status);
+            run_list(alloc, &mut each, none, reader, writer)
         }
         Work::Picked(form) => {
             run_picked::<E, F, A, R, W>(alloc, files, os, form, request, reader, writer)

@@ -1,12 +1,16 @@
 //! Runs that write what decides names: the lines of ignore files, or else patterns.
 ghost use Rattle.std.specs.Prelude.{◌≡◌, false};
+ghost use Rattle.std.specs.Option.{option_map};
 ghost use Rattle.program_frame.specs.Marked.{has_failed};
+ghost use Rattle.list_programs.specs.ListRun.{EndedBy};
 ghost use Rattle.list_programs.specs.ProgramFault.{BlamesEnds};
+ghost use Rattle.list_programs.specs.declared.program_fault.Fault.TheVariants.{Words};
 ghost use Rattle.names_commands.specs.Command.{requested_of};
+ghost use Rattle.names_commands.specs.Fault.{none_for};
 ghost use Rattle.names_commands.specs.Program.{Did, RunsReasons, UnlessOutOfMemory};
 
 use crate::command::Request;
-use crate::fault::Fault;
+use crate::fault::{Fault, none_for};
 use crate::first_glob::Globs;
 use crate::given::options_of;
 use crate::ignoring::read_ignore;
@@ -34,8 +38,9 @@ pub(crate) fn run_why<E: Platform, F: Files, A: Allocator + Copy, R: Read, W: Wr
 ) -> Result<(), Fault>
     requires reader_unmarked { has_failed reader.old ≡ false }
     requires writer_unmarked { has_failed writer.old ≡ false }
-    ensures run { Did R.remaining W.contents (UnlessOutOfMemory
-        (RunsReasons (F.known files.now) A ⟦<E as Platform>⟧ (requested_of request.now) os))
+    ensures run { Did R.remaining W.contents (EndedBy
+        (option_map Words (none_for request.now.exit_status)) (UnlessOutOfMemory
+        (RunsReasons (F.known files.now) A ⟦<E as Platform>⟧ (requested_of request.now) os)))
         reader.old reader.new writer.old writer.new result }
     ensures ends { BlamesEnds result (has_failed reader.new) (has_failed writer.new) }
 {
@@ -61,5 +66,6 @@ pub(crate) fn run_why<E: Platform, F: Files, A: Allocator + Copy, R: Read, W: Wr
         globs,
         list: request.list,
     };
-    run_list(alloc, &mut reasons, reader, writer)
+    let none = none_for(request.exit_status);
+    run_list(alloc, &mut reasons, none, reader, writer)
 }

@@ -1,5 +1,5 @@
 //! How a program ends: with an outcome, a message and a status.
-ghost use Rattle.std.specs.Prelude.{◌≡◌, ℕ, List, true, Some, IfErr, OnOk};
+ghost use Rattle.std.specs.Prelude.{◌≡◌, [], ℕ, List, true, Some, IfErr, OnOk};
 ghost use Rattle.std.specs.Io.KnownBytes.{Appends};
 ghost use Rattle.program_frame.specs.Ended.{message, outcome_of, was_reported};
 ghost use Rattle.program_frame.specs.Written.{AppendsBeginning};
@@ -10,7 +10,7 @@ use std::io::Write;
 use std::process::{ExitCode, Termination};
 
 /// Why a program fails. Its text is what `Display` writes, and its message is the program's name,
-/// `: `, that text and a newline.
+/// `: `, that text and a newline. A fault whose text is empty has no message.
 pub trait ProgramFault: Display + Copy {
     ghost text_of: { Self → List ℕ };
 
@@ -53,6 +53,8 @@ impl<F: ProgramFault> Ended<F> {
     pub fn reporting<E: Write>(program: &str, outcome: Result<(), F>, errors: &mut E) -> Ended<F>
         ensures outcome { outcome_of result ≡ outcome }
         ensures quiet { OnOk outcome (errors.new ≡ errors.old) }
+        ensures silent { IfErr outcome (λ fault. F.text_of fault ≡ []
+            → errors.new ≡ errors.old) }
         ensures reported { was_reported result ≡ true → IfErr outcome (λ fault.
             Appends (E.contents errors.old) (E.contents errors.new)
             (message program.now (F.text_of fault))) }
@@ -88,6 +90,8 @@ impl<F: ProgramFault> Ended<F> {
         ensures outcome { outcome_of result ≡ outcome }
         ensures closed { is_closed ≡ true → errors.new ≡ errors.old }
         ensures quiet { OnOk outcome (errors.new ≡ errors.old) }
+        ensures silent { IfErr outcome (λ fault. F.text_of fault ≡ []
+            → errors.new ≡ errors.old) }
         ensures reported { was_reported result ≡ true → IfErr outcome (λ fault.
             Appends (E.contents errors.old) (E.contents errors.new)
             (message program.now (F.text_of fault))) }

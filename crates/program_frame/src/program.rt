@@ -1,5 +1,5 @@
 //! Programs: their arguments, their run, and how it ends.
-ghost use Rattle.std.specs.Prelude.{◌≡◌, ◌≢◌, ◌⊎◌, ℕ, List, Option, Result, ⊤, true, false, map, string_bytes, IfOk, IfErr, OnOk, IsOk};
+ghost use Rattle.std.specs.Prelude.{◌≡◌, [], ◌≢◌, ◌⊎◌, ℕ, List, Option, Result, ⊤, true, false, map, string_bytes, IfOk, IfErr, OnOk, IsOk};
 ghost use Rattle.std.specs.Io.KnownBytes.{Appends};
 ghost use Rattle.std.specs.IoError.{error_kind};
 ghost use Rattle.program_frame.specs.Ended.{message, outcome_of, was_reported};
@@ -111,8 +111,8 @@ pub trait Program {
 ///
 /// The message of a fault goes to `errors`, and nothing else does. The fault is that the arguments
 /// are rejected, that they aren't available, or that the run fails. If not all of the message is
-/// taken, a beginning of it is. If the reader of the output is gone ([`Marked::closed`]), no
-/// message is written.
+/// taken, a beginning of it is. If the reader of the output is gone ([`Marked::closed`]), or the
+/// fault has no text, no message is written.
 ///
 /// ```
 /// use names_commands::program::Names;
@@ -159,6 +159,8 @@ pub fn execute<P: Program, A: Allocator + Copy, R: Read, W: Output, E: Messages>
     // The message.
     ensures closed { is_closed writer.new ≡ true → errors.new ≡ errors.old }
     ensures quiet { OnOk (outcome_of result) (errors.new ≡ errors.old) }
+    ensures silent { IfErr (outcome_of result) (λ fault. P.Fault.text_of fault ≡ []
+        → errors.new ≡ errors.old) }
     ensures reported { was_reported result ≡ true → IfErr (outcome_of result) (λ fault.
         Appends (E.contents errors.old) (E.contents errors.new)
         (message P.name (P.Fault.text_of fault))) }

@@ -1,5 +1,5 @@
 //! The message of a fault.
-ghost use Rattle.std.specs.Prelude.{◌≡◌, true, IfSome};
+ghost use Rattle.std.specs.Prelude.{◌≡◌, [], true, None, IfSome};
 ghost use Rattle.std.specs.Fmt.InlineText.{inline_text};
 ghost use Rattle.std.specs.Io.KnownBytes.{Appends};
 ghost use Rattle.program_frame.specs.Ended.{message};
@@ -14,12 +14,13 @@ use std::io::Write;
 const ROOM: usize = 512;
 
 /// Writes the message of a fault, and returns whether all of it was taken. Otherwise a beginning of
-/// it was. It doesn't allocate.
+/// it was. A fault without a text has no message. It doesn't allocate.
 pub(crate) fn report<F: ProgramFault, E: Write>(program: &str, fault: &F, errors: &mut E) -> bool
     ensures reported { result ≡ true → Appends (E.contents errors.old) (E.contents errors.new)
         (message program.now (F.text_of fault.now)) }
     ensures beginning { AppendsBeginning (E.contents errors.old) (E.contents errors.new)
         (message program.now (F.text_of fault.now)) }
+    ensures silent { F.text_of fault.now ≡ [] → errors.new ≡ errors.old }
 {
     match message(program, fault) {
         Some(text) => write_text(text.as_str().as_bytes(), errors),
@@ -53,14 +54,21 @@ pub fn write_text<E: Write>(text: &[u8], errors: &mut E) -> bool
     true
 }
 
-/// The program's name, `: `, the fault's text and a newline, where there is room for them.
+/// The program's name, `: `, the fault's text and a newline, where there is room for them and the
+/// fault has a text.
 fn message<F: ProgramFault>(program: &str, fault: &F) -> Option<InlineText<ROOM>>
-    ensures { IfSome result (λ text.
+    ensures message { IfSome result (λ text.
         inline_text text ≡ message program.now (F.text_of fault.now)) }
+    ensures silent { F.text_of fault.now ≡ [] → result ≡ None }
 {
     let mut text = InlineText::new();
-    match writeln!(text, "{program}: {fault}") {
-        Ok(()) => Some(text),
-        Err(_) => None,
+    let Ok(()) = writeln!(text, "{program}: {fault}") else {
+        return None;
+    };
+    let around = program.len() + ": \n".len();
+    if text.as_str().len() > around {
+        Some(text)
+    } else {
+        None
     }
 }

@@ -106,13 +106,13 @@ module _ (folds : Bool) (command platform value : Bor (List ℕ)) where
   pub no_version : ¬ (HasOption option.Version given_of)
   no_version = no_other option.Version (λ e. cc) (λ e. cc)
 
-  -- so the others aren't inverted
-  pub not_inverted : (stated : Bool) → (IsTrue stated ↔ HasOption option.Invert given_of) → stated ≡ false
-  not_inverted true is = absurd (no_other option.Invert (λ e. cc) (λ e. cc) (is.0 refl))
-  not_inverted false is = refl
+  -- so what another option states is false
+  pub not_stated : (it : NamesOption) → (option.Ignore ≡ it → ⊥) → (option.IgnoreCase ≡ it → ⊥) → (stated : Bool) → (IsTrue stated ↔ HasOption it given_of) → stated ≡ false
+  not_stated it other cased true is = absurd (no_other it other cased (is.0 refl))
+  not_stated it other cased false is = refl
 
-  none_inverted : IsTrue false ↔ HasOption option.Invert given_of
-  none_inverted = (λ e. let never : false ≡ true = e in absurd (cc), λ h. absurd (no_other option.Invert (λ e. cc) (λ e. cc) h))
+  none_given : (it : NamesOption) → (option.Ignore ≡ it → ⊥) → (option.IgnoreCase ≡ it → ⊥) → IsTrue false ↔ HasOption it given_of
+  none_given it other cased = (λ e. let never : false ≡ true = e in absurd (cc), λ h. absurd (no_other it other cased h))
 
   -- and case is disregarded as the last of them says
   case_in : HasOption option.IgnoreCase given_of → HasOption option.IgnoreCase (case_flags folds)
@@ -159,10 +159,10 @@ module _ (folds : Bool) (command platform value : Bor (List ℕ)) where
   no_pattern_files files values = no_values option.GlobsFrom (λ e. cc) files values
 
   -- but this ignore file
-  pub states_one : platform.now ≡ codes "unix" → Lacks 0x3D value.now → (requested : Command) (list : ListOptions) → StatesPicks given_of (record { command = requested; list = list; plain = 0; globs = []; pattern_files = []; files = value.now ∷ []; inverted = false; case_insensitive = folds; excluded = [] })
+  pub states_one : platform.now ≡ codes "unix" → Lacks 0x3D value.now → (requested : Command) (list : ListOptions) → StatesPicks given_of (record { command = requested; list = list; plain = 0; globs = []; pattern_files = []; files = value.now ∷ []; inverted = false; case_insensitive = folds; excluded = []; exit_status = false })
   states_one is plain requested list = (
     (([], [], [], ((Unix, [], (has_unix is, refl)), (none_stated option.Glob (λ e. cc), (none_stated option.Name (λ e. cc), (refl, refl))))), none_stated option.GlobsFrom (λ e. cc)),
-    ((inr (λ v h. h, inr (λ v h. h, inl (value.now, [], ((refl, refl), (none_in_case folds option.Ignore, refl))))), (placed_whole value.now plain, tt)), (none_inverted, (states_case, none_stated option.Exclude (λ e. cc)))),
+    ((inr (λ v h. h, inr (λ v h. h, inl (value.now, [], ((refl, refl), (none_in_case folds option.Ignore, refl))))), (placed_whole value.now plain, tt)), (none_given option.Invert (λ e. cc) (λ e. cc), (states_case, (none_stated option.Exclude (λ e. cc), none_given option.ExitStatus (λ e. cc) (λ e. cc))))),
   )
 
 -- the file that was read is the only one

@@ -77,6 +77,7 @@ only_ignore option.Invert e = let n : ◌≡◌ {A = ℕ} 103 110 = ap (λ w. ge
 only_ignore option.IgnoreCase e = let n : ◌≡◌ {A = ℕ} 0 45 = ap (λ w. get_or w 6 0) e in absurd (omega (arith, n))
 only_ignore option.Exclude e = let n : ◌≡◌ {A = ℕ} 103 120 = ap (λ w. get_or w 1 0) e in absurd (omega (arith, n))
 only_ignore option.GlobsFrom e = let n : ◌≡◌ {A = ℕ} 103 108 = ap (λ w. get_or w 1 0) e in absurd (omega (arith, n))
+only_ignore option.ExitStatus e = let n : ◌≡◌ {A = ℕ} 103 120 = ap (λ w. get_or w 1 0) e in absurd (omega (arith, n))
 
 only_case : (it : NamesOption) → IsFlagOf it 0x69 → it ≡ option.IgnoreCase
 only_case option.Help e = absurd (omega (arith, e))
@@ -94,6 +95,7 @@ only_case option.Invert e = absurd (omega (arith, e))
 only_case option.IgnoreCase e = refl
 only_case option.Exclude e = absurd e
 only_case option.GlobsFrom e = absurd e
+only_case option.ExitStatus e = absurd e
 
 -- the option that disregards case, or none
 abbrev pub case_flags : Bool → Line

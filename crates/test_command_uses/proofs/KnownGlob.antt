@@ -52,6 +52,7 @@ use Rattle.test_command_uses.proofs.GivenWords.{OneValue, OneWord, no_end, none_
 use Rattle.test_command_uses.proofs.LineWords.{first, later, not_wasm, not_windows}
 use Rattle.test_command_uses.proofs.KnownLists.{is_usual_list}
 use Rattle.test_command_uses.proofs.KnownNames.{all_whole, one_ended}
+use Rattle.test_command_uses.proofs.EndedRuns.{without_status}
 use Rattle.test_command_uses.proofs.KnownWhy.{Reasons, is_why, none_before}
 
 head_is : {X : Type 0} {x y : X} {xs ys : List X} → x ∷ xs ≡ y ∷ ys → x ≡ y
@@ -249,7 +250,7 @@ module _ (A : Type 0) (glob item : List ℕ) (whole : Lacks 0 item) (left old ne
 
   -- where this is stated
   abbrev stated : Requested
-  stated = record { command = On Unix Why; list = usual; plain = 1; globs = glob ∷ []; pattern_files = []; files = []; inverted = false; case_insensitive = false; excluded = [] }
+  stated = record { command = On Unix Why; list = usual; plain = 1; globs = glob ∷ []; pattern_files = []; files = []; inverted = false; case_insensitive = false; excluded = []; exit_status = false }
 
   module _ (known : KnownFiles) (answer : Result ⊤ Fault) where
     by_written : (written : List (List (List Mark))) → AreWrittenOut (strings Unix) unix_options (glob ∷ []) written → RunsDeciding known A (strings Unix) stated (IsFirst (strings Unix) unix_options written) (Some (item ++ 0 ∷ [])) left old new answer → Written answer
@@ -282,7 +283,7 @@ module _ (A : Type 0) (glob item : List ℕ) (whole : Lacks 0 item) (left old ne
           let before : patterns.0 ++ patterns.1 ≡ glob ∷ [] = ap (λ x. x ++ patterns.1) own ∙ ap (λ x. glob ∷ x) more in
           (patterns.3.1.1.1.1 ∙ ap length before, patterns.3.1.1.1.0 ∙ ap (λ x. x ++ map in_any_folder patterns.2) before ∙ ap (λ x. glob ∷ map in_any_folder x) of_names)
 
-      decided : (requested : Requested) → requested.list ≡ usual → StatesPicks given requested → DoesWork known A (strings Unix) requested Unix Why (Some (item ++ 0 ∷ [])) left old new answer → Written answer
+      decided : (requested : Requested) → requested.list ≡ usual → StatesPicks given requested → UnlessOutOfMemory (RunsReasons known A (strings Unix) requested Unix) (Some (item ++ 0 ∷ [])) left old new answer → Written answer
       decided requested is_usual states runs =
           let These = Reasons known A (Some (item ++ 0 ∷ [])) left old new answer in
           let patterns = one_pattern requested.plain requested.globs states.0.0 in
@@ -297,7 +298,9 @@ module _ (A : Type 0) (glob item : List ℕ) (whole : Lacks 0 item) (left old ne
           (subst (λ files. These requested.list requested.plain requested.globs requested.pattern_files requested.case_insensitive files) files runs))))))
 
       by_platform : (os : Os) (requested : Requested) → codes "unix" ≡ os_word os → requested.list ≡ usual → StatesPicks given requested → DoesWork known A (strings os) requested os Why (Some (item ++ 0 ∷ [])) left old new answer → Written answer
-      by_platform Unix requested e listed states runs = decided requested listed states runs
+      by_platform Unix requested e listed states runs =
+          let unstated : requested.exit_status ≡ false = not_stated words option.ExitStatus requested.exit_status states.1.1.1.1.1 in
+          decided requested listed states (without_status (UnlessOutOfMemory (RunsReasons known A (strings Unix) requested Unix)) requested.exit_status (Some (item ++ 0 ∷ [])) left old new answer unstated runs)
       by_platform Windows requested e listed states runs = absurd (not_windows e)
       by_platform Wasm requested e listed states runs = absurd (not_wasm e)
 

@@ -29,8 +29,9 @@ use Rattle.names_commands.specs.declared.option.NamesOption.TheVariants as optio
 use Rattle.os_args.specs.Views.{fault_of}
 use Rattle.list_programs.specs.Arguments.{AreGiven, HasOption}
 use Rattle.test_command_uses.specs.OneFile.{filtering, usual}
-use Rattle.test_command_uses.proofs.GivenIgnore.{given_of, has_operands, is_case, is_unix, is_usual, no_help, no_pattern_files, no_patterns, no_values, no_version, not_inverted, one_file, states_one, usual_list}
+use Rattle.test_command_uses.proofs.GivenIgnore.{given_of, has_operands, is_case, is_unix, is_usual, no_help, no_pattern_files, no_patterns, no_values, no_version, not_stated, one_file, states_one, usual_list}
 use Rattle.test_command_uses.proofs.GivenWords.{OneValue, OneWord, are_asking, no_fault_of}
+use Rattle.test_command_uses.proofs.EndedRuns.{without_status}
 use Rattle.test_command_uses.proofs.LineWords.{case_fits, first, later, not_check, not_join, not_list, not_tar, not_wasm, not_why, not_windows}
 
 -- all names are picked, but for those that the files ignore
@@ -84,8 +85,8 @@ module _ (known : KnownFiles) (A : Type 0) (folds : Bool) (file : List ℕ) (inp
         let pattern_files = no_pattern_files folds command platform value requested.pattern_files states.0.1 in
         let globs_are = (no_patterns folds command platform value is_platform requested.plain requested.globs states.0.0).1 in
         let files_are : requested.files ≡ file ∷ [] = one_file folds command platform value requested.files states.1.0.0 ∙ ap (λ x. x ∷ []) is_file in
-        let excluded : requested.excluded ≡ [] = no_values folds command platform value option.Exclude (λ e. cc) requested.excluded states.1.1.1.1 in
-        ran requested globs_are pattern_files excluded is_usual (not_inverted folds command platform value requested.inverted states.1.1.0) (is_case folds command platform value requested.case_insensitive states.1.1.1.0) files_are runs
+        let excluded : requested.excluded ≡ [] = no_values folds command platform value option.Exclude (λ e. cc) requested.excluded states.1.1.1.1.0 in
+        ran requested globs_are pattern_files excluded is_usual (not_stated folds command platform value option.Invert (λ e. cc) (λ e. cc) requested.inverted states.1.1.0) (is_case folds command platform value requested.case_insensitive states.1.1.1.0) files_are runs
 
     operands : HasOperands given name.Filter Unix []
     operands = has_operands folds command platform value name.Filter is_command is_platform
@@ -94,7 +95,9 @@ module _ (known : KnownFiles) (A : Type 0) (folds : Bool) (file : List ℕ) (inp
     is_word c os more has = sym is_command ∙ first has.1.0
 
     by_platform : (os : Os) (requested : Requested) → codes "unix" ≡ os_word os → requested.list ≡ usual → StatesPicks given requested → DoesWork known A (strings os) requested os (Picked Name) input left old new answer → Filters
-    by_platform Unix requested e listed states runs = picked requested listed states runs
+    by_platform Unix requested e listed states runs =
+        let unstated : requested.exit_status ≡ false = not_stated folds command platform value option.ExitStatus (λ e. cc) (λ e. cc) requested.exit_status states.1.1.1.1.1 in
+        picked requested listed states (without_status (UnlessOutOfMemory (RunsPicked known A (strings Unix) requested Unix Name)) requested.exit_status input left old new answer unstated runs)
     by_platform Windows requested e listed states runs = absurd (not_windows e)
     by_platform Wasm requested e listed states runs = absurd (not_wasm e)
 
@@ -128,7 +131,7 @@ module _ (known : KnownFiles) (A : Type 0) (folds : Bool) (file : List ℕ) (inp
     makes_up = ([], (operands, ((tt, (tt, (tt, case_fits folds name.Filter tt))), (tt, (inl (inr (inr (inl (inr (inr (inl refl)))))), (λ h. inr (inr (inl (inr (inr (inl refl))))), λ h. tt))))))
 
     some : (requested : Requested) × IsRequestFor given requested
-    some = (record { command = On Unix (Picked Name); list = usual; plain = 0; globs = []; pattern_files = []; files = value.now ∷ []; inverted = false; case_insensitive = folds; excluded = [] }, inr (no_help folds command platform value, inr (no_version folds command platform value, (is_usual folds command platform value, (makes_up, states_one folds command platform value is_platform (subst (Lacks 0x3D) (sym is_file) plain) (On Unix (Picked Name)) usual)))))
+    some = (record { command = On Unix (Picked Name); list = usual; plain = 0; globs = []; pattern_files = []; files = value.now ∷ []; inverted = false; case_insensitive = folds; excluded = []; exit_status = false }, inr (no_help folds command platform value, inr (no_version folds command platform value, (is_usual folds command platform value, (makes_up, states_one folds command platform value is_platform (subst (Lacks 0x3D) (sym is_file) plain) (On Unix (Picked Name)) usual)))))
 
     not_rejected : RejectsLine known A given input left old new answer → ⊥
     not_rejected r = r.2.0.0.no_request some.0 some.1

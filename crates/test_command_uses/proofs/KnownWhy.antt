@@ -43,8 +43,9 @@ use Rattle.list_programs.specs.Arguments.{AreGiven, HasOption, operands_of}
 use Rattle.test_command_uses.specs.OneFile.{IsExplainedBy, IsReasonOf, explaining, only, usual}
 use Rattle.test_command_uses.proofs.GivenWords.{OneValue, OneWord, are_asking, no_fault_of}
 use Rattle.test_command_uses.proofs.LineWords.{first, later, not_wasm, not_windows}
-use Rattle.test_command_uses.proofs.GivenIgnore.{at_top, given_of, has_operands, is_case, is_unix, is_usual, no_help, no_pattern_files, no_patterns, no_version, one_file, only_read, states_one, usual_list}
+use Rattle.test_command_uses.proofs.GivenIgnore.{at_top, given_of, has_operands, is_case, is_unix, is_usual, no_help, no_pattern_files, no_patterns, no_version, not_stated, one_file, only_read, states_one, usual_list}
 use Rattle.test_command_uses.proofs.KnownNames.{all_whole, one_ended}
+use Rattle.test_command_uses.proofs.EndedRuns.{without_status}
 
 not_list : codes "why" ≡ codes "list" → ⊥
 not_list e =
@@ -100,7 +101,7 @@ module _ (given : Line) (more : List (List ℕ)) (starts : operands_of given ≡
 
 -- where these patterns and files are stated, what decides names is written
 abbrev pub Reasons : KnownFiles → Type 0 → Option (List ℕ) → Option (List ℕ) → Option (List ℕ) → Option (List ℕ) → Result ⊤ Fault → ListOptions → ℕ → List (List ℕ) → List (List ℕ) → Bool → List (List ℕ) → Type 0
-Reasons known A input left old new answer list plain globs pattern_files folds files = UnlessOutOfMemory (RunsReasons known A (strings Unix) (record { command = On Unix Why; list = list; plain = plain; globs = globs; pattern_files = pattern_files; files = files; inverted = false; case_insensitive = folds; excluded = [] }) Unix) input left old new answer
+Reasons known A input left old new answer list plain globs pattern_files folds files = UnlessOutOfMemory (RunsReasons known A (strings Unix) (record { command = On Unix Why; list = list; plain = plain; globs = globs; pattern_files = pattern_files; files = files; inverted = false; case_insensitive = folds; excluded = []; exit_status = false }) Unix) input left old new answer
 
 module _ (known : KnownFiles) (A : Type 0) (file : List ℕ) (input left old new : Option (List ℕ)) (answer : Result ⊤ Fault) where
   -- the line of the file that decides each name is written
@@ -111,7 +112,7 @@ module _ (known : KnownFiles) (A : Type 0) (file : List ℕ) (input left old new
     abbrev given : Line
     given = given_of false command platform value
 
-    decided : (requested : Requested) → requested.list ≡ usual → StatesPicks given requested → DoesWork known A (strings Unix) requested Unix Why input left old new answer → Explains
+    decided : (requested : Requested) → requested.list ≡ usual → StatesPicks given requested → UnlessOutOfMemory (RunsReasons known A (strings Unix) requested Unix) input left old new answer → Explains
     decided requested is_usual states runs =
         let files_are : requested.files ≡ file ∷ [] = one_file false command platform value requested.files states.1.0.0 ∙ ap (λ x. x ∷ []) is_file in
         let cased = is_case false command platform value requested.case_insensitive states.1.1.1.0 in
@@ -129,7 +130,9 @@ module _ (known : KnownFiles) (A : Type 0) (file : List ℕ) (input left old new
     operands = has_operands false command platform value name.Why is_command is_platform
 
     by_platform : (os : Os) (requested : Requested) → codes "unix" ≡ os_word os → requested.list ≡ usual → StatesPicks given requested → DoesWork known A (strings os) requested os Why input left old new answer → Explains
-    by_platform Unix requested e listed states runs = decided requested listed states runs
+    by_platform Unix requested e listed states runs =
+        let unstated : requested.exit_status ≡ false = not_stated false command platform value option.ExitStatus (λ e. cc) (λ e. cc) requested.exit_status states.1.1.1.1.1 in
+        decided requested listed states (without_status (UnlessOutOfMemory (RunsReasons known A (strings Unix) requested Unix)) requested.exit_status input left old new answer unstated runs)
     by_platform Windows requested e listed states runs = absurd (not_windows e)
     by_platform Wasm requested e listed states runs = absurd (not_wasm e)
 
@@ -155,7 +158,7 @@ module _ (known : KnownFiles) (A : Type 0) (file : List ℕ) (input left old new
     makes_up = ([], (operands, ((tt, (tt, (tt, tt))), (tt, (inl (inr (inr (inl states_ignore))), ((λ h. inr (inr (inl states_ignore))), λ h. tt))))))
 
     some : (requested : Requested) × IsRequestFor given requested
-    some = (record { command = On Unix Why; list = usual; plain = 0; globs = []; pattern_files = []; files = value.now ∷ []; inverted = false; case_insensitive = false; excluded = [] }, inr (no_help false command platform value, inr (no_version false command platform value, (is_usual false command platform value, (makes_up, states_one false command platform value is_platform (subst (Lacks 0x3D) (sym is_file) plain) (On Unix Why) usual)))))
+    some = (record { command = On Unix Why; list = usual; plain = 0; globs = []; pattern_files = []; files = value.now ∷ []; inverted = false; case_insensitive = false; excluded = []; exit_status = false }, inr (no_help false command platform value, inr (no_version false command platform value, (is_usual false command platform value, (makes_up, states_one false command platform value is_platform (subst (Lacks 0x3D) (sym is_file) plain) (On Unix Why) usual)))))
 
     not_rejected : RejectsLine known A given input left old new answer → ⊥
     not_rejected r = r.2.0.0.no_request some.0 some.1
@@ -238,7 +241,7 @@ module _ (A : Type 0) (file bytes item : List ℕ) (plain : Lacks 0x3D file) (wh
   written answer (inr (inr compiled)) = by (subst (λ w. RunsDeciding (only file bytes) A (strings Unix) stated (IsFirst (strings Unix) (options_of Unix false) w) (Some (item ++ 0 ∷ [])) left old new answer) compiled.1 compiled.2)
     where
       stated : Requested
-      stated = record { command = On Unix Why; list = usual; plain = 0; globs = []; pattern_files = []; files = file ∷ []; inverted = false; case_insensitive = false; excluded = [] }
+      stated = record { command = On Unix Why; list = usual; plain = 0; globs = []; pattern_files = []; files = file ∷ []; inverted = false; case_insensitive = false; excluded = []; exit_status = false }
 
       by : RunsDeciding (only file bytes) A (strings Unix) stated First (Some (item ++ 0 ∷ [])) left old new answer → Written answer
       by (inl unread) = err_written answer _ unread.2.0

@@ -1,4 +1,5 @@
 pub mod CommonPaths
+pub mod EndedRuns
 pub mod GivenIgnore
 pub mod GivenPaths
 pub mod GivenWords

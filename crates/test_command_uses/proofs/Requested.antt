@@ -5,7 +5,7 @@ use Rattle.names_commands.proofs.lemmas.NeverBoth.{no_request}
 use Rattle.names_commands.specs.Command.{Requested, HasOperands, IsRequestFor, IsListed, IsRequestError, Line, MakesUp, OptionsMatch, StatesPicks}
 use Rattle.names_commands.specs.declared.command.Name.{Name}
 use Rattle.names_commands.specs.declared.command.Command.TheVariants.{Version as VersionCommand}
-use Rattle.names_commands.specs.declared.option.NamesOption.TheVariants.{Exclude, GlobsFrom, Help, IgnoreCase, Invert, Version}
+use Rattle.names_commands.specs.declared.option.NamesOption.TheVariants.{Exclude, ExitStatus, GlobsFrom, Help, IgnoreCase, Invert, Version}
 use Rattle.list_programs.specs.Arguments.{AreValues, HasOption}
 use Rattle.names_commands.specs.declared.command.RequestError.{RequestError}
 use Rattle.names_commands.specs.declared.command.RequestError.TheVariants.{Misuse, Memory as NoMemory}
@@ -46,7 +46,7 @@ excluded_stated given requested no_help no_version (inr requests) = by requests.
   where
     by : ((HasOption Version given × (requested.command ≡ VersionCommand)) ⊎ ((¬ (HasOption Version given)) × (IsListed given requested.list × (MakesUp given requested.command × StatesPicks given requested)))) → AreValues Exclude given requested.excluded
     by (inl version) = absurd (no_version version.0)
-    by (inr c) = c.1.1.1.1.1.1.1
+    by (inr c) = c.1.1.1.1.1.1.1.0
 
 -- such a request states its pattern files, where no help and no version is requested
 pub files_stated : (given : Line) (requested : Requested) → ¬ (HasOption Help given) → ¬ (HasOption Version given) → IsRequestFor given requested → AreValues GlobsFrom given requested.pattern_files
@@ -65,6 +65,15 @@ case_stated given requested no_help no_version (inr requests) = by requests.1
     by : ((HasOption Version given × (requested.command ≡ VersionCommand)) ⊎ ((¬ (HasOption Version given)) × (IsListed given requested.list × (MakesUp given requested.command × StatesPicks given requested)))) → IsTrue requested.case_insensitive ↔ HasOption IgnoreCase given
     by (inl version) = absurd (no_version version.0)
     by (inr c) = c.1.1.1.1.1.1.0
+
+-- it has a status for a run that writes nothing exactly where the option for that is given, and no help and no version is requested
+pub status_stated : (given : Line) (requested : Requested) → ¬ (HasOption Help given) → ¬ (HasOption Version given) → IsRequestFor given requested → IsTrue requested.exit_status ↔ HasOption ExitStatus given
+status_stated given requested no_help no_version (inl help) = absurd (no_help help.0)
+status_stated given requested no_help no_version (inr requests) = by requests.1
+  where
+    by : ((HasOption Version given × (requested.command ≡ VersionCommand)) ⊎ ((¬ (HasOption Version given)) × (IsListed given requested.list × (MakesUp given requested.command × StatesPicks given requested)))) → IsTrue requested.exit_status ↔ HasOption ExitStatus given
+    by (inl version) = absurd (no_version version.0)
+    by (inr c) = c.1.1.1.1.1.1.1.1
 
 -- a request never inverts where no names that match are stated, and no help and no version is requested
 pub never_inverted : (given : Line) (requested : Requested) → (command : Name) × ((os : Os) × HasOperands given command os []) → ¬ (OptionsMatch given) → ¬ (HasOption Help given) → ¬ (HasOption Version given) → IsRequestFor given requested → ¬ (IsTrue requested.inverted)

@@ -18,7 +18,7 @@ use Rattle.names_commands.specs.Ignoring.{AreRead, IsFirstUnread, IsIgnored}
 use Rattle.names_commands.specs.Matching.{picking}
 use Rattle.names_commands.specs.Program.{EndsAtOnce, Fault, IsFileFault, RunsTo}
 use Rattle.names_commands.specs.declared.fault.CommandFault.{CommandFault}
-use Rattle.names_commands.specs.declared.fault.CommandFault.TheVariants.{Unreadable, Misuse, Pattern, NoFile, Unread, NoPatternFile, UnreadPatternFile, LinePattern, LineNoString}
+use Rattle.names_commands.specs.declared.fault.CommandFault.TheVariants.{Unreadable, Misuse, Pattern, NoFile, Unread, NoPatternFile, UnreadPatternFile, LinePattern, LineNoString, NoOutput}
 use Rattle.names_commands.specs.declared.fault.Rejection.{Rejection}
 use Rattle.names_commands.specs.declared.matching.Form.TheVariants.{Name}
 use Rattle.test_command_uses.specs.OneFile.{only, filtering, usual, IsFilteredBy, IsUnread}
@@ -82,6 +82,7 @@ module _ (A : Type 0) (folds : Bool) (file bytes other : List ℕ) (plain : Lack
   by_fault (UnreadPatternFile number) f ends = absurd f
   by_fault (LinePattern at line fault lines) f ends = absurd f
   by_fault (LineNoString at line error) f ends = absurd f
+  by_fault NoOutput f ends = absurd f
 
   pub ends_unread : Filters (only file bytes) A folds other input left old new answer → EndsUnread input left old new answer
   ends_unread (inl memory) = record { fault = inr memory.0; kept = memory.1.0; nothing = memory.1.1 }

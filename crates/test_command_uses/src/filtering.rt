@@ -41,7 +41,7 @@ pub fn filtered<E: Platform, A: Allocator, B: Allocator + Copy, W: Write>(
     picker: Picker<'_, E, B>,
     name: &[u8],
     writer: &mut Marked<W>,
-) -> Result<(), ListFault<Rejection>>
+) -> Result<bool, ListFault<Rejection>>
     requires whole { Lacks 0 name.now }
     requires some { name.now ≢ [] }
     requires unmarked { has_failed writer.old ≡ false }
@@ -78,7 +78,7 @@ pub fn filtered_in_tree<E: Platform, A: Allocator, B: Allocator + Copy, W: Write
     picker: Picker<'_, E, B>,
     name: &[u8],
     writer: &mut Marked<W>,
-) -> Result<(), ListFault<Rejection>>
+) -> Result<bool, ListFault<Rejection>>
     requires whole { Lacks 0 name.now }
     requires placed { IsFromTop name.now }
     requires unmarked { has_failed writer.old ≡ false }

@@ -28,7 +28,7 @@ pub fn names_again<E: Platform, A: Allocator, W: Write>(
     names: &[u8],
     lines: &[u8],
     writer: &mut Marked<W>,
-) -> Result<(), ListFault<Rejection>>
+) -> Result<bool, ListFault<Rejection>>
     requires listed { IsOutput (rules_of ⟦<E as Platform>⟧ (listing list)) names.now lines.now }
     requires unmarked { has_failed writer.old ≡ false }
     ensures { OnOk result ((back : List ℕ) × (IsCompleted (byte_of list.end) names.now back
@@ -50,7 +50,7 @@ pub fn names_again_of_words<A: Allocator, W: Write>(
     names: &[u8],
     lines: &[u8],
     writer: &mut Marked<W>,
-) -> Result<(), ListFault<Rejection>>
+) -> Result<bool, ListFault<Rejection>>
     requires listed { IsOutput (rules_of ⟦<Unix as Platform>⟧ (listing_words list)) names.now
         lines.now }
     requires unmarked { has_failed writer.old ≡ false }
@@ -72,7 +72,7 @@ pub fn words_of_line<A: Allocator, W: Write>(
     max: usize,
     line: &[u8],
     writer: &mut Marked<W>,
-) -> Result<(), ListFault<Rejection>>
+) -> Result<bool, ListFault<Rejection>>
     requires whole { Lacks 0x0A line.now }
     requires some { line.now ≢ [] }
     requires unmarked { has_failed writer.old ≡ false }
@@ -100,7 +100,7 @@ pub fn first_names_again<E: Platform, A: Allocator, W: Write>(
     lines: &[u8],
     cut: usize,
     writer: &mut Marked<W>,
-) -> Result<(), ListFault<Rejection>>
+) -> Result<bool, ListFault<Rejection>>
     requires listed { IsOutput (rules_of ⟦<E as Platform>⟧ (listing list)) names.now lines.now }
     requires within { cut ≤ length lines.now }
     requires unmarked { has_failed writer.old ≡ false }
@@ -127,7 +127,7 @@ pub fn unended_line<E: Platform, A: Allocator, W: Write>(
     max: usize,
     line: &[u8],
     writer: &mut Marked<W>,
-) -> Result<(), ListFault<Rejection>>
+) -> Result<bool, ListFault<Rejection>>
     requires whole { Lacks 0x0A line.now }
     requires some { line.now ≢ [] }
     requires unmarked { has_failed writer.old ≡ false }
@@ -142,7 +142,7 @@ pub fn empty_line<E: Platform, A: Allocator, W: Write>(
     alloc: A,
     max: usize,
     writer: &mut Marked<W>,
-) -> Result<(), ListFault<Rejection>>
+) -> Result<bool, ListFault<Rejection>>
     requires { has_failed writer.old ≡ false }
     ensures { ¬ (IsOk result) }
 {
@@ -156,7 +156,7 @@ pub fn returned_line<A: Allocator, W: Write>(
     max: usize,
     line: &[u8],
     writer: &mut Marked<W>,
-) -> Result<(), ListFault<Rejection>>
+) -> Result<bool, ListFault<Rejection>>
     requires returned { (front : List ℕ)
         × (Lacks 0x0A front × (line.now ≡ (front ++ 0x0D ∷ []) ++ 0x0A ∷ [])) }
     requires unmarked { has_failed writer.old ≡ false }

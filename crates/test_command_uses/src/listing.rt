@@ -1,5 +1,5 @@
 //! Names that are listed as lines or words, or checked, and what a run over them rejects.
-ghost use Rattle.std.specs.Prelude.{◌≡◌, ◌≢◌, ◌≤◌, ◌∷◌, ◌++◌, [], ℕ, List, false, IsOk, IfErr, OnErr, OnOk, length};
+ghost use Rattle.std.specs.Prelude.{◌≡◌, ◌≢◌, ◌≤◌, ◌∷◌, ◌++◌, [], ℕ, List, true, false, Err, IsOk, IfErr, OnErr, OnOk, length};
 ghost use Rattle.std.specs.Io.KnownBytes.{Appends};
 ghost use Rattle.os_command_line.specs.ShellWriting.{quoted_word};
 ghost use Rattle.os_quote.specs.Escape.{IsLineEscape};
@@ -7,20 +7,23 @@ ghost use Rattle.os_str_bytes.specs.EncodingError.{EncodingError};
 ghost use Rattle.os_str_bytes.specs.Strings.{bytes};
 ghost use Rattle.list_programs.specs.Items.{Lacks};
 ghost use Rattle.list_programs.specs.ListOptions.{byte_of};
-ghost use Rattle.list_programs.specs.ListRun.{IsOutput, StopsOn};
+ghost use Rattle.list_programs.specs.ListRun.{IsOutput, StopsOn, WritesSome};
 ghost use Rattle.program_frame.specs.Marked.{marked_inner, has_failed};
 ghost use Rattle.program_frame.specs.declared.fault.Failure.TheVariants.{Write as WriteFailure};
 ghost use Rattle.list_programs.specs.declared.fault.ListFault.TheVariants.{Rejected, Run, Unended};
 ghost use Rattle.list_programs.specs.declared.options.ItemEnd.{ItemEnd as ItemEndOf};
+ghost use Rattle.list_programs.specs.declared.program_fault.Fault.TheVariants.{Words};
 ghost use Rattle.names_commands.specs.Task.{rules_of};
 ghost use Rattle.names_commands.specs.declared.fault.Rejection.{Rejection};
+ghost use Rattle.names_commands.specs.declared.fault.CommandFault.TheVariants.{NoOutput};
 ghost use Rattle.names_commands.specs.declared.fault.Rejection.TheVariants.{NoString};
 
+use list_programs::answers::run_list;
 use list_programs::fault::ListFault;
 use list_programs::lines::push_escape;
 use list_programs::options::{ItemEnd, LastItem, ListOptions};
 use list_programs::run::run;
-use names_commands::fault::Rejection;
+use names_commands::fault::{CommandFault, Fault, Rejection};
 use names_commands::task::{OnPlatform, Settings, Task, WordForm};
 use os_str_bytes::{OsStr, Platform, Unix};
 use program_frame::marked::Marked;
@@ -33,7 +36,7 @@ pub(crate) fn run_over<E: Platform, A: Allocator, W: Write>(
     settings: Settings,
     input: &[u8],
     writer: &mut Marked<W>,
-) -> Result<(), ListFault<Rejection>>
+) -> Result<bool, ListFault<Rejection>>
     requires { has_failed writer.old ≡ false }
     ensures written { OnOk result ((output : List ℕ)
         × (IsOutput (rules_of ⟦<E as Platform>⟧ settings) input.now output
@@ -53,13 +56,33 @@ pub(crate) fn run_over<E: Platform, A: Allocator, W: Write>(
     )
 }
 
+/// Lists names on lines, and fails if nothing is written: on success something was written, and with
+/// that failure nothing.
+pub fn listed_or_none<E: Platform, A: Allocator, W: Write>(
+    alloc: A,
+    names: &[u8],
+    writer: &mut Marked<W>,
+) -> Result<(), Fault>
+    requires { has_failed writer.old ≡ false }
+    ensures some { OnOk result (WritesSome true (W.contents (marked_inner writer.old))
+        (W.contents (marked_inner writer.new))) }
+    ensures none { result ≡ Err (Words NoOutput)
+        → WritesSome false (W.contents (marked_inner writer.old))
+        (W.contents (marked_inner writer.new)) }
+{
+    let mut reader = Marked::new(names);
+    let mut listing = OnPlatform::<E>::new(Settings::new(Task::ListAll, 255));
+    let none = Some(CommandFault::NoOutput);
+    run_list(alloc, &mut listing, none, &mut reader, writer)
+}
+
 /// Lists one name, which is written as its escape on a line, and not past the limit.
 pub fn line_of<E: Platform, A: Allocator, W: Write>(
     alloc: A,
     max: usize,
     name: &[u8],
     writer: &mut Marked<W>,
-) -> Result<(), ListFault<Rejection>>
+) -> Result<bool, ListFault<Rejection>>
     requires whole { Lacks 0 name.now }
     requires some { name.now ≢ [] }
     requires unmarked { has_failed writer.old ≡ false }
@@ -85,7 +108,7 @@ pub fn line_before<E: Platform, A: Allocator, W: Write>(
     max: usize,
     names: &[u8],
     writer: &mut Marked<W>,
-) -> Result<(), ListFault<Rejection>>
+) -> Result<bool, ListFault<Rejection>>
     requires { has_failed writer.old ≡ false }
     ensures { IfErr result (λ fault. (name : List ℕ) → (rest : List ℕ) → (why : Rejection)
         → names.now ≡ name ++ 0 ∷ rest → Lacks 0 name → fault ≡ Rejected 2 why → (line : List ℕ)
@@ -102,7 +125,7 @@ pub fn word_of<A: Allocator, W: Write>(
     max: usize,
     name: &[u8],
     writer: &mut Marked<W>,
-) -> Result<(), ListFault<Rejection>>
+) -> Result<bool, ListFault<Rejection>>
     requires whole { Lacks 0 name.now }
     requires some { name.now ≢ [] }
     requires unmarked { has_failed writer.old ≡ false }
@@ -126,7 +149,7 @@ pub fn unended_name<E: Platform, A: Allocator, W: Write>(
     max: usize,
     name: &[u8],
     writer: &mut Marked<W>,
-) -> Result<(), ListFault<Rejection>>
+) -> Result<bool, ListFault<Rejection>>
     requires whole { Lacks 0 name.now }
     requires some { name.now ≢ [] }
     requires unmarked { has_failed writer.old ≡ false }
@@ -143,7 +166,7 @@ pub fn check_one<E: Platform, A: Allocator, W: Write>(
     max: usize,
     name: &[u8],
     writer: &mut Marked<W>,
-) -> Result<(), ListFault<Rejection>>
+) -> Result<bool, ListFault<Rejection>>
     requires whole { Lacks 0 name.now }
     requires unmarked { has_failed writer.old ≡ false }
     ensures { IfErr result (λ fault. (number : ℕ) → (error : EncodingError)

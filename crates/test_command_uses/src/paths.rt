@@ -107,7 +107,7 @@ fn ask<E: PathStyle, A: Allocator, W: Write>(
     list: ListOptions,
     input: &[u8],
     writer: &mut Marked<W>,
-) -> Result<(), ListFault<Rejection>>
+) -> Result<bool, ListFault<Rejection>>
     requires { has_failed writer.old ≡ false }
     ensures written { OnOk result ((output : List ℕ)
         × (IsOutput (rules_of ⟦<E as Platform>⟧ E.follows task.entry list list.end) input.now output
@@ -137,7 +137,7 @@ pub fn requested_on<E: PathStyle, P: Eprint, A: Allocator, W: Write>(
     list: ListOptions,
     input: &[u8],
     writer: &mut Marked<W>,
-) -> (u64, Result<(), ListFault<Rejection>>)
+) -> (u64, Result<bool, ListFault<Rejection>>)
     requires { has_failed writer.old ≡ false }
     ensures written { OnOk result.1 ((output : List ℕ) × (IsOutput
         (passing result.0 (rules_of ⟦<E as Platform>⟧ E.follows task.entry list list.end))
@@ -161,7 +161,7 @@ pub fn answered<E: PathStyle, A: Allocator, W: Write>(
     task: Task<'_>,
     path: &[u8],
     writer: &mut Marked<W>,
-) -> Result<(), ListFault<Rejection>>
+) -> Result<bool, ListFault<Rejection>>
     requires question { task ≢ Components }
     requires taken { IsTaken E.follows task path.now }
     requires whole { Lacks (byte_of end) path.now }
@@ -180,7 +180,7 @@ pub fn parent_line<E: PathStyle, A: Allocator, W: Write>(
     alloc: A,
     path: &[u8],
     writer: &mut Marked<W>,
-) -> Result<(), ListFault<Rejection>>
+) -> Result<bool, ListFault<Rejection>>
     requires whole { Lacks 0x0A path.now }
     requires some { path.now ≢ [] }
     requires unmarked { has_failed writer.old ≡ false }
@@ -199,7 +199,7 @@ pub fn line_with_nul<E: PathStyle, A: Allocator, W: Write>(
     task: Task<'_>,
     path: &[u8],
     writer: &mut Marked<W>,
-) -> Result<(), ListFault<Rejection>>
+) -> Result<bool, ListFault<Rejection>>
     requires whole { Lacks 0x0A path.now }
     requires nul { ¬ (Lacks 0 path.now) }
     requires some { path.now ≢ [] }
@@ -215,7 +215,7 @@ pub fn unended_path<E: PathStyle, A: Allocator, W: Write>(
     task: Task<'_>,
     path: &[u8],
     writer: &mut Marked<W>,
-) -> Result<(), ListFault<Rejection>>
+) -> Result<bool, ListFault<Rejection>>
     requires whole { Lacks 0 path.now }
     requires some { path.now ≢ [] }
     requires unmarked { has_failed writer.old ≡ false }
@@ -229,7 +229,7 @@ pub fn parent_of<E: PathStyle, A: Allocator, W: Write>(
     alloc: A,
     path: &[u8],
     writer: &mut Marked<W>,
-) -> Result<(), ListFault<Rejection>>
+) -> Result<bool, ListFault<Rejection>>
     requires whole { Lacks 0 path.now }
     requires some { path.now ≢ [] }
     requires unmarked { has_failed writer.old ≡ false }
@@ -248,7 +248,7 @@ pub fn after_base<E: PathStyle, A: Allocator, W: Write>(
     base: &str,
     path: &[u8],
     writer: &mut Marked<W>,
-) -> Result<(), ListFault<Rejection>>
+) -> Result<bool, ListFault<Rejection>>
     requires whole { Lacks 0 path.now }
     requires some { path.now ≢ [] }
     requires unmarked { has_failed writer.old ≡ false }
@@ -266,7 +266,7 @@ pub fn begins_with<E: PathStyle, A: Allocator, W: Write>(
     base: &str,
     path: &[u8],
     writer: &mut Marked<W>,
-) -> Result<(), ListFault<Rejection>>
+) -> Result<bool, ListFault<Rejection>>
     requires whole { Lacks 0 path.now }
     requires some { path.now ≢ [] }
     requires unmarked { has_failed writer.old ≡ false }
@@ -291,7 +291,7 @@ pub fn with_extension<E: PathStyle, A: Allocator, W: Write>(
     extension: Extension<'_>,
     path: &[u8],
     writer: &mut Marked<W>,
-) -> Result<(), ListFault<Rejection>>
+) -> Result<bool, ListFault<Rejection>>
     requires whole { Lacks 0 path.now }
     requires some { path.now ≢ [] }
     requires unmarked { has_failed writer.old ≡ false }
@@ -324,7 +324,7 @@ pub fn kept_below<E: PathStyle, A: Allocator, W: Write>(
     base: Base<'_>,
     path: &[u8],
     writer: &mut Marked<W>,
-) -> Result<(), ListFault<Rejection>>
+) -> Result<bool, ListFault<Rejection>>
     requires whole { Lacks 0 path.now }
     requires some { path.now ≢ [] }
     requires unmarked { has_failed writer.old ≡ false }
@@ -345,7 +345,7 @@ pub fn from_base<E: PathStyle, A: Allocator, W: Write>(
     base: &str,
     path: &[u8],
     writer: &mut Marked<W>,
-) -> Result<(), ListFault<Rejection>>
+) -> Result<bool, ListFault<Rejection>>
     requires whole { Lacks 0 path.now }
     requires some { path.now ≢ [] }
     requires unmarked { has_failed writer.old ≡ false }
@@ -363,7 +363,7 @@ pub fn full_path<E: PathStyle, A: Allocator, W: Write>(
     directory: &str,
     path: &[u8],
     writer: &mut Marked<W>,
-) -> Result<(), ListFault<Rejection>>
+) -> Result<bool, ListFault<Rejection>>
     requires whole { Lacks 0 path.now }
     requires some { path.now ≢ [] }
     requires unmarked { has_failed writer.old ≡ false }
@@ -381,7 +381,7 @@ pub fn on_platform<E: PathStyle, A: Allocator, W: Write>(
     to: Os,
     path: &[u8],
     writer: &mut Marked<W>,
-) -> Result<(), ListFault<Rejection>>
+) -> Result<bool, ListFault<Rejection>>
     requires whole { Lacks 0 path.now }
     requires some { path.now ≢ [] }
     requires unmarked { has_failed writer.old ≡ false }
@@ -399,7 +399,7 @@ pub fn components_of<E: PathStyle, A: Allocator, W: Write>(
     alloc: A,
     path: &[u8],
     writer: &mut Marked<W>,
-) -> Result<(), ListFault<Rejection>>
+) -> Result<bool, ListFault<Rejection>>
     requires whole { Lacks 0 path.now }
     requires some { path.now ≢ [] }
     requires unmarked { has_failed writer.old ≡ false }
@@ -418,7 +418,7 @@ pub fn requested_one<E: PathStyle, A: Allocator, W: Write>(
     task: Task<'_>,
     path: &[u8],
     writer: &mut Marked<W>,
-) -> Result<(), ListFault<Rejection>>
+) -> Result<bool, ListFault<Rejection>>
     requires whole { Lacks 0 path.now }
     requires unmarked { has_failed writer.old ≡ false }
     ensures { IfErr result (λ fault. (number : ℕ) → (error : EncodingError)
@@ -435,7 +435,7 @@ pub fn joined_one<E: PathStyle, A: Allocator, W: Write>(
     keeps: bool,
     path: &[u8],
     writer: &mut Marked<W>,
-) -> Result<(), ListFault<Rejection>>
+) -> Result<bool, ListFault<Rejection>>
     requires whole { Lacks 0 path.now }
     requires unmarked { has_failed writer.old ≡ false }
     ensures at { IfErr result (λ fault. (number : ℕ) → (error : NameError)

@@ -6,7 +6,7 @@ ghost use Rattle.names_commands.specs.Command.{HasOperands, IsRequestFor, Option
 ghost use Rattle.test_command_uses.specs.OneFile.{usual};
 ghost use Rattle.names_commands.specs.declared.command.Name.{Name};
 ghost use Rattle.names_commands.specs.declared.command.RequestError.TheVariants.{Memory as NoMemory};
-ghost use Rattle.names_commands.specs.declared.option.NamesOption.TheVariants.{Exclude, GlobsFrom, Help, IgnoreCase, Version};
+ghost use Rattle.names_commands.specs.declared.option.NamesOption.TheVariants.{Exclude, ExitStatus, GlobsFrom, Help, IgnoreCase, Version};
 
 use list_programs::arguments::Given;
 use list_programs::options::{ItemEnd, LastItem, ListOptions};
@@ -66,6 +66,22 @@ pub fn is_case_insensitive<'a, A: Allocator + Copy>(
 {
     match Request::parse(alloc, given) {
         Ok(request) => Ok(request.case_insensitive),
+        Err(error) => Err(error),
+    }
+}
+
+/// Whether a run of the request that options and operands make up fails if it writes nothing: exactly
+/// where the option for that is given.
+pub fn has_exit_status<'a, A: Allocator + Copy>(
+    alloc: A,
+    given: Line<'_, 'a>,
+) -> Result<bool, RequestError<'a>>
+    requires help { ¬ (HasOption Help given.now) }
+    requires version { ¬ (HasOption Version given.now) }
+    ensures { IfOk result (λ stated. IsTrue stated ↔ HasOption ExitStatus given.entry.now) }
+{
+    match Request::parse(alloc, given) {
+        Ok(request) => Ok(request.exit_status),
         Err(error) => Err(error),
     }
 }

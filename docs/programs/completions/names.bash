@@ -18,9 +18,9 @@ _names() {
         esac
     done
     case $command:$count:$word in
-        list:*:-*) words='--glob --globs-from --name --exclude --ignore -v --invert -i --ignore-case --sh --sh-line --lines --unterminated --max' ;;
-        filter:*:-*) words='--glob --globs-from --name --exclude --ignore -v --invert -i --ignore-case --lines --unterminated --max' ;;
-        why:*:-*) words='--glob --name --ignore -i --ignore-case --lines --unterminated --max' ;;
+        list:*:-*) words='--glob --globs-from --name --exclude --ignore -v --invert -i --ignore-case --exit-status --sh --sh-line --lines --unterminated --max' ;;
+        filter:*:-*) words='--glob --globs-from --name --exclude --ignore -v --invert -i --ignore-case --exit-status --lines --unterminated --max' ;;
+        why:*:-*) words='--glob --name --ignore -i --ignore-case --exit-status --lines --unterminated --max' ;;
         join:*:-*) words='--sh --sh-line --lines --unterminated --empty --max' ;;
         check:*:-*) words='--lines --unterminated --max' ;;
         tar:*:-*) words='--lines --max' ;;

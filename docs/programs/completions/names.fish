@@ -14,6 +14,7 @@ complete -c names -n '__fish_seen_subcommand_from list filter' -l exclude -x -d 
 complete -c names -n '__fish_seen_subcommand_from list filter why' -l ignore -rF -d 'leave out what an ignore file ignores'
 complete -c names -n '__fish_seen_subcommand_from list filter' -s v -l invert -d 'pick the others'
 complete -c names -n '__fish_seen_subcommand_from list filter why' -s i -l ignore-case -d 'match without regard to case'
+complete -c names -n '__fish_seen_subcommand_from list filter why' -l exit-status -d 'end with status 1 if nothing is printed'
 complete -c names -n '__fish_seen_subcommand_from list join' -l sh -d 'words that every POSIX shell reads as the names'
 complete -c names -n '__fish_seen_subcommand_from list join' -l sh-line -d 'words of a shell, each on one line'
 complete -c names -l lines -d 'a newline ends each name, and not NUL'

@@ -1,8 +1,9 @@
 -- Blocks, one after the other, to the end of the input.
-use Rattle.std.proofs.Common.{◌≡◌, inl, inr, ℕ, ◌+◌, ◌^◌, ◌≤◌, List, [], ◌∷◌, ◌++◌, Option, None, Some, IfSome, Result, Ok, Err, IfOk, IfErr, length, take, refl, sym, ap, ◌∙◌, subst, arith, append_assoc, append-nil, length-append}
+use Rattle.std.proofs.Common.{◌≡◌, ◌==◌, ◌||◌, Bool, not, inl, inr, ℕ, ◌+◌, ◌^◌, ◌≤◌, List, [], ◌∷◌, ◌++◌, Option, None, Some, IfSome, Result, Ok, Err, IfOk, IfErr, length, take, refl, sym, ap, ◌∙◌, subst, arith, append_assoc, append-nil, length-append}
 use Rattle.std.proofs.KnownBytes.{Consumes-nil, Appends-nil, Consumes-trans, Appends-trans, Consumes-whole}
 use Rattle.std.proofs.lemmas.Grind.{flat_map-append}
 use Rattle.std.proofs.lemmas.Result.{IfErr-at_err}
+use Rattle.std.proofs.Math.Dec.{eqb-suc-zero}
 use Rattle.std.proofs.Math.Seq.{take-append-add}
 use Rattle.std.specs.Io.KnownBytes.{Appends, Consumes, IsAtEnd}
 use Rattle.program_frame.specs.declared.fault.Failure.{Failure}
@@ -13,7 +14,7 @@ use Rattle.list_programs.specs.Items.{Entry, ended, text_of, items_of, texts_of}
 use Rattle.list_programs.specs.Rules.{ListRules, IsFaultAt, IsRejected, IsEntry}
 use Rattle.program_frame.specs.Written.{AppendsBeginning}
 use Rattle.list_programs.specs.Reading.{State, Reads, Stops, IsEnded, Begins}
-use Rattle.list_programs.specs.ListRun.{start, IsOutput, IsBegun, StopsOn, WritesOutput, WritesUpTo, WritesBeginning, HasRead, IsLast, Finishes}
+use Rattle.list_programs.specs.ListRun.{start, has_some, IsOutput, IsBegun, StopsOn, WritesOutput, WritesSome, WritesUpTo, WritesBeginning, HasRead, IsLast, Finishes}
 use Rattle.list_programs.proofs.lemmas.Reading.{all-append, with_more_after}
 
 -- what is known of the first bytes, whatever comes after them, is known of the input
@@ -53,6 +54,19 @@ write_no_read e = cc
 
 pub too_much_no_run : {X F : Type 0} {why : Failure} → ◌≡◌ {A = Result X (ListFault F)} (Err TooMuch) (Err (Run why)) → ⊥
 too_much_no_run e = cc
+
+-- a text of two has a byte if the first has one, or the second
+some_append : (xs ys : List ℕ) → has_some (xs ++ ys) ≡ (has_some xs || has_some ys)
+some_append [] ys = refl
+some_append (x ∷ xs) ys = refl
+
+pub some_of_empty : (text : List ℕ) → not (length text == 0) ≡ has_some text
+some_of_empty [] = refl
+some_of_empty (x ∷ text) = ap not (eqb-suc-zero (length text))
+
+-- what was written before, and this after it
+pub some_more : (before wrote : Bool) (old mid new : Option (List ℕ)) (text : List ℕ) → WritesSome before old mid → Appends mid new text → wrote ≡ (before || has_some text) → WritesSome wrote old new
+some_more before wrote old mid new text w a is = (w.0 ++ text, (Appends-trans old mid new w.0 text w.1.0 a, is ∙ ap (λ b. b || has_some text) w.1.1 ∙ sym (some_append w.0 text)))
 
 module _ {F : Type 0} (list : ListRules F) where
   abbrev end : ℕ

@@ -142,6 +142,7 @@ plain os given none ignores option.Invert h = tt
 plain os given none ignores option.IgnoreCase h = tt
 plain os given none ignores option.Exclude h = tt
 plain os given none ignores option.GlobsFrom h = tt
+plain os given none ignores option.ExitStatus h = tt
 
 on_unix : (it : NamesOption) → IsForPlatform Unix it
 on_unix option.Help = tt
@@ -159,6 +160,7 @@ on_unix option.Invert = tt
 on_unix option.IgnoreCase = tt
 on_unix option.Exclude = tt
 on_unix option.GlobsFrom = tt
+on_unix option.ExitStatus = tt
 
 for_words : (os : Os) (given : Line) → os ≡ Unix → (it : NamesOption) → HasOption it given → IsForPlatform os it
 for_words os given unix it h = subst (λ o. IsForPlatform o it) (sym unix) (on_unix it)

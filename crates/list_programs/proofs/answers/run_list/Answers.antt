@@ -1,16 +1,17 @@
-use Rattle.std.proofs.Common.{sym, ap}
-use Rattle.list_programs.specs.ListRun.{answer_of}
+use Rattle.std.proofs.Common.{Bool, Ok, Err, refl}
+use Rattle.std.specs.Prelude.{⊤}
 use Rattle.list_programs.specs.declared.program_fault.Fault.TheVariants.{List as OfList}
+use Rattle.list_programs.proofs.lemmas.Runs.{no_err, other_err}
 use Rattle.list_programs.proofs.answers.run_list.Goals as goal
 
 pub returns-in-Ok-clause-run : goal.returns-in-Ok-clause-run
 returns-in-Ok-clause-run g c = (
-  c.run.result,
-  (record { all_read = c.run.ensures.all_read; written = c.run.ensures.written; stopped = c.run.ensures.stopped; beginning = c.run.ensures.beginning }, sym (ap (answer_of OfList) c.in-Ok.is)),
+  Ok tt,
+  ((Ok tt, (record { all_read = c.in-Ok.ensures.all_read; written = c.in-Ok.ensures.written; stopped = tt; beginning = λ e. absurd (no_err e) }, refl)), (c.in-Ok.wrote, (c.in-Ok.ensures.some, c.ended_by.ensures))),
 )
 
 pub returns-in-Err-clause-run : goal.returns-in-Err-clause-run
 returns-in-Err-clause-run g c = (
-  c.run.result,
-  (record { all_read = c.run.ensures.all_read; written = c.run.ensures.written; stopped = c.run.ensures.stopped; beginning = c.run.ensures.beginning }, sym (ap (answer_of OfList) c.in-Err.is)),
+  Err (OfList c.in-Err.fault),
+  ((Err c.in-Err.fault, (record { all_read = tt; written = tt; stopped = c.in-Err.ensures.stopped; beginning = λ e. c.in-Err.ensures.beginning (other_err ⊤ Bool _ _ e) }, refl)), refl),
 )

@@ -5,6 +5,7 @@ use Rattle.list_programs.proofs.run.write_output.Goals as goal
 
 pub returns-in-Ok : goal.returns-in-Ok
 returns-in-Ok g c = record {
+  some = c.wrote_some.ensures;
   written = c.in-Ok.ensures.written;
   fault = tt;
   beginning = λ e. absurd (no_err e);
@@ -15,6 +16,7 @@ returns-in-Ok g c = record {
 
 pub returns-in-Err : goal.returns-in-Err
 returns-in-Err g c = record {
+  some = tt;
   written = tt;
   fault = refl;
   beginning = λ _. c.in-Err.ensures.beginning;

@@ -35,6 +35,7 @@ returns-in-Ok g c =
           c.in-Ok.ensures.words;
       closed = λ closed. c.reporting_unless.ensures.closed (c.closed.ensures ∙ closed);
       quiet = rw outcome c.reporting_unless.ensures.quiet;
+      silent = rw outcome c.reporting_unless.ensures.silent;
       reported = λ reported.
           same_reported (outcome_of c.reporting_unless.result) c.run_words-outcome.result c.name.result.now g.P.Program.name
           (λ name fault. Appends (g.E.Write.contents c.args.errors.now) (g.E.Write.contents c.reporting_unless.new.errors) (message name (g.P.Fault.ProgramFault.text_of fault)))
@@ -55,6 +56,7 @@ returns-in-Err-Memory g c =
       run = IfOk-from c.args.args _ (λ args. inl (memory, (refl, refl)));
       closed = λ set. absurd (false≢true (sym (and_left _ _ c.requires.writer_unmarked) ∙ set));
       quiet = rw outcome tt;
+      silent = rw outcome c.reporting.ensures.silent;
       reported = λ reported.
           same_reported (outcome_of c.reporting.result) (Err c.out_of_memory.result) c.name-in-Err-Memory.result.now g.P.Program.name
           (λ name fault. Appends (g.E.Write.contents c.args.errors.now) (g.E.Write.contents c.reporting.new.errors) (message name (g.P.Fault.ProgramFault.text_of fault)))
@@ -75,6 +77,7 @@ returns-in-Err-Unreadable g c =
       run = IfOk-weaker c.args.args _ _ (λ args memory. absurd (one_cause (subst (λ r. IfErr r (λ why. why ≡ no_words.Memory)) is memory))) c.words.ensures.memory;
       closed = λ set. absurd (false≢true (sym (and_left _ _ c.requires.writer_unmarked) ∙ set));
       quiet = rw outcome tt;
+      silent = rw outcome c.reporting-in-Err-Unreadable.ensures.silent;
       reported = λ reported.
           same_reported (outcome_of c.reporting-in-Err-Unreadable.result) (Err c.unreadable.result) c.name-in-Err-Unreadable.result.now g.P.Program.name
           (λ name fault. Appends (g.E.Write.contents c.args.errors.now) (g.E.Write.contents c.reporting-in-Err-Unreadable.new.errors) (message name (g.P.Fault.ProgramFault.text_of fault)))
