@@ -39,7 +39,7 @@ use Rattle.names_commands.specs.Matching.{AreWrittenOut}
 use Rattle.names_commands.specs.Operands.{HasPlatform, first_of}
 use Rattle.names_commands.specs.Options.{has_value, spelled}
 use Rattle.names_commands.specs.Pick.{ArePatterns, added_before, in_any_folder}
-use Rattle.names_commands.specs.Program.{Does, DoesCommand, DoesWork, Fault, RunsDeciding, RunsLine, RunsTo}
+use Rattle.names_commands.specs.Program.{Does, DoesCommand, DoesWork, Fault, RunsDeciding, RunsLine, RunsReasons, RunsTo, UnlessOutOfMemory}
 use Rattle.names_commands.specs.Why.{IsDecided, IsDecidedText, IsTextOfFirst, IsTextOfNumbers, Sources, deciding, numbers_of, place_text, sources}
 use Rattle.names_commands.specs.declared.command.Command.TheVariants.{On, Version}
 use Rattle.names_commands.specs.declared.command.Work.TheVariants.{Why}
