@@ -1,8 +1,10 @@
 pub mod CommonPaths
+pub mod GivenGlobFile
 pub mod GivenIgnore
 pub mod GivenPaths
 pub mod GivenWords
 pub mod KnownGlob
+pub mod KnownGlobFile
 pub mod KnownIgnore
 pub mod KnownLists
 pub mod KnownNames
