@@ -21,27 +21,27 @@ use Rattle.names_commands.specs.declared.option.NamesOption.{NamesOption}
 use Rattle.names_commands.specs.declared.option.NamesOption.TheVariants as option
 use Rattle.test_command_uses.specs.OneFile.{asking, case_words}
 
-ascii_text : (s : List ℕ) → AllByRecursion (λ b. b < 0x80) s → IsUtf8 s
+pub ascii_text : (s : List ℕ) → AllByRecursion (λ b. b < 0x80) s → IsUtf8 s
 ascii_text s h = IsUtf8-from_ascii s (IsAscii-from_all s (All-from_recursion (λ b. b < 0x80) s h))
 
-head_is : {X : Type 0} {x y : X} {xs ys : List X} → x ∷ xs ≡ y ∷ ys → x ≡ y
+pub head_is : {X : Type 0} {x y : X} {xs ys : List X} → x ∷ xs ≡ y ∷ ys → x ≡ y
 head_is e = cc
 
 tail_is : {X : Type 0} {x y : X} {xs ys : List X} → x ∷ xs ≡ y ∷ ys → xs ≡ ys
 tail_is e = cc
 
-nil_is : {x : ℕ} {xs : List ℕ} → [] ≡ x ∷ xs → ⊥
+pub nil_is : {x : ℕ} {xs : List ℕ} → [] ≡ x ∷ xs → ⊥
 nil_is e = cc
 
 -- a byte that isn't `=` before bytes without one
-nowhere_nil : OccursNowhere equals []
+pub nowhere_nil : OccursNowhere equals []
 nowhere_nil i o = by o.before o.joined
   where
     by : (before : List ℕ) → [] ≡ before ++ (equals ++ o.after) → ⊥
     by [] e = nil_is e
     by (b ∷ before) e = nil_is e
 
-nowhere_cons : (x : ℕ) (s : List ℕ) → x ≢ 61 → OccursNowhere equals s → OccursNowhere equals (x ∷ s)
+pub nowhere_cons : (x : ℕ) (s : List ℕ) → x ≢ 61 → OccursNowhere equals s → OccursNowhere equals (x ∷ s)
 nowhere_cons x s differs none i o = by o.before o.joined
   where
     by : (before : List ℕ) → x ∷ s ≡ before ++ (equals ++ o.after) → ⊥
@@ -255,32 +255,32 @@ module _ (one_word : OneWord) (one_value : OneValue) where
     operand_taken (Flag it) after t = absurd (no_option it t.0 t.1.0.0 (same_kind t.1.1 step).0)
     operand_taken (Valued it value) after t = absurd (no_option it t.0 t.2.0.0 (same_kind t.2.1.0 step).0)
 
-  -- where the option for an ignore file is next, it is read with its value
-  module _ (r mid next : Reading) (file : List ℕ) (step : TakesWord r (Ok (Some (Long (codes "ignore")))) mid) (given : TakesValue mid (Ok file) next) where
-    is_ignore : (it : NamesOption) (kind : Kind) → spelled it kind → kind ≡ Long (codes "ignore") → it ≡ option.Ignore
-    is_ignore it kind is e = only_ignore it (subst (spelled it) e is)
+  -- where an option with a value is next, it is read with its value
+  module _ (it : NamesOption) (only : (other : NamesOption) → name_of it ≡ name_of other → other ≡ it) (valued : has_value it ≡ true) (r mid next : Reading) (text : List ℕ) (step : TakesWord r (Ok (Some (Long (name_of it)))) mid) (given : TakesValue mid (Ok text) next) where
+    is_it : (other : NamesOption) (kind : Kind) → spelled other kind → kind ≡ Long (name_of it) → other ≡ it
+    is_it other kind is e = only other (subst (spelled other) e is)
 
-    not_flag : (it : NamesOption) → it ≡ option.Ignore → has_value it ≡ false → ⊥
-    not_flag it is e = let never : true ≡ false = sym (ap has_value is) ∙ e in cc
+    not_flag : (other : NamesOption) → other ≡ it → has_value other ≡ false → ⊥
+    not_flag other is e = let never : true ≡ false = sym valued ∙ sym (ap has_value is) ∙ e in cc
 
     option_fails : (fault : Fault) → ¬ (FailsAt spelled has_value r fault)
     option_fails fault (inl f) = no_fault f.1 step
-    option_fails fault (inr (inl f)) = f.unknown option.Ignore (subst (spelled option.Ignore) (sym (same_kind f.taken step).0) refl)
+    option_fails fault (inr (inl f)) = f.unknown it (subst (spelled it) (sym (same_kind f.taken step).0) refl)
     option_fails fault (inr (inr f)) =
         let lacks = subst (λ m. TakesValue m (Err fault) f.after) (same_kind f.taken step).1 f.missing in
-        let never = (one_value mid (Err fault) (Ok file) f.after next lacks given).0 in
+        let never = (one_value mid (Err fault) (Ok text) f.after next lacks given).0 in
         cc
 
-    option_taken : (one : Given NamesOption) (after : Reading) → Takes spelled has_value r one after → (held : Bor (List ℕ)) × ((one ≡ Valued option.Ignore held) × ((held.now ≡ file) × (after ≡ next)))
+    pub option_taken : (one : Given NamesOption) (after : Reading) → Takes spelled has_value r one after → (held : Bor (List ℕ)) × ((one ≡ Valued it held) × ((held.now ≡ text) × (after ≡ next)))
     option_taken (Operand held) after t = let never = (same_kind t step).0 in absurd (cc)
-    option_taken (Flag it) after t = absurd (not_flag it (is_ignore it t.0 t.1.0.0 (same_kind t.1.1 step).0) t.1.0.1)
-    option_taken (Valued it held) after t =
+    option_taken (Flag other) after t = absurd (not_flag other (is_it other t.0 t.1.0.0 (same_kind t.1.1 step).0) t.1.0.1)
+    option_taken (Valued other held) after t =
         let both = same_kind t.2.1.0 step in
-        let is = is_ignore it t.0 t.2.0.0 both.0 in
+        let is = is_it other t.0 t.2.0.0 both.0 in
         let value = subst (λ m. TakesValue m (Ok held.now) after) both.1 t.2.1.1 in
-        let same = one_value mid (Ok held.now) (Ok file) after next value given in
-        let text : held.now ≡ file = let e = same.0 in cc in
-        (held, (ap (λ i. Valued i held) is, (text, same.1)))
+        let same = one_value mid (Ok held.now) (Ok text) after next value given in
+        let is_text : held.now ≡ text = let e = same.0 in cc in
+        (held, (ap (λ i. Valued i held) is, (is_text, same.1)))
 
   -- where the option that disregards case is next, it is read
   module _ (r next : Reading) (step : TakesWord r (Ok (Some (Short 0x69))) next) where
@@ -345,8 +345,8 @@ module _ (one_word : OneWord) (one_value : OneValue) where
     no_fault_of fault h = first h.given h.are
       where
         third : (given : Line) → TakesAll spelled has_value (at which folds file 2 None) given h.at → ⊥
-        third [] t = option_fails (at which folds file 2 None) (at which folds file 3 (ignoring which folds file)) (at which folds file 4 (ignoring which folds file)) file (option_next which folds file) (file_next which folds file) fault (subst (λ r. FailsAt spelled has_value r fault) t h.fails)
-        third (one ∷ given) t = no_fault_left which file h.at folds fault given h.fails (subst (λ r. TakesAll spelled has_value r given h.at) (option_taken (at which folds file 2 None) (at which folds file 3 (ignoring which folds file)) (at which folds file 4 (ignoring which folds file)) file (option_next which folds file) (file_next which folds file) one t.0 t.1).1.1.1 t.2)
+        third [] t = option_fails option.Ignore only_ignore refl (at which folds file 2 None) (at which folds file 3 (ignoring which folds file)) (at which folds file 4 (ignoring which folds file)) file (option_next which folds file) (file_next which folds file) fault (subst (λ r. FailsAt spelled has_value r fault) t h.fails)
+        third (one ∷ given) t = no_fault_left which file h.at folds fault given h.fails (subst (λ r. TakesAll spelled has_value r given h.at) (option_taken option.Ignore only_ignore refl (at which folds file 2 None) (at which folds file 3 (ignoring which folds file)) (at which folds file 4 (ignoring which folds file)) file (option_next which folds file) (file_next which folds file) one t.0 t.1).1.1.1 t.2)
 
         second_one : (given : Line) → TakesAll spelled has_value (at which folds file 1 None) given h.at → ⊥
         second_one [] t = operand_fails (at which folds file 1 None) (at which folds file 2 None) (codes "unix") (platform_next which folds file) fault (subst (λ r. FailsAt spelled has_value r fault) t h.fails)
@@ -372,7 +372,7 @@ module _ (one_word : OneWord) (one_value : OneValue) where
     third : (command platform : Bor (List ℕ)) → command.now ≡ name_word which → platform.now ≡ codes "unix" → (rest : Line) → TakesAll spelled has_value (at which folds file 2 None) rest read → AreAsking which folds file (Operand command ∷ Operand platform ∷ rest)
     third command platform c p [] t = absurd (no_end (subst (λ r. TakesWord r (Ok None) after) t end) (option_next which folds file))
     third command platform c p (one ∷ rest) t =
-        let it = option_taken (at which folds file 2 None) (at which folds file 3 (ignoring which folds file)) (at which folds file 4 (ignoring which folds file)) file (option_next which folds file) (file_next which folds file) one t.0 t.1 in
+        let it = option_taken option.Ignore only_ignore refl (at which folds file 2 None) (at which folds file 3 (ignoring which folds file)) (at which folds file 4 (ignoring which folds file)) file (option_next which folds file) (file_next which folds file) one t.0 t.1 in
         subst (λ x. AreAsking which folds file (Operand command ∷ Operand platform ∷ x ∷ rest)) (sym it.1.0)
         (last command platform it.0 c p it.1.1.0 rest (subst (λ r. TakesAll spelled has_value r rest read) it.1.1.1 t.2))
 

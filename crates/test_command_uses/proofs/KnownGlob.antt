@@ -164,7 +164,7 @@ not_stated words it false is = refl
 
 -- where no file was read, no line decides
 module _ (A : Type 0) where
-  no_files : (known : KnownFiles) (files : List (File A)) → AreRead known false [] files → files ≡ []
+  pub no_files : (known : KnownFiles) (files : List (File A)) → AreRead known false [] files → files ≡ []
   no_files known files r = by r.reads r.values_are r.added
     where
       by : (reads : List FileRead) → [] ≡ map value_of reads → AreAdded false reads [] files → files ≡ []
@@ -179,7 +179,7 @@ module _ (A : Type 0) where
   of_own path is_dir (Ignored file line) d = absurd (none_before d.front d.file d.back d.joined)
   of_own path is_dir (TakenIn file line) d = absurd (none_before d.front d.file d.back d.joined)
 
-  of_verdict : (path : List ℕ) (is_dir : Bool) (verdict : Verdict) → IsVerdict nothing path is_dir verdict → numbers_of verdict ≡ None
+  pub of_verdict : (path : List ℕ) (is_dir : Bool) (verdict : Verdict) → IsVerdict nothing path is_dir verdict → numbers_of verdict ≡ None
   of_verdict path is_dir verdict (rule.hidden h) = of_own h.front true verdict h.own
   of_verdict path is_dir verdict (rule.own shown d) = of_own path is_dir verdict d
 

@@ -10,29 +10,25 @@ use Rattle.program_frame.specs.Os.{os_word}
 use Rattle.program_frame.specs.Strings.{strings}
 use Rattle.program_frame.specs.declared.os.Os.{Os}
 use Rattle.program_frame.specs.declared.os.Os.TheVariants.{Unix, Windows, Wasm}
-use Rattle.names_commands.specs.Command.{Requested, IsRequestFor, HasOperands, IsListed, Line, MakesUp, MakesUpWork, StatesPicks, name_word, options_of, sources_of}
+use Rattle.names_commands.specs.Command.{Requested, IsRequestFor, HasOperands, IsListed, Line, MakesUp, StatesPicks, options_of, sources_of}
 use Rattle.names_commands.specs.Matching.{AreWrittenOut, IsChosen, IsMatched, IsPicked}
 use Rattle.names_commands.specs.Options.{has_value, spelled}
 use Rattle.names_commands.specs.Operands.{HasPlatform}
 use Rattle.names_commands.specs.PatternFiles.{ArePatternsOf, IsUnreadOf, PatternLine, text_of as pattern_text}
 use Rattle.names_commands.specs.Program.{Does, DoesCommand, DoesWork, Fault, IsOfGlobs, IsOfPicks, RejectsLine, RunsBut, RunsLine, RunsPicked, RunsTo, UnlessOutOfMemory}
 use Rattle.names_commands.specs.declared.command.Command.{Command}
-use Rattle.names_commands.specs.declared.command.Command.TheVariants.{Help, Version, On}
-use Rattle.names_commands.specs.declared.command.Name.{Name as DeclaredName}
+use Rattle.names_commands.specs.declared.command.Command.TheVariants.{Version, On}
 use Rattle.names_commands.specs.declared.command.Name.TheVariants as name
-use Rattle.names_commands.specs.declared.command.Work.{Work}
-use Rattle.names_commands.specs.declared.command.Work.TheVariants.{Each, Picked, Tar, Why}
-use Rattle.names_commands.specs.declared.matching.Form.TheVariants as form
+use Rattle.names_commands.specs.declared.command.Work.TheVariants.{Picked}
 use Rattle.names_commands.specs.declared.matching.Form.TheVariants.{Name}
-use Rattle.names_commands.specs.declared.task.Task.TheVariants.{ListAll, ListWords, Check, Join, JoinWords}
 use Rattle.names_commands.specs.declared.option.NamesOption.TheVariants as option
 use Rattle.os_args.specs.Views.{fault_of}
-use Rattle.list_programs.specs.Arguments.{AreGiven, HasOption}
+use Rattle.list_programs.specs.Arguments.{AreGiven, HasOption, operands_of}
 use Rattle.test_command_uses.specs.OneFile.{filtering, usual}
-use Rattle.test_command_uses.proofs.GivenIgnore.{given_of, has_operands, is_case, is_unix, is_usual, no_help, no_pattern_files, no_patterns, no_values, no_version, not_stated, one_file, states_one, usual_list}
-use Rattle.test_command_uses.proofs.GivenWords.{OneValue, OneWord, are_asking, no_fault_of}
 use Rattle.test_command_uses.proofs.EndedRuns.{without_status}
-use Rattle.test_command_uses.proofs.LineWords.{case_fits, first, later, not_check, not_join, not_list, not_tar, not_wasm, not_why, not_windows}
+use Rattle.test_command_uses.proofs.GivenIgnore.{given_of, has_operands, is_case, is_unix, is_usual, no_help, no_pattern_files, no_patterns, no_values, no_version, not_stated, one_file, states_one, usual_list}
+use Rattle.test_command_uses.proofs.GivenWords.{OneValue, OneWord, are_asking, case_flags, no_fault_of}
+use Rattle.test_command_uses.proofs.LineWords.{case_fits, is_filter, later, not_wasm, not_windows}
 
 -- all names are picked, but for those that the files ignore
 abbrev pub IsLeftBy : {A : Type 0} → Bool → List (File A) → List ℕ → Type 0
@@ -91,9 +87,6 @@ module _ (known : KnownFiles) (A : Type 0) (folds : Bool) (file : List ℕ) (inp
     operands : HasOperands given name.Filter Unix []
     operands = has_operands folds command platform value name.Filter is_command is_platform
 
-    is_word : (c : DeclaredName) (os : Os) (more : List (List ℕ)) → HasOperands given c os more → codes "filter" ≡ name_word c
-    is_word c os more has = sym is_command ∙ first has.1.0
-
     by_platform : (os : Os) (requested : Requested) → codes "unix" ≡ os_word os → requested.list ≡ usual → StatesPicks given requested → DoesWork known A (strings os) requested os (Picked Name) input left old new answer → Filters
     by_platform Unix requested e listed states runs =
         let unstated : requested.exit_status ≡ false = not_stated folds command platform value option.ExitStatus (λ e. cc) (λ e. cc) requested.exit_status states.1.1.1.1.1 in
@@ -101,22 +94,11 @@ module _ (known : KnownFiles) (A : Type 0) (folds : Bool) (file : List ℕ) (inp
     by_platform Windows requested e listed states runs = absurd (not_windows e)
     by_platform Wasm requested e listed states runs = absurd (not_wasm e)
 
-    by_work : (os : Os) (work : Work) (requested : Requested) → requested.list ≡ usual → StatesPicks given requested → MakesUpWork given os work → DoesWork known A (strings os) requested os work input left old new answer → Filters
-    by_work os (Each ListAll) requested listed states m does = absurd (not_list (is_word name.List os m.0.0 m.0.1.0))
-    by_work os (Each (ListWords words)) requested listed states m does = absurd (not_list (is_word name.List os m.0.0 m.0.1.0))
-    by_work os (Each Check) requested listed states m does = absurd (not_check (is_word name.Check os [] m.0))
-    by_work os (Each (Join empty)) requested listed states m does = absurd (not_join (is_word name.Join os [] m.0))
-    by_work os (Each JoinWords) requested listed states m does = absurd (not_join (is_word name.Join os [] m.0))
-    by_work os Tar requested listed states m does = absurd (not_tar (is_word name.Tar os [] m.0))
-    by_work os (Picked form.Line) requested listed states m does = absurd (not_list (is_word name.List os m.0.0 m.0.1.0))
-    by_work os (Picked (form.Word words)) requested listed states m does = absurd (not_list (is_word name.List os m.0.0 m.0.1.0))
-    by_work os (Picked form.Name) requested listed states m does = by_platform os requested (is_unix folds command platform value is_platform os m.0 (subst (λ after. HasPlatform after os m.0) (sym (later m.1.0.1.0)) m.1.0.1.1)).0 listed states does
-    by_work os Why requested listed states m does = absurd (not_why (is_word name.Why os m.0 m.1.0))
-
     by_command : (command : Command) (requested : Requested) → requested.list ≡ usual → StatesPicks given requested → MakesUp given command → DoesCommand known A requested command input left old new answer → Filters
-    by_command (On os work) requested listed states m does = by_work os work requested listed states m does
-    by_command Help requested listed states m does = absurd m
-    by_command Version requested listed states m does = absurd m
+    by_command made requested listed states m does =
+        let filter = is_filter given (platform.now ∷ operands_of (case_flags folds)) (ap (λ x. x ∷ platform.now ∷ operands_of (case_flags folds)) is_command) made m in
+        let has = filter.2.1.0 in
+        by_platform filter.0 requested (is_unix folds command platform value is_platform filter.0 filter.2.0 (subst (λ after. HasPlatform after filter.0 filter.2.0) (sym (later has.1.0)) has.1.1)).0 listed states (subst (λ c. DoesCommand known A requested c input left old new answer) filter.1 does)
 
     by_request : (requested : Requested) → IsRequestFor given requested → Does known A requested input left old new answer → Filters
     by_request requested (inl requests) does = absurd (no_help folds command platform value requests.0)

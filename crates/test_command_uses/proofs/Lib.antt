@@ -1,9 +1,11 @@
 pub mod CommonPaths
 pub mod EndedRuns
+pub mod GivenGlobFile
 pub mod GivenIgnore
 pub mod GivenPaths
 pub mod GivenWords
 pub mod KnownGlob
+pub mod KnownGlobFile
 pub mod KnownIgnore
 pub mod KnownLists
 pub mod KnownNames

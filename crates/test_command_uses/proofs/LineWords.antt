@@ -1,10 +1,18 @@
 -- Words of lines: which command and platform they state, and that the option that disregards case states nothing else.
-use Rattle.std.proofs.Common.{◌≡◌, ◌≢◌, inl, inr, ℕ, List, [], ◌∷◌, Bool, true, false, ◌↔◌, get_or, refl, ap, arith, Some, None}
+use Rattle.std.proofs.Common.{◌≡◌, ◌≢◌, inl, inr, ℕ, List, [], ◌∷◌, Bool, true, false, ◌↔◌, get_or, refl, sym, ap, ◌∙◌, arith, Some, None}
 use Rattle.std.specs.Prelude.{codes, IsTrue}
-use Rattle.names_commands.specs.Command.{Fits, TakesOption}
+use Rattle.program_frame.specs.declared.os.Os.{Os}
+use Rattle.names_commands.specs.Command.{Fits, HasOperands, Line, MakesUp, MakesUpWork, TakesOption, name_word}
+use Rattle.names_commands.specs.declared.command.Command.{Command}
+use Rattle.names_commands.specs.declared.command.Command.TheVariants.{Help, Version, On}
 use Rattle.names_commands.specs.declared.command.Name.{Name as DeclaredName}
+use Rattle.names_commands.specs.declared.command.Name.TheVariants as name
+use Rattle.names_commands.specs.declared.command.Work.{Work}
+use Rattle.names_commands.specs.declared.command.Work.TheVariants.{Each, Picked, Tar, Why}
+use Rattle.names_commands.specs.declared.matching.Form.TheVariants as form
 use Rattle.names_commands.specs.declared.option.NamesOption.{NamesOption}
 use Rattle.names_commands.specs.declared.option.NamesOption.TheVariants as option
+use Rattle.names_commands.specs.declared.task.Task.TheVariants.{ListAll, ListWords, Check, Join, JoinWords}
 use Rattle.list_programs.specs.Arguments.{AreValues, HasOption, LastValue, operands_of}
 use Rattle.test_command_uses.proofs.GivenWords.{case_flags}
 
@@ -14,31 +22,31 @@ first e = cc
 pub later : {x y : List ℕ} {xs ys : List (List ℕ)} → x ∷ xs ≡ y ∷ ys → xs ≡ ys
 later e = cc
 
-pub not_list : codes "filter" ≡ codes "list" → ⊥
+not_list : codes "filter" ≡ codes "list" → ⊥
 not_list e =
     let n : 102 ≡ 108 = ap (λ l. get_or l 0 0) e in
     let no : 102 ≢ 108 = omega arith in
     no n
 
-pub not_why : codes "filter" ≡ codes "why" → ⊥
+not_why : codes "filter" ≡ codes "why" → ⊥
 not_why e =
     let n : 102 ≡ 119 = ap (λ l. get_or l 0 0) e in
     let no : 102 ≢ 119 = omega arith in
     no n
 
-pub not_join : codes "filter" ≡ codes "join" → ⊥
+not_join : codes "filter" ≡ codes "join" → ⊥
 not_join e =
     let n : 102 ≡ 106 = ap (λ l. get_or l 0 0) e in
     let no : 102 ≢ 106 = omega arith in
     no n
 
-pub not_check : codes "filter" ≡ codes "check" → ⊥
+not_check : codes "filter" ≡ codes "check" → ⊥
 not_check e =
     let n : 102 ≡ 99 = ap (λ l. get_or l 0 0) e in
     let no : 102 ≢ 99 = omega arith in
     no n
 
-pub not_tar : codes "filter" ≡ codes "tar" → ⊥
+not_tar : codes "filter" ≡ codes "tar" → ⊥
 not_tar e =
     let n : 102 ≡ 116 = ap (λ l. get_or l 0 0) e in
     let no : 102 ≢ 116 = omega arith in
@@ -55,6 +63,28 @@ not_wasm e =
     let n : 117 ≡ 119 = ap (λ l. get_or l 0 0) e in
     let no : 117 ≢ 119 = omega arith in
     no n
+
+-- options and operands that begin with the command `filter` make up that command
+module _ (given : Line) (more : List (List ℕ)) (starts : operands_of given ≡ codes "filter" ∷ more) where
+  is_word : (c : DeclaredName) (os : Os) (rest : List (List ℕ)) → HasOperands given c os rest → codes "filter" ≡ name_word c
+  is_word c os rest has = first (sym starts ∙ has.1.0)
+
+  of_work : (os : Os) (work : Work) → MakesUpWork given os work → (work ≡ Picked form.Name) × MakesUpWork given os (Picked form.Name)
+  of_work os (Each ListAll) m = absurd (not_list (is_word name.List os m.0.0 m.0.1.0))
+  of_work os (Each (ListWords words)) m = absurd (not_list (is_word name.List os m.0.0 m.0.1.0))
+  of_work os (Each Check) m = absurd (not_check (is_word name.Check os [] m.0))
+  of_work os (Each (Join empty)) m = absurd (not_join (is_word name.Join os [] m.0))
+  of_work os (Each JoinWords) m = absurd (not_join (is_word name.Join os [] m.0))
+  of_work os Tar m = absurd (not_tar (is_word name.Tar os [] m.0))
+  of_work os (Picked form.Line) m = absurd (not_list (is_word name.List os m.0.0 m.0.1.0))
+  of_work os (Picked (form.Word words)) m = absurd (not_list (is_word name.List os m.0.0 m.0.1.0))
+  of_work os (Picked form.Name) m = (refl, m)
+  of_work os Why m = absurd (not_why (is_word name.Why os m.0 m.1.0))
+
+  pub is_filter : (command : Command) → MakesUp given command → (os : Os) × (command ≡ On os (Picked form.Name)) × MakesUpWork given os (Picked form.Name)
+  is_filter (On os work) m = let w = of_work os work m in (os, ap (On os) w.0, w.1)
+  is_filter Help m = absurd m
+  is_filter Version m = absurd m
 
 -- the option that disregards case is no operand, has no value, and is no other option
 pub no_case_operand : (folds : Bool) → operands_of (case_flags folds) ≡ []

@@ -14,6 +14,7 @@ mod joining;
 mod listing;
 mod marks;
 mod paths;
+mod picking;
 mod plans;
 mod programs;
 mod requests;
@@ -37,6 +38,7 @@ pub use paths::{
     parent_line, parent_of, requested_on, requested_one, requests_a_command, stated_extension,
     stated_list, unended_path, with_extension,
 };
+pub use picking::picked;
 pub use plans::{fails_first, kept, turns};
 pub use programs::{
     after_a_fault, after_success, names_silent_where_closed, names_without_arguments,
