@@ -13,6 +13,7 @@ pub mod Covers
 pub mod Small
 pub mod Extensions
 pub mod Queries
+pub mod Texts
 pub mod Adding
 pub mod Orders
 pub mod Beginnings

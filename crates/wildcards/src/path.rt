@@ -13,6 +13,7 @@ use crate::options::Options;
 use crate::part::Part;
 use crate::piece::Piece;
 use crate::run;
+use memchr::memmem;
 use std::alloc::Allocator;
 
 /// How far pieces match, up to the first `**`.
@@ -59,6 +60,26 @@ fn up_to_many<'p, 'a, L: Letters, A: Allocator>(
     }
 }
 
+/// Whether the first piece is a part that is a text, and what is left of a path has this text nowhere. Then the
+/// pieces match after no number of components.
+#[inline(always)]
+fn lacks_text<L: Letters, A: Allocator>(pieces: &[Piece<Part<A>>], path: Option<&[u8]>) -> bool
+    requires { IsLeftFormed L.formed path }
+    ensures { IsTrue result → (options : Options) → ¬ (MatchesParts options.literal_leading_dot
+        (Many ∷ pieces.now) (left_components L.letters options.separators path.entry)) }
+{
+    let Some((Piece::One(part), _)) = pieces.split_first() else {
+        return false;
+    };
+    let Some(text) = part.text() else {
+        return false;
+    };
+    let Some(path) = path else {
+        return false;
+    };
+    memmem::find(path, text).is_none()
+}
+
 /// Whether pieces match after any number of components.
 fn is_after_many<L: Letters, A: Allocator>(
     options: Options,
@@ -69,6 +90,9 @@ fn is_after_many<L: Letters, A: Allocator>(
     ensures { IsTrue result ↔ MatchesParts options.literal_leading_dot (Many ∷ pieces.entry.now)
         (left_components L.letters options.separators path.entry) }
 {
+    if lacks_text::<L, A>(pieces, path) {
+        return false;
+    }
     let mut left = pieces;
     let mut from = path;
     loop {

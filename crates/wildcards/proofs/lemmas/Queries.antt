@@ -90,7 +90,7 @@ module _ (formed : List ℕ → Type 0) (letters : List ℕ → List ℕ) (laws 
       (at.prefix, at.joined ∙ ap (λ z. at.prefix ++ b ∷ z) (itself at.suffix key both.1.0 ascii.1 at.letters_after))
 
   -- so is a prefix of ASCII
-  begins_itself : (s key rest : List ℕ) → formed s → AllByRecursion (λ b. b < 0x80) key → letters s ≡ key ++ rest → (after : List ℕ) × (s ≡ key ++ after)
+  pub begins_itself : (s key rest : List ℕ) → formed s → AllByRecursion (λ b. b < 0x80) key → letters s ≡ key ++ rest → (after : List ℕ) × (s ≡ key ++ after)
   begins_itself s [] rest f ascii e = (s, refl)
   begins_itself s (b ∷ key) rest f ascii e =
       let first = first_found formed letters laws s (key ++ rest) b ascii.0 f e in
