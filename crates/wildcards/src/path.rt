@@ -60,24 +60,28 @@ fn up_to_many<'p, 'a, L: Letters, A: Allocator>(
     }
 }
 
-/// Whether the first piece is a part that is a text, and what is left of a path has this text nowhere. Then the
-/// pieces match after no number of components.
+/// Whether the first piece is a part that is a text, which is nowhere in what is left of a path. Then
+/// no component is the text. A search takes as long to make as a few components take to walk, so
+/// fewer than 128 bytes aren't searched.
 #[inline(always)]
 fn lacks_text<L: Letters, A: Allocator>(pieces: &[Piece<Part<A>>], path: Option<&[u8]>) -> bool
     requires { IsLeftFormed L.formed path }
     ensures { IsTrue result → (options : Options) → ¬ (MatchesParts options.literal_leading_dot
         (Many ∷ pieces.now) (left_components L.letters options.separators path.entry)) }
 {
-    let Some((Piece::One(part), _)) = pieces.split_first() else {
-        return false;
-    };
-    let Some(text) = part.text() else {
-        return false;
-    };
     let Some(path) = path else {
         return false;
     };
-    memmem::find(path, text).is_none()
+    if path.len() < 128 {
+        return false;
+    }
+    let Some((Piece::One(part), _)) = pieces.split_first() else {
+        return false;
+    };
+    match part.text() {
+        Some(text) => memmem::find(path, text).is_none(),
+        None => false,
+    }
 }
 
 /// Whether pieces match after any number of components.
