@@ -40,12 +40,13 @@ pub(crate) struct Query<'s, 'p, A: Allocator> {
     extension: Option<&'p [u8]>,
 }
 
-/// How many keys of a path were looked up, and a flag for ten bits of the index of each bucket that was
-/// handed out. Where a flag isn't set, no key before has the bucket, so keys are rarely compared.
+/// How many keys of a path were looked up, and a flag for twelve bits of the index of each bucket that
+/// was handed out. Where a flag isn't set, no key before has the bucket, so keys are rarely compared.
 #[derive(Drop)]
 pub(crate) struct Visited {
     keys: usize,
-    flags: [u64; 16],
+    // made for the first bucket, since most paths have none
+    flags: Option<[u64; 64]>,
 }
 
 impl Visited {
@@ -56,18 +57,24 @@ impl Visited {
     {
         Visited {
             keys: 0,
-            flags: [0; 16],
+            flags: None,
         }
     }
 }
 
 /// Sets the flag of a bucket. Returns whether it was set before.
 #[inline(always)]
-fn set_flag(flags: &mut [u64; 16], slot: usize) -> bool {
-    let at = slot / 64 % 16;
+fn set_flag(flags: &mut Option<[u64; 64]>, slot: usize) -> bool {
+    let at = slot / 64 % 64;
     let flag = 1 << (slot % 64);
-    let word = flags[at];
-    flags[at] = word | flag;
+    let Some(words) = flags else {
+        let mut words = [0; 64];
+        words[at] = flag;
+        *flags = Some(words);
+        return false;
+    };
+    let word = words[at];
+    words[at] = word | flag;
     word & flag != 0
 }
 
