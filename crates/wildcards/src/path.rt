@@ -1,5 +1,6 @@
 //! A pattern against a path, from separator to separator.
-ghost use Rattle.std.specs.Prelude.{◌≡◌, ◌↔◌, ◌∷◌, Some, IsTrue, MatchOption};
+ghost use Rattle.memchr.specs.Find.{Nowhere, OccursAt};
+ghost use Rattle.std.specs.Prelude.{◌≡◌, ◌↔◌, ◌∷◌, ◌+◌, length, Some, IsTrue, MatchOption};
 ghost use Rattle.wildcards.specs.declared.options.Options.{Options};
 ghost use Rattle.wildcards.specs.declared.piece.Piece.TheVariants.{Many};
 ghost use Rattle.wildcards.specs.Cuts.{left_components, IsLeftFormed};
@@ -60,6 +61,17 @@ fn up_to_many<'p, 'a, L: Letters, A: Allocator>(
     }
 }
 
+/// Whether bytes have a text nowhere. It isn't inlined, since few paths are searched.
+#[inline(never)]
+fn lacks(bytes: &[u8], text: &[u8]) -> bool
+    ensures { IsTrue result → Nowhere (OccursAt bytes.now text.now) 0 (length bytes.now + 1) }
+{
+    match memmem::find(bytes, text) {
+        None => true,
+        Some(_) => false,
+    }
+}
+
 /// Whether the first piece is a part that is a text, which is nowhere in what is left of a path. Then
 /// no component is the text. A search takes as long to make as a few components take to walk, so
 /// fewer than 128 bytes aren't searched.
@@ -79,7 +91,7 @@ fn lacks_text<L: Letters, A: Allocator>(pieces: &[Piece<Part<A>>], path: Option<
         return false;
     };
     match part.text() {
-        Some(text) => memmem::find(path, text).is_none(),
+        Some(text) => lacks(path, text),
         None => false,
     }
 }
