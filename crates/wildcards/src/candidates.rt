@@ -40,12 +40,13 @@ pub(crate) struct Query<'s, 'p, A: Allocator> {
     extension: Option<&'p [u8]>,
 }
 
-/// How many keys of a path were looked up, and a flag for twelve bits of the index of each bucket that
-/// was handed out. Where a flag isn't set, no key before has the bucket, so keys are rarely compared.
+/// How many keys of a path were looked up, the first bucket that was handed out, and a flag for twelve
+/// bits of the index of each later one. Where no key before may have a bucket, keys aren't compared.
 #[derive(Drop)]
 pub(crate) struct Visited {
     keys: usize,
-    // made for the first bucket, since most paths have none
+    first: Option<usize>,
+    // made for the second bucket, since most paths have one at most
     flags: Option<[u64; 64]>,
 }
 
@@ -57,7 +58,22 @@ impl Visited {
     {
         Visited {
             keys: 0,
+            first: None,
             flags: None,
+        }
+    }
+
+    /// Notes a bucket. Returns whether it may have been noted before.
+    #[inline(always)]
+    fn note(&mut self, slot: usize) -> bool
+        ensures { self.new.keys ≡ self.old.keys }
+    {
+        match self.first {
+            None => {
+                self.first = Some(slot);
+                false
+            }
+            Some(first) => first == slot || set_flag(&mut self.flags, slot),
         }
     }
 }
@@ -157,7 +173,7 @@ impl<'s, 'p, A: Allocator> Query<'s, 'p, A> {
         if places.is_empty() {
             return places;
         }
-        if set_flag(&mut visited.flags, slot) && self.comes_before(slot, earlier) {
+        if visited.note(slot) && self.comes_before(slot, earlier) {
             return &[];
         }
         places
