@@ -21,8 +21,8 @@ use wildcards::{Pattern, PatternSet};
 ///
 /// Patterns are looked up by the literal parts that a path must have to match them: the whole path,
 /// the end of its last component, or a component or its first letters. Only the patterns found are
-/// tried, each at most once. A path of which many different components are looked up and found is
-/// read again after each of them. A set takes the memory of its patterns, and some more for each
+/// tried, each at most once. A path of which hundreds of different components are looked up and found
+/// may be read again for some of them. A set takes the memory of its patterns, and some more for each
 /// pattern that they are written out as.
 #[derive(Drop)]
 pub struct GlobSet<E: Platform, A: Allocator = Global> {

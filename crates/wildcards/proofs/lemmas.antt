@@ -12,7 +12,9 @@ pub mod Found
 pub mod Covers
 pub mod Small
 pub mod Extensions
+pub mod Visited
 pub mod Queries
+pub mod Texts
 pub mod Adding
 pub mod Orders
 pub mod Beginnings

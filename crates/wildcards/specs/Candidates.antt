@@ -1,5 +1,5 @@
 -- The places that a path is matched with: only private contracts name this.
-use Rattle.std.specs.Prelude.{◌≡◌, ◌-◌, ◌<◌, ◌⊎◌, ◌||◌, nat_eq, ℕ, Bool, List, [], ◌∷◌, ◌++◌, map, length, drop, if◌then◌else◌, true, false, Option, Some, None, MatchOption}
+use Rattle.std.specs.Prelude.{◌≡◌, ◌-◌, ◌≤◌, ◌⊎◌, ℕ, Bool, List, [], ◌∷◌, ◌++◌, map, length, take, drop, if◌then◌else◌, true, Option, Some, None, MatchOption}
 use denote.Ref.{Bor}
 use Rattle.wildcards.specs.declared.candidates.Query.{Query}
 use Rattle.wildcards.specs.declared.candidates.Stage.{Stage}
@@ -75,24 +75,32 @@ module _ {A : Type 0} where
     abbrev pub slot_in : List ℕ → ℕ
     slot_in key = slot_of q.filter.now.folds (length q.filter.now.buckets.items) key
 
-    -- one of the keys has the bucket of this index
-    abbrev pub comes_again : ℕ → List (List ℕ) → Bool
-    comes_again slot [] = false
-    comes_again slot (key ∷ keys) = nat_eq (slot_in key) slot || comes_again slot keys
-
-    -- what the key's bucket has, unless a later key has the same
-    abbrev pub asked : List ℕ → List (List ℕ) → List Place
-    asked key later = if comes_again (slot_in key) later then [] else bucket q.filter.now.folds q.filter.now.buckets.items key
-
-    -- the list of each key
+    -- what is in the bucket of each key
     abbrev pub key_lists : List (List ℕ) → List (List Place)
     key_lists [] = []
-    key_lists (key ∷ keys) = asked key keys ∷ key_lists keys
+    key_lists (key ∷ keys) = bucket q.filter.now.folds q.filter.now.buckets.items key ∷ key_lists keys
 
-    -- all lists: that of the choices that need no key, and those of keys
+    -- and the choices that need no key
+    abbrev pub lists_of : List (List ℕ) → List (List Place)
+    lists_of keys = q.filter.now.others.items ∷ key_lists keys
+
+    -- so of all keys
     abbrev pub all_lists : List (List Place)
-    all_lists = q.filter.now.others.items ∷ key_lists path_keys
+    all_lists = lists_of path_keys
 
-    -- the list of the first of the keys, and the stage at which the others are left; None where there is none
-    abbrev pub IsNext : List (List ℕ) → Option (Bor (List Place) × Stage) → Type 0
-    IsNext keys result = MatchOption result (keys ≡ []) (λ next. (length (left_keys next.1) < length keys) × (key_lists keys ≡ next.0.now ∷ key_lists (left_keys next.1)))
+    -- one of the first keys, as many as this, has the bucket of this index
+    abbrev pub HasEarlier : ℕ → ℕ → Type 0
+    HasEarlier count slot = (key : List ℕ) × (Has (take count path_keys) key × (slot_in key ≡ slot))
+
+    -- what the key's bucket has, or nothing, if it is that of one of the first keys
+    abbrev pub IsHandedOut : ℕ → List ℕ → List Place → Type 0
+    IsHandedOut count key places = (places ≡ bucket q.filter.now.folds q.filter.now.buckets.items key) ⊎ ((places ≡ []) × HasEarlier count (slot_in key))
+
+    -- the first of the keys with its places, and the stage at which the others are left; None where there is none
+    abbrev pub IsNext : ℕ → List (List ℕ) → Option (Bor (List Place) × Stage) → Type 0
+    IsNext count keys result = MatchOption result (keys ≡ []) (λ next. (key : List ℕ) × ((keys ≡ key ∷ left_keys next.1) × IsHandedOut count key next.0.now))
+
+    -- these keys were looked up, and the others are left at the stage
+    pub record AreBefore (stage : Stage) (count : ℕ) (keys : List (List ℕ)) : Type 0 where
+      pub joined : path_keys ≡ keys ++ left_keys stage
+      pub counted : count ≤ length keys

@@ -1,9 +1,9 @@
 //! The choices of a set that a path may match, list by list.
-ghost use Rattle.std.specs.Prelude.{◌≡◌, ◌∷◌, true, MatchOption};
+ghost use Rattle.std.specs.Prelude.{◌≡◌, ◌≤◌, ◌+◌, ◌∷◌, true, IsTrue, MatchOption};
 ghost use Rattle.wildcards.specs.Components.{components};
 ghost use Rattle.wildcards.specs.Extensions.{LacksExtension, IsExtension};
 ghost use Rattle.wildcards.specs.Keys.{EndsIn, first_letters};
-ghost use Rattle.wildcards.specs.Candidates.{IsQuery, IsNext, IsNextKey, asked, comes_again, left_keys, path_keys, component_keys, name_keys, extension_keys, end_keys};
+ghost use Rattle.wildcards.specs.Candidates.{IsQuery, IsNext, IsNextKey, IsHandedOut, HasEarlier, left_keys, path_keys, component_keys, name_keys, extension_keys, end_keys};
 
 use crate::component;
 use crate::component::{split_first, split_last};
@@ -38,6 +38,60 @@ pub(crate) struct Query<'s, 'p, A: Allocator> {
     name: &'p [u8],
     // its extension, if there are patterns that need one
     extension: Option<&'p [u8]>,
+}
+
+/// How many keys of a path were looked up, the first bucket that was handed out, and a flag for twelve
+/// bits of the index of each later one. Where no key before may have a bucket, keys aren't compared.
+#[derive(Drop)]
+pub(crate) struct Visited {
+    keys: usize,
+    first: Option<usize>,
+    // made for the second bucket, since most paths have one at most
+    flags: Option<[u64; 64]>,
+}
+
+impl Visited {
+    /// No key.
+    #[inline(always)]
+    pub fn new() -> Self
+        ensures { result.keys ≡ 0 }
+    {
+        Visited {
+            keys: 0,
+            first: None,
+            flags: None,
+        }
+    }
+
+    /// Notes a bucket. Returns whether it may have been noted before.
+    #[inline(always)]
+    fn note(&mut self, slot: usize) -> bool
+        ensures { self.new.keys ≡ self.old.keys }
+    {
+        match self.first {
+            None => {
+                self.first = Some(slot);
+                false
+            }
+            Some(first) => first == slot || set_flag(&mut self.flags, slot),
+        }
+    }
+}
+
+/// Sets the flag of a bucket. Returns whether it was set before.
+#[inline(always)]
+fn set_flag(flags: &mut Option<[u64; 64]>, slot: usize) -> bool {
+    let at = slot / 64 % 64;
+    let flag = 1 << (slot % 64);
+    let Some(words) = flags else {
+        let mut words = [0; 64];
+        words[at] = flag;
+        *flags = Some(words);
+        return false;
+    };
+    let word = words[at];
+    words[at] = word | flag;
+    word & flag != 0
 }
 
 /// Returns the last component if the flag is set, and the path otherwise.
@@ -93,40 +147,53 @@ impl<'s, 'p, A: Allocator> Query<'s, 'p, A> {
 
     /// The next list of places, and the stage after it.
     #[inline(always)]
-    pub fn next(&self, stage: Stage<'s, 'p>) -> Option<(&'s [Place], Stage<'s, 'p>)>
-        ensures { IsNext self.now (left_keys self.now stage.entry) result }
+    pub fn next(
+        &self,
+        stage: Stage<'s, 'p>,
+        visited: &mut Visited,
+    ) -> Option<(&'s [Place], Stage<'s, 'p>)>
+        ensures next { IsNext self.now visited.old.keys (left_keys self.now stage.entry) result }
+        ensures counted { visited.new.keys ≤ visited.old.keys + 1 }
     {
         let (key, more) = self.next_key(stage)?;
-        Some((self.asked(key, more), more))
+        Some((self.places_of(key, visited), more))
     }
 
-    /// The places of a key's bucket. It is handed out for the last key that has it, and for no other, so
-    /// that each place is handed out once.
+    /// The places of a key's bucket. It is handed out for the first key that has it, and for no
+    /// other, so that each place is handed out once.
     #[inline(always)]
-    fn asked(&self, key: &[u8], later: Stage<'s, 'p>) -> &'s [Place]
-        ensures { result.now ≡ asked self.now key.now (left_keys self.now later.entry) }
+    fn places_of(&self, key: &[u8], visited: &mut Visited) -> &'s [Place]
+        ensures places { IsHandedOut self.now visited.old.keys key.now result.now }
+        ensures counted { visited.new.keys ≤ visited.old.keys + 1 }
     {
+        let earlier = visited.keys;
+        visited.keys = earlier.saturating_add(1);
         let slot = self.filter.slot(key);
         let places = self.filter.places(slot);
         if places.is_empty() {
-            return &[];
+            return places;
         }
-        if self.comes_again(slot, later) {
+        if visited.note(slot) && self.comes_before(slot, earlier) {
             return &[];
         }
         places
     }
 
-    /// Whether one of the keys that are left has the bucket of this index.
-    fn comes_again(&self, slot: usize, stage: Stage<'s, 'p>) -> bool
-        ensures { result ≡ comes_again self.now slot (left_keys self.now stage.entry) }
+    /// Whether one of the first keys, as many as this, has the bucket of this index.
+    fn comes_before(&self, slot: usize, count: usize) -> bool
+        ensures { IsTrue result → HasEarlier self.now count slot }
     {
-        let mut left = stage;
-        while let Some((key, more)) = self.next_key(left) {
+        let mut stage = Stage::Path;
+        let mut left = count;
+        while left > 0 {
+            let Some((key, more)) = self.next_key(stage) else {
+                return false;
+            };
             if self.filter.slot(key) == slot {
                 return true;
             }
-            left = more;
+            stage = more;
+            left -= 1;
         }
         false
     }

@@ -1,5 +1,6 @@
 //! A pattern against a path, from separator to separator.
-ghost use Rattle.std.specs.Prelude.{◌≡◌, ◌↔◌, ◌∷◌, Some, IsTrue, MatchOption};
+ghost use Rattle.memchr.specs.Find.{Nowhere, OccursAt};
+ghost use Rattle.std.specs.Prelude.{◌≡◌, ◌↔◌, ◌∷◌, ◌+◌, length, Some, IsTrue, MatchOption};
 ghost use Rattle.wildcards.specs.declared.options.Options.{Options};
 ghost use Rattle.wildcards.specs.declared.piece.Piece.TheVariants.{Many};
 ghost use Rattle.wildcards.specs.Cuts.{left_components, IsLeftFormed};
@@ -13,6 +14,7 @@ use crate::options::Options;
 use crate::part::Part;
 use crate::piece::Piece;
 use crate::run;
+use memchr::memmem;
 use std::alloc::Allocator;
 
 /// How far pieces match, up to the first `**`.
@@ -59,6 +61,41 @@ fn up_to_many<'p, 'a, L: Letters, A: Allocator>(
     }
 }
 
+/// Whether bytes have a text nowhere. It isn't inlined, since few paths are searched.
+#[inline(never)]
+fn lacks(bytes: &[u8], text: &[u8]) -> bool
+    ensures { IsTrue result → Nowhere (OccursAt bytes.now text.now) 0 (length bytes.now + 1) }
+{
+    match memmem::find(bytes, text) {
+        None => true,
+        Some(_) => false,
+    }
+}
+
+/// Whether the first piece is a part that is a text, which is nowhere in what is left of a path. Then
+/// no component is the text. A search takes as long to make as a few components take to walk, so
+/// fewer than 128 bytes aren't searched.
+#[inline(always)]
+fn lacks_text<L: Letters, A: Allocator>(pieces: &[Piece<Part<A>>], path: Option<&[u8]>) -> bool
+    requires { IsLeftFormed L.formed path }
+    ensures { IsTrue result → (options : Options) → ¬ (MatchesParts options.literal_leading_dot
+        (Many ∷ pieces.now) (left_components L.letters options.separators path.entry)) }
+{
+    let Some(path) = path else {
+        return false;
+    };
+    if path.len() < 128 {
+        return false;
+    }
+    let Some((Piece::One(part), _)) = pieces.split_first() else {
+        return false;
+    };
+    match part.text() {
+        Some(text) => lacks(path, text),
+        None => false,
+    }
+}
+
 /// Whether pieces match after any number of components.
 fn is_after_many<L: Letters, A: Allocator>(
     options: Options,
@@ -69,6 +106,9 @@ fn is_after_many<L: Letters, A: Allocator>(
     ensures { IsTrue result ↔ MatchesParts options.literal_leading_dot (Many ∷ pieces.entry.now)
         (left_components L.letters options.separators path.entry) }
 {
+    if lacks_text::<L, A>(pieces, path) {
+        return false;
+    }
     let mut left = pieces;
     let mut from = path;
     loop {

@@ -4,7 +4,7 @@ ghost use Rattle.wildcards.specs.Filters.{AddsHits, AreCovered, CoversAll, Grows
 ghost use Rattle.wildcards.specs.Sets.{Has, IsHit, AreFound, AreHits};
 ghost use Rattle.wildcards.specs.Small.{IsLookedUp};
 
-use crate::candidates::{Query, Stage};
+use crate::candidates::{Query, Stage, Visited};
 use crate::filter::{Filter, Place};
 use crate::indices::make_ascending;
 use crate::letters::Letters;
@@ -18,7 +18,7 @@ use std::alloc::{AllocError, Allocator, Global};
 /// A set of patterns. A path is matched only with the choices whose literal parts it has. Each
 /// choice is listed once: by its whole text, by a component or its first letters, or by the
 /// extension or the last letters of its last component. So a path is matched with a choice at most
-/// once. What comes after a component that is such a text is read again, to find the last one.
+/// once.
 #[derive(Drop)]
 pub struct PatternSet<A: Allocator = Global> {
     options: Options,
@@ -199,8 +199,9 @@ impl<A: Allocator> PatternSet<A> {
         }
         let query = Query::new(&self.filter, self.options.separators, path);
         self.add_hits::<L, B>(path, &self.filter.others, found)?;
+        let mut visited = Visited::new();
         let mut stage = Stage::Path;
-        while let Some((places, more)) = query.next(stage) {
+        while let Some((places, more)) = query.next(stage, &mut visited) {
             self.add_hits::<L, B>(path, places, found)?;
             stage = more;
         }
@@ -288,8 +289,9 @@ impl<A: Allocator> PatternSet<A> {
         if self.any_hit::<L>(path, &self.filter.others) {
             return true;
         }
+        let mut visited = Visited::new();
         let mut stage = Stage::Path;
-        while let Some((places, more)) = query.next(stage) {
+        while let Some((places, more)) = query.next(stage, &mut visited) {
             if self.any_hit::<L>(path, places) {
                 return true;
             }

@@ -17,13 +17,6 @@ module _ {X : Type 0} (P : X → Type 0) where
       of (inl k) = absurd (never (subst P k p))
       of (inr k) = k
 
-  pub not_first_list : (lists more : List (List X)) (first : List X) → lists ≡ first ∷ more → ((i : X) → Has first i → P i → ⊥) → (i : X) → P i → OneHas lists i → OneHas more i
-  not_first_list lists more first e never i p h = of (subst (λ z. OneHas z i) e h)
-    where
-      of : Has first i ⊎ OneHas more i → OneHas more i
-      of (inl k) = absurd (never i k p)
-      of (inr k) = k
-
 module _ {A : Type 0} (o : Options) (patterns : List (Pattern A)) (path : List ℕ) where
   module _ (places : List Place) (old : List ℕ) where
     -- of the places these are left
@@ -77,44 +70,35 @@ module _ {A : Type 0} (o : Options) (patterns : List (Pattern A)) (path : List �
         no_more place (inl h) = h
         no_more place (inr h) = absurd (subst (λ z. Has z place) e h)
 
-  module _ (all : List (List Place)) where
-    -- of all lists these are left
-    pub record Finding (lists : List (List Place)) (found : List ℕ) : Type 0 where
-      pub sound : (i : ℕ) → Has found i → IsHit o patterns path i
-      pub complete : (place : Place) → OneHas all place → IsHitAt o patterns path place → Has found place.pattern ⊎ OneHas lists place
+  -- of these lists all is found
+  pub record Finding (lists : List (List Place)) (found : List ℕ) : Type 0 where
+    pub sound : (i : ℕ) → Has found i → IsHit o patterns path i
+    pub complete : (place : Place) → OneHas lists place → IsHitAt o patterns path place → Has found place.pattern
 
-    pub none_found : (found : List ℕ) → found ≡ [] → Finding all found
-    none_found found e = record { sound = λ i h. absurd (subst (λ z. Has z i) e h); complete = λ place h hit. inr h }
+  pub none_found : (found : List ℕ) → found ≡ [] → Finding [] found
+  none_found found e = record { sound = λ i h. absurd (subst (λ z. Has z i) e h); complete = λ place h hit. absurd h }
 
-    pub list_found : (lists more : List (List Place)) (places : List Place) (found next : List ℕ) → lists ≡ places ∷ more → Finding lists found → AddsHits o patterns path places found next → Finding more next
-    list_found lists more places found next e f adds = record {
-      sound = λ i h. of_either i (adds.sound i h);
-      complete = λ place h hit. onto place hit (f.complete place h hit);
-    }
-      where
-        of_either : (i : ℕ) → Has found i ⊎ IsHit o patterns path i → IsHit o patterns path i
-        of_either i (inl h) = f.sound i h
-        of_either i (inr h) = h
+  pub more_found : (lists more : List (List Place)) (places : List Place) (found next : List ℕ) → ((place : Place) → OneHas more place → OneHas lists place ⊎ Has places place) → Finding lists found → AddsHits o patterns path places found next → Finding more next
+  more_found lists more places found next either f adds = record {
+    sound = λ i h. of_either i (adds.sound i h);
+    complete = λ place h hit. onto place hit (either place h);
+  }
+    where
+      of_either : (i : ℕ) → Has found i ⊎ IsHit o patterns path i → IsHit o patterns path i
+      of_either i (inl h) = f.sound i h
+      of_either i (inr h) = h
 
-        first_or_more : (place : Place) → IsHitAt o patterns path place → Has places place ⊎ OneHas more place → Has next place.pattern ⊎ OneHas more place
-        first_or_more place hit (inl h) = inl (adds.complete place h hit)
-        first_or_more place hit (inr h) = inr h
+      onto : (place : Place) → IsHitAt o patterns path place → OneHas lists place ⊎ Has places place → Has next place.pattern
+      onto place hit (inl h) = adds.kept place.pattern (f.complete place h hit)
+      onto place hit (inr h) = adds.complete place h hit
 
-        onto : (place : Place) → IsHitAt o patterns path place → Has found place.pattern ⊎ OneHas lists place → Has next place.pattern ⊎ OneHas more place
-        onto place hit (inl h) = inl (adds.kept place.pattern h)
-        onto place hit (inr h) = first_or_more place hit (subst (λ z. OneHas z place) e h)
-
-    -- where each pattern that matches has a place in the lists
-    pub all_found : ((i : ℕ) → IsHit o patterns path i → ((place : Place) → place.pattern ≡ i → IsHitAt o patterns path place → OneHas all place → ⊥) → ⊥) → (lists : List (List Place)) (found : List ℕ) → lists ≡ [] → Finding lists found → AreFound o patterns path found
-    all_found placed lists found e f = record { sound = f.sound; complete = λ i hit. decided i hit (has_or_not found i) }
-      where
-        no_more : (place : Place) → Has found place.pattern ⊎ OneHas lists place → Has found place.pattern
-        no_more place (inl h) = h
-        no_more place (inr h) = absurd (subst (λ z. OneHas z place) e h)
-
-        decided : (i : ℕ) → IsHit o patterns path i → Has found i ⊎ (Has found i → ⊥) → Has found i
-        decided i hit (inl h) = h
-        decided i hit (inr n) = absurd (placed i hit (λ place k at has. n (subst (Has found) k (no_more place (f.complete place has at)))))
+  -- where each pattern that matches has a place in the lists
+  pub all_found : (lists : List (List Place)) → ((i : ℕ) → IsHit o patterns path i → ((place : Place) → place.pattern ≡ i → IsHitAt o patterns path place → OneHas lists place → ⊥) → ⊥) → (found : List ℕ) → Finding lists found → AreFound o patterns path found
+  all_found lists placed found f = record { sound = f.sound; complete = λ i hit. decided i hit (has_or_not found i) }
+    where
+      decided : (i : ℕ) → IsHit o patterns path i → Has found i ⊎ (Has found i → ⊥) → Has found i
+      decided i hit (inl h) = h
+      decided i hit (inr n) = absurd (placed i hit (λ place k at has. n (subst (Has found) k (f.complete place has at))))
 
   -- each pattern is tried, by its index
   abbrev pub NoneBelow : ℕ → Type 0

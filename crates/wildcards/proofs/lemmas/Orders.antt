@@ -1,10 +1,11 @@
 -- Ranges in order have the letters that they have in any.
-use Rattle.std.proofs.Common.{◌≡◌, ◌⊎◌, inl, inr, ◌<◌, ◌≤◌, ◌+◌, ℕ, zero, suc, Bool, true, false, ◌&&◌, ◌||◌, nat_le, nat_lt, ltb, List, [], ◌∷◌, ◌++◌, length, get_or, set, take, drop, refl, sym, ap, ap₂, ◌∙◌, subst, arith, append_assoc, append-nil, take_all}
+use Rattle.std.proofs.Common.{◌≡◌, ◌⊎◌, inl, inr, ◌<◌, ◌≤◌, ◌+◌, ◌-◌, ◌*◌, ◌/◌, ℕ, zero, suc, Bool, true, false, ◌&&◌, ◌||◌, nat_le, nat_lt, List, [], ◌∷◌, ◌++◌, length, get_or, set, take, drop, refl, sym, ap, ap₂, ◌∙◌, subst, arith, append_assoc, append-nil, take_all, take-append-drop, length-drop}
 use Rattle.std.specs.Prelude.{if◌then◌else◌}
 use Rattle.std.proofs.lemmas.Grind.{take-set_at}
-use Rattle.std.proofs.lemmas.List.{drop_more, drop-set-lt, drop_all, get_or_default}
+use Rattle.std.proofs.lemmas.List.{drop_more, drop-set-lt, drop_all, get_or_default, get_or-drop, get_or-take, length-take-le}
+use Rattle.std.specs.Int.{from_bool}
 use Rattle.std.specs.List.{list_any}
-use Rattle.std.specs.List.Sorted.{IsPermutation, IsNonDecreasingBy, IsPartitionPoint}
+use Rattle.std.specs.List.Sorted.{IsPermutation, IsNonDecreasingBy}
 use Rattle.std.proofs.lemmas.Bool.{cases_lt, leb-true, le-leb, ltb-true, lt-ltb}
 use Rattle.std.proofs.lemmas.List.Sorted.{IsNonDecreasingBy-drop, IsNonDecreasingBy-from_all_adjacent, list_any-IsPermutation}
 use Rattle.wildcards.specs.declared.range.Range.{Range}
@@ -50,6 +51,13 @@ module _ (letter : ℕ) where
   or_true : (a b : Bool) → b ≡ true → (a || b) ≡ true
   or_true true b e = refl
   or_true false b e = e
+
+  over : (a b : ℕ) → nat_le a b ≡ false → b < a
+  over a b e = by_size (cases_lt b a)
+    where
+      by_size : (b < a) ⊎ (a ≤ b) → b < a
+      by_size (inl l) = l
+      by_size (inr l) = let never : false ≡ true = sym e ∙ le-leb a b l in cc
 
   not_le : (a b : ℕ) → b < a → nat_le a b ≡ false
   not_le a b l = tested (nat_le a b) refl
@@ -120,12 +128,6 @@ module _ (letter : ℕ) where
       ap (λ z. lies_in (record { first = r.first; last = z }) letter || is_in (reaches z rs) letter) (first_reach r.last)
       ∙ reached (lies_in r letter) r.first r.last rs (rises (λ r. r.first) 0 (r ∷ rs) (λ d l. omega arith) up).1 (lies r)
 
-  none_later : (floor : ℕ) (rs : List Range) → Rises (λ r. r.first) floor rs → letter < floor → is_in rs letter ≡ false
-  none_later floor [] up l = refl
-  none_later floor (r ∷ rs) up l =
-      let before : letter < r.first = omega (arith, up.0, l) in
-      ap (λ z. (z && nat_le letter r.last) || is_in rs letter) (not_le r.first letter before) ∙ none_later r.first rs up.1 before
-
   ends_before : (r : Range) → r.last < letter → lies_in r letter ≡ false
   ends_before r l = ap (λ z. nat_le r.first letter && z) (not_le letter r.last l) ∙ and_false (nat_le r.first letter)
     where
@@ -137,40 +139,76 @@ module _ (letter : ℕ) where
   none_ends [] h = refl
   none_ends (r ∷ rs) h = ap (λ z. z || is_in rs letter) (ends_before r (h 0 r (omega arith))) ∙ none_ends rs (λ k d l. h (suc k) d (omega (arith, l)))
 
-  first_end : (floor at : ℕ) (rs : List Range) (r : Range) → Rises (λ r. r.first) floor rs → at < length rs → r ≡ get_or rs at r → ((k : ℕ) (d : Range) → k < at → (get_or rs k d).last < letter) → letter ≤ r.last → is_in rs letter ≡ nat_le r.first letter
-  first_end floor at [] r up l e h f = absurd (omega (arith, l))
-  first_end floor zero (s ∷ rs) r up l e h f = ap (λ z. lies_in z letter || is_in rs letter) (sym e) ∙ ap (λ z. (nat_le r.first letter && z) || is_in rs letter) (le-leb letter r.last f) ∙ by_first (nat_le r.first letter) refl
+  none_begins : (rs : List Range) → ((k : ℕ) (d : Range) → k < length rs → letter < (get_or rs k d).first) → is_in rs letter ≡ false
+  none_begins [] h = refl
+  none_begins (r ∷ rs) h = ap (λ z. (z && nat_le letter r.last) || is_in rs letter) (not_le r.first letter (h 0 r (omega arith))) ∙ none_begins rs (λ k d l. h (suc k) d (omega (arith, l)))
+
+  in_either : (xs ys : List Range) → is_in (xs ++ ys) letter ≡ (is_in xs letter || is_in ys letter)
+  in_either [] ys = refl
+  in_either (x ∷ xs) ys = ap (λ z. lies_in x letter || z) (in_either xs ys) ∙ or_assoc (lies_in x letter) (is_in xs letter) (is_in ys letter)
+
+  cut_at : (i : ℕ) (rs : List Range) → is_in rs letter ≡ (is_in (take i rs) letter || is_in (drop i rs) letter)
+  cut_at i rs = ap (λ z. is_in z letter) (sym (take-append-drop i rs)) ∙ in_either (take i rs) (drop i rs)
+
+  -- none of the ranges from this size on begins by the letter
+  front_alike : (size : ℕ) (rs : List Range) → ((k : ℕ) (d : Range) → size ≤ k → k < length rs → letter < (get_or rs k d).first) → is_in (take size rs) letter ≡ is_in rs letter
+  front_alike size rs later = sym (cut_at size rs ∙ ap (λ z. is_in (take size rs) letter || z) none ∙ or_false (is_in (take size rs) letter))
     where
-      by_first : (v : Bool) → nat_le r.first letter ≡ v → ((nat_le r.first letter && true) || is_in rs letter) ≡ nat_le r.first letter
-      by_first true g = ap (λ z. (z && true) || is_in rs letter) g ∙ sym g
-      by_first false g = ap (λ z. (z && true) || is_in rs letter) g ∙ none_later s.first rs up.1 (subst (λ z. letter < z.first) e (by_size (cases_lt letter r.first))) ∙ sym g
-        where
-          by_size : (letter < r.first) ⊎ (r.first ≤ letter) → letter < r.first
-          by_size (inl k) = k
-          by_size (inr k) = let never : true ≡ false = sym (le-leb r.first letter k) ∙ g in cc
-  first_end floor (suc at) (s ∷ rs) r up l e h f =
-      ap (λ z. z || is_in rs letter) (ends_before s (h 0 s (omega arith))) ∙ first_end s.first at rs r up.1 (omega (arith, l)) e (λ k d m. h (suc k) d (omega (arith, m))) f
+      none : is_in (drop size rs) letter ≡ false
+      none = none_begins (drop size rs) (λ k d l. subst (λ r. letter < r.first) (sym (get_or-drop size rs k d)) (later (size + k) d (omega arith) (omega (arith, l, length-drop size rs))))
 
-  -- the first range that ends no earlier tells
-  module _ (rs : List Range) (at : ℕ) (order : AreOrdered rs) (point : IsPartitionPoint (λ r. ltb r.last letter ≡ true) (λ r. ltb r.last letter ≡ false) rs at) where
-    earlier : (k : ℕ) (d : Range) → k < at → (get_or rs k d).last < letter
-    earlier k d l = ltb-true _ _ (point.0 k d (omega arith) l)
+      or_false : (v : Bool) → (v || false) ≡ v
+      or_false true = refl
+      or_false false = refl
 
-    pub found_at : (d : Range) → at < length rs → nat_le (get_or rs at d).first letter ≡ is_in rs letter
-    found_at d l = sym (first_end 0 at rs r (rises (λ r. r.first) 0 rs (λ d m. omega arith) order.0) l (get_or_default rs at d r l) earlier (by_size (cases_lt r.last letter)))
-      where
-        r : Range
-        r = get_or rs at d
+  -- the range at this index begins by the letter
+  back_alike : (i : ℕ) (rs : List Range) (d : Range) → AreOrdered rs → i < length rs → (get_or rs i d).first ≤ letter → is_in (drop i rs) letter ≡ is_in rs letter
+  back_alike i rs d order l begun = sym (cut_at i rs ∙ by_end (cases_lt (get_or rs i d).last letter))
+    where
+      here : drop i rs ≡ get_or rs i d ∷ drop (i + 1) rs
+      here = drop_more rs i d l
 
-        no_earlier : ltb r.last letter ≡ false
-        no_earlier = point.1 at d (omega arith) l
+      by_end : ((get_or rs i d).last < letter) ⊎ (letter ≤ (get_or rs i d).last) → (is_in (take i rs) letter || is_in (drop i rs) letter) ≡ is_in (drop i rs) letter
+      by_end (inl before) = ap (λ z. z || is_in (drop i rs) letter) (none_ends (take i rs) (λ k e m.
+          let below : k < i = omega (arith, m, length-take-le i rs (omega (arith, l))) in
+          let up = order.1 k i e (omega (arith, below)) l in
+          let same : (get_or rs i e).last ≡ (get_or rs i d).last = ap (λ r. r.last) (get_or_default rs i e d l) in
+          subst (λ r. r.last < letter) (sym (get_or-take i rs k e below)) (omega (arith, up, same, before))))
+      by_end (inr after) =
+          let yes : is_in (drop i rs) letter ≡ true = ap (λ z. is_in z letter) here ∙ ap (λ z. (z && nat_le letter (get_or rs i d).last) || is_in (drop (i + 1) rs) letter) (le-leb _ _ begun) ∙ ap (λ z. z || is_in (drop (i + 1) rs) letter) (le-leb _ _ after) in
+          or_true (is_in (take i rs) letter) (is_in (drop i rs) letter) yes ∙ sym yes
 
-        by_size : (r.last < letter) ⊎ (letter ≤ r.last) → letter ≤ r.last
-        by_size (inl k) = let never : true ≡ false = sym (lt-ltb r.last letter k) ∙ no_earlier in cc
-        by_size (inr k) = k
+  module _ (rs : List Range) (d : Range) (third size : ℕ) (order : AreOrdered rs) (t : third ≡ length rs / 3) (some : 2 < length rs) (s : size ≡ length rs - 2 * third) where
+    -- the ranges between, of which the first begins by the letter and none after the last
+    between : (at : ℕ) → is_in (drop at rs) letter ≡ is_in rs letter → ((k : ℕ) (e : Range) → at + size ≤ k → k < length rs → letter < (get_or rs k e).first) → is_in (take size (drop at rs)) letter ≡ is_in rs letter
+    between at back later = front_alike size (drop at rs) (λ k e l m. subst (λ r. letter < r.first) (sym (get_or-drop at rs k e)) (later (at + k) e (omega (arith, l)) (omega (arith, m, length-drop at rs)))) ∙ back
 
-    pub found_nowhere : length rs ≤ at → false ≡ is_in rs letter
-    found_nowhere l = sym (none_ends rs (λ k d m. earlier k d (omega (arith, l, m))))
+    later_begins : (i : ℕ) → i < length rs → letter < (get_or rs i d).first → (k : ℕ) (e : Range) → i ≤ k → k < length rs → letter < (get_or rs k e).first
+    later_begins i l before k e m n =
+        let up = order.0 i k d m n in
+        let same : (get_or rs k d).first ≡ (get_or rs k e).first = ap (λ r. r.first) (get_or_default rs k d e n) in
+        omega (arith, up, same, before)
+
+    by_pivots : (v w : Bool) → nat_le (get_or rs third d).first letter ≡ v → nat_le (get_or rs (2 * third) d).first letter ≡ w → is_in (take size (drop (third * (from_bool v + from_bool w)) rs)) letter ≡ is_in rs letter
+    by_pivots true true e f =
+        let at : third * 2 ≡ 2 * third = omega arith in
+        subst (λ z. is_in (take size (drop z rs)) letter ≡ is_in rs letter) (sym at)
+        (between (2 * third) (back_alike (2 * third) rs d order (omega (arith, t, some)) (leb-true _ _ f)) (λ k g l m. absurd (omega (arith, l, m, s, t))))
+    by_pivots true false e f =
+        let at : third * 1 ≡ third = omega arith in
+        subst (λ z. is_in (take size (drop z rs)) letter ≡ is_in rs letter) (sym at)
+        (between third (back_alike third rs d order (omega (arith, t, some)) (leb-true _ _ e)) (λ k g l m. later_begins (2 * third) (omega (arith, t, some)) (over _ _ f) k g (omega (arith, l, s, t)) m))
+    by_pivots false false e f =
+        let at : third * 0 ≡ 0 = omega arith in
+        subst (λ z. is_in (take size (drop z rs)) letter ≡ is_in rs letter) (sym at)
+        (between 0 refl (λ k g l m. later_begins third (omega (arith, t, some)) (over _ _ e) k g (omega (arith, l, s, t)) m))
+    by_pivots false true e f =
+        let up = order.0 third (2 * third) d (omega arith) (omega (arith, t, some)) in
+        absurd (omega (arith, up, over _ _ e, leb-true _ _ f))
+
+    pub narrowed_alike : (first second : ℕ) → first ≡ from_bool (nat_le (get_or rs third d).first letter) → second ≡ from_bool (nat_le (get_or rs (2 * third) d).first letter) → is_in (take size (drop (third * (first + second)) rs)) letter ≡ is_in rs letter
+    narrowed_alike first second e f =
+        ap₂ (λ a b. is_in (take size (drop (third * (a + b)) rs)) letter) e f ∙ by_pivots (nat_le (get_or rs third d).first letter) (nat_le (get_or rs (2 * third) d).first letter) refl refl
 
 -- the last letters that are reached ascend
 reaches_last : (reach : ℕ) (rs : List Range) → Rises (λ r. r.last) reach (reaches reach rs)

@@ -1,9 +1,8 @@
 -- A path is matched with each choice whose key it has.
-use Rattle.std.proofs.Common.{bit_and, ◌≡◌, ◌⊎◌, inl, inr, ◌<◌, ◌+◌, ◌-◌, ℕ, zero, suc, nat_eq, true, false, Bool, ◌||◌, List, [], ◌∷◌, ◌++◌, map, length, take, drop, refl, sym, ap, ◌∙◌, subst, arith, length-append, append-nil}
+use Rattle.std.proofs.Common.{bit_and, ◌≡◌, ◌⊎◌, inl, inr, ◌<◌, ◌+◌, ◌-◌, ℕ, zero, suc, nat_eq, true, false, Bool, List, [], ◌∷◌, ◌++◌, map, length, take, drop, refl, sym, ap, ◌∙◌, subst, arith, length-append, append-nil}
 use Rattle.std.specs.List.{AllByRecursion, HoldsAt}
 use Rattle.std.specs.Prelude.{slice_index_or, if◌then◌else◌, Option, None, Some, MatchOption}
 use denote.Ref.{Bor}
-use Rattle.std.proofs.lemmas.Bool.{eqb-true}
 use Rattle.std.proofs.lemmas.List.{same_from_push, take_at, drop_at, take-map, map-append, length-map}
 use Rattle.std.proofs.lemmas.Str.Ascii.{lowercase-lowercase}
 use Rattle.std.specs.Char.{to_ascii_lowercase}
@@ -19,7 +18,7 @@ use Rattle.wildcards.specs.declared.pattern.Choice.{Choice}
 use Rattle.wildcards.specs.declared.piece.Piece.{Piece}
 use Rattle.wildcards.specs.declared.separators.Separators.{Separators}
 use Rattle.wildcards.specs.declared.set.Pattern.{Pattern}
-use Rattle.wildcards.specs.Candidates.{OneHas, IsQuery, with_key, after_extension, extension_keys, end_keys, name_keys, component_keys, path_keys, slot_in, comes_again, key_lists, all_lists}
+use Rattle.wildcards.specs.Candidates.{OneHas, IsQuery, with_key, after_extension, extension_keys, end_keys, name_keys, component_keys, path_keys, all_lists}
 use Rattle.wildcards.specs.Components.{components, separates}
 use Rattle.wildcards.specs.Cuts.{IsPlain, IsCut}
 use Rattle.wildcards.specs.Extensions.{LacksDot, IsExtension, LacksExtension}
@@ -34,6 +33,7 @@ use Rattle.wildcards.proofs.lemmas.Extensions.{has_dot, one_extension}
 use Rattle.wildcards.proofs.lemmas.Parts.{one_component, first_component}
 use Rattle.wildcards.proofs.lemmas.Readings.{whole, first_of, first_ascii, first_found, cut_letters}
 use Rattle.wildcards.proofs.lemmas.Small.{dot_only, small_components}
+use Rattle.wildcards.proofs.lemmas.Visited.{key_listed}
 
 -- a list is cut at its first separator, or has none
 pub record FirstCut (o : Separators) (s : List ℕ) : Type 0 where
@@ -90,7 +90,7 @@ module _ (formed : List ℕ → Type 0) (letters : List ℕ → List ℕ) (laws 
       (at.prefix, at.joined ∙ ap (λ z. at.prefix ++ b ∷ z) (itself at.suffix key both.1.0 ascii.1 at.letters_after))
 
   -- so is a prefix of ASCII
-  begins_itself : (s key rest : List ℕ) → formed s → AllByRecursion (λ b. b < 0x80) key → letters s ≡ key ++ rest → (after : List ℕ) × (s ≡ key ++ after)
+  pub begins_itself : (s key rest : List ℕ) → formed s → AllByRecursion (λ b. b < 0x80) key → letters s ≡ key ++ rest → (after : List ℕ) × (s ≡ key ++ after)
   begins_itself s [] rest f ascii e = (s, refl)
   begins_itself s (b ∷ key) rest f ascii e =
       let first = first_found formed letters laws s (key ++ rest) b ascii.0 f e in
@@ -132,10 +132,6 @@ module _ (formed : List ℕ → Type 0) (letters : List ℕ → List ℕ) (laws 
       let rest : map letters (front ++ name ∷ []) ≡ before ++ last ∷ [] = cc in
       last_read front before name last f.1 rest
 
-pub either_true : (v w : Bool) → (v || w) ≡ true → (v ≡ true) ⊎ (w ≡ true)
-either_true true w e = inl refl
-either_true false w e = inr e
-
 has_before : {X : Type 0} (xs more : List X) (x : X) → Has more x → Has (xs ++ more) x
 has_before [] more x h = h
 has_before (y ∷ xs) more x h = inr (has_before xs more x h)
@@ -147,29 +143,6 @@ same_read (x ∷ xs) zero d e l = refl
 same_read (x ∷ xs) (suc i) d e l = same_read xs i d e (omega (arith, l))
 
 module _ {A : Type 0} (q : Query A) where
-  later_key : (slot : ℕ) (keys : List (List ℕ)) → comes_again q slot keys ≡ true → (key : List ℕ) × (Has keys key × (slot_in q key ≡ slot))
-  later_key slot [] e = let never : false ≡ true = e in absurd (cc)
-  later_key slot (k ∷ keys) e = onto (later_key slot keys) (either_true (nat_eq (slot_in q k) slot) (comes_again q slot keys) e)
-    where
-      onto : (comes_again q slot keys ≡ true → (key : List ℕ) × (Has keys key × (slot_in q key ≡ slot))) → (nat_eq (slot_in q k) slot ≡ true) ⊎ (comes_again q slot keys ≡ true) → (key : List ℕ) × (Has (k ∷ keys) key × (slot_in q key ≡ slot))
-      onto again (inl f) = (k, (inl refl, eqb-true (slot_in q k) slot f))
-      onto again (inr f) = let h = again f in (h.0, (inr h.1.0, h.1.1))
-
-  -- the list of a key has what is in its bucket, or that of a later key
-  key_listed : (place : Place) (keys : List (List ℕ)) (key : List ℕ) → Has keys key → Has (bucket q.filter.now.folds q.filter.now.buckets.items key) place → OneHas (key_lists q keys) place
-  key_listed place [] key h l = absurd h
-  key_listed place (k ∷ keys) key (inr h) l = inr (key_listed place keys key h l)
-  key_listed place (k ∷ keys) key (inl e) l = by_again (comes_again q (slot_in q k) keys) refl (key_listed place keys)
-    where
-      here : Has (bucket q.filter.now.folds q.filter.now.buckets.items k) place
-      here = subst (λ z. Has (bucket q.filter.now.folds q.filter.now.buckets.items z) place) e l
-
-      by_again : (v : Bool) → comes_again q (slot_in q k) keys ≡ v → ((key : List ℕ) → Has keys key → Has (bucket q.filter.now.folds q.filter.now.buckets.items key) place → OneHas (key_lists q keys) place) → OneHas (key_lists q (k ∷ keys)) place
-      by_again true f again =
-          let later = later_key (slot_in q k) keys f in
-          inr (again later.0 later.1.0 (subst (λ z. Has (places_at q.filter.now.buckets.items z) place) (sym later.1.1) here))
-      by_again false f again = inl (subst (λ z. Has (if z then [] else bucket q.filter.now.folds q.filter.now.buckets.items k) place) (sym f) here)
-
   of_end : (sizes : List ℕ) (n : ℕ) (before key : List ℕ) → q.name.now ≡ before ++ key → n ≡ length key → Has sizes n → Has (end_keys q sizes) key
   of_end [] n before key e size has = absurd has
   of_end (m ∷ sizes) n before key e size (inl same) =
@@ -216,11 +189,6 @@ key_asked false key keys e = let never : false ≡ true = e in absurd (cc)
 after_key : (asked : Bool) (first key : List ℕ) (keys : List (List ℕ)) → Has keys key → Has (with_key asked first keys) key
 after_key true first key keys h = inr h
 after_key false first key keys h = h
-
--- nothing is asked for twice
-pub none_asked : (again : Bool) (places : List Place) → places ≡ [] → [] ≡ (if again then [] else places)
-none_asked true places e = refl
-none_asked false places e = sym e
 
 -- a part whose small letters are the key
 record MappedPart (parts : List (List ℕ)) (key : List ℕ) : Type 0 where
