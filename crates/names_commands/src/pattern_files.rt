@@ -147,7 +147,8 @@ fn push_line<A: Allocator + Copy>(
     Ok(())
 }
 
-/// The text of a line that this byte ends: before a newline a carriage return may come.
+/// The text of a line that this byte ends. If that is a newline, a carriage return at the end of the
+/// line isn't part of it.
 #[tactic(auto, using(crate::proofs::lemmas::PatternFiles::stripped))]
 fn text_of_line(end: u8, line: &[u8]) -> &[u8]
     ensures { result.now ≡ line_text end line.now }

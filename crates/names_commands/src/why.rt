@@ -22,9 +22,9 @@ use os_ignore::Ignore;
 use os_str_bytes::{OsStr, Platform, Unix};
 use std::alloc::{AllocError, Allocator, Global};
 
-/// Each name that a line of the ignore files decides is written on a line, after that line. So is each
-/// that a pattern matches else, after the first pattern that does. If some value states a file, a name
-/// that isn't a path from the top is rejected ([`Rejection::NotFromTop`]).
+/// Writes each name that a line of the ignore files decides, after that line. Writes each other name
+/// that a pattern matches, after the first such pattern. If a value states a file, a name that isn't a
+/// path from the top is rejected ([`Rejection::NotFromTop`]).
 #[derive(Drop)]
 pub struct Reasons<'r, 's, E: Platform, A: Allocator = Global> {
     /// The values of `--ignore`, which state the files.
