@@ -14,12 +14,16 @@ use Rattle.names_commands.proofs.lemmas.Picked.{are_written, chosen, matched, sa
 use Rattle.names_commands.proofs.patterns.run_picked.Goals as goal
 
 pub returns-in-Err-clause-run : goal.returns-in-Err-clause-run
-returns-in-Err-clause-run g c = (Err c.in-Err.fault, (
+returns-in-Err-clause-run g c = (
+  Err c.in-Err.fault,
+  (
     ⊎_elim
-    (λ memory. inl (ap Err memory, (refl, refl)))
-    (λ unread. inr (inl (c.in-Err.fault, inl (unread.0, subst (λ items. IsUnreadOf (g.F.Files.known c.args.files.now) 1 (map text_of items) unread.0) c.as_slice-pattern_files.ensures.value unread.1.0, unread.1.1), (refl, (refl, refl)))))
-    c.in-Err.ensures,
-  refl))
+        (λ memory. inl (ap Err memory, (refl, refl)))
+        (λ unread. inr (inl (c.in-Err.fault, inl (unread.0, subst (λ items. IsUnreadOf (g.F.Files.known c.args.files.now) 1 (map text_of items) unread.0) c.as_slice-pattern_files.ensures.value unread.1.0, unread.1.1), (refl, (refl, refl)))))
+        c.in-Err.ensures,
+    refl,
+  ),
+)
 
 pub returns-in-Err-sets_of-clause-run : goal.returns-in-Err-sets_of-clause-run
 returns-in-Err-sets_of-clause-run g c =
@@ -27,14 +31,18 @@ returns-in-Err-sets_of-clause-run g c =
     let requested = requested_of c.args.request.now in
     let lines = map pattern_line c.in-Ok.of_files.items in
     let read = subst (λ items. ArePatternsOf (g.F.Files.known c.args.files.now) 1 (map text_of items) lines) c.as_slice-pattern_files.ensures.value c.in-Ok.ensures in
-    let fault = c.in-Err-sets_of.fault in (Err fault, (
-    ⊎_elim
-    (λ memory. inl (ap Err memory, (refl, refl)))
-    (λ of.
-    let here = subst (λ o. IsOfGlobs P o requested (map pattern_line c.as_slice-lines.result.now) fault) c.options_of-options.ensures of in
-    inr (inl (fault, inr (lines, read, subst (λ items. IsOfGlobs P (options_of c.args.os requested.case_insensitive) requested (map pattern_line items) fault) c.as_slice-lines.ensures.value here), (refl, (refl, refl)))))
-    c.in-Err-sets_of.ensures,
-    refl))
+    let fault = c.in-Err-sets_of.fault in (
+      Err fault,
+      (
+        ⊎_elim
+            (λ memory. inl (ap Err memory, (refl, refl)))
+            (λ of.
+            let here = subst (λ o. IsOfGlobs P o requested (map pattern_line c.as_slice-lines.result.now) fault) c.options_of-options.ensures of in
+            inr (inl (fault, inr (lines, read, subst (λ items. IsOfGlobs P (options_of c.args.os requested.case_insensitive) requested (map pattern_line items) fault) c.as_slice-lines.ensures.value here), (refl, (refl, refl)))))
+            c.in-Err-sets_of.ensures,
+        refl,
+      ),
+    )
 
 pub returns-in-Err-read_ignore-clause-run : goal.returns-in-Err-read_ignore-clause-run
 returns-in-Err-read_ignore-clause-run g c =
@@ -49,17 +57,21 @@ returns-in-Err-read_ignore-clause-run g c =
     let of_lines = subst (λ items. IsSetOf P g.row.A.Denot c.options_of-options.result (requested.globs ++ map pattern_text (map pattern_line items)) set) c.as_slice-lines.ensures.value c.in-Ok-sets_of.ensures.0 in
     let made = subst (λ z. IsSetOf P g.row.A.Denot z texts set) c.options_of-options.ensures of_lines in
     let left_out = subst (λ z. IsSetOf P g.row.A.Denot z requested.excluded excluded) c.options_of-options.ensures c.in-Ok-sets_of.ensures.1 in
-    let why = subst (λ items. IsFaultOf (g.F.Files.known c.args.files.now) g.row.A.Denot requested.case_insensitive (map text_of items) c.in-Err-read_ignore.fault) c.as_slice-values.ensures.value c.in-Err-read_ignore.ensures in (Err c.in-Err-read_ignore.fault, (
-    ⊎_elim
-    (λ memory. inl (ap Err memory, (refl, refl)))
-    (λ of. inr (inr (
-      written_of P o texts set.set.patterns.items made.1,
-      written_of P o requested.excluded excluded.set.patterns.items left_out.1,
-      (lines, (read, are_written P o texts set.set.patterns.items made.1)),
-      (are_written P o requested.excluded excluded.set.patterns.items left_out.1, inl (of.0, of.1, (ap Err of.2, (refl, refl)))),
-    )))
-    why,
-    refl))
+    let why = subst (λ items. IsFaultOf (g.F.Files.known c.args.files.now) g.row.A.Denot requested.case_insensitive (map text_of items) c.in-Err-read_ignore.fault) c.as_slice-values.ensures.value c.in-Err-read_ignore.ensures in (
+      Err c.in-Err-read_ignore.fault,
+      (
+        ⊎_elim
+            (λ memory. inl (ap Err memory, (refl, refl)))
+            (λ of. inr (inr (
+              written_of P o texts set.set.patterns.items made.1,
+              written_of P o requested.excluded excluded.set.patterns.items left_out.1,
+              (lines, (read, are_written P o texts set.set.patterns.items made.1)),
+              (are_written P o requested.excluded excluded.set.patterns.items left_out.1, inl (of.0, of.1, (ap Err of.2, (refl, refl)))),
+            )))
+            why,
+        refl,
+      ),
+    )
 
 pub returns-clause-run : goal.returns-clause-run
 returns-clause-run g c =

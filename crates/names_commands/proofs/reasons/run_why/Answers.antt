@@ -20,14 +20,18 @@ pub returns-in-Err-clause-run : goal.returns-in-Err-clause-run
 returns-in-Err-clause-run g c =
     let P = g.E.Platform in
     let requested = requested_of c.args.request.now in
-    let fault = c.in-Err.fault in (Err fault, (
-    ⊎_elim
-    (λ memory. inl (ap Err memory, (refl, refl)))
-    (λ of.
-    let here = subst (λ o. IsOfPatterns P o 0 requested.plain (map string_bytes c.as_slice-texts.result.now) fault) c.options_of-options.ensures of in
-    inr (inl (fault, subst (λ items. IsOfPatterns P (options_of c.args.os requested.case_insensitive) 0 requested.plain (map string_bytes items) fault) c.as_slice-texts.ensures.value here, (refl, (refl, refl)))))
-    c.in-Err.ensures,
-    refl))
+    let fault = c.in-Err.fault in (
+      Err fault,
+      (
+        ⊎_elim
+            (λ memory. inl (ap Err memory, (refl, refl)))
+            (λ of.
+            let here = subst (λ o. IsOfPatterns P o 0 requested.plain (map string_bytes c.as_slice-texts.result.now) fault) c.options_of-options.ensures of in
+            inr (inl (fault, subst (λ items. IsOfPatterns P (options_of c.args.os requested.case_insensitive) 0 requested.plain (map string_bytes items) fault) c.as_slice-texts.ensures.value here, (refl, (refl, refl)))))
+            c.in-Err.ensures,
+        refl,
+      ),
+    )
 
 pub returns-in-Err-read_ignore-clause-run : goal.returns-in-Err-read_ignore-clause-run
 returns-in-Err-read_ignore-clause-run g c =
@@ -36,12 +40,16 @@ returns-in-Err-read_ignore-clause-run g c =
     let o = options_of c.args.os requested.case_insensitive in
     let set = c.in-Ok.set in
     let made = subst (λ items. IsSetOf P g.row.A.Denot o (map string_bytes items) set) c.as_slice-texts.ensures.value (subst (λ z. IsSetOf P g.row.A.Denot z (map string_bytes c.as_slice-texts.result.now) set) c.options_of-options.ensures c.in-Ok.ensures) in
-    let why = subst (λ items. IsFaultOf (g.F.Files.known c.args.files.now) g.row.A.Denot requested.case_insensitive (map text_of items) c.in-Err-read_ignore.fault) c.as_slice-values.ensures.value c.in-Err-read_ignore.ensures in (Err c.in-Err-read_ignore.fault, (
-    ⊎_elim
-    (λ memory. inl (ap Err memory, (refl, refl)))
-    (λ of. inr (inr (written_of P o requested.globs set.set.patterns.items made.1, are_written P o requested.globs set.set.patterns.items made.1, inl (of.0, of.1, (ap Err of.2, (refl, refl))))))
-    why,
-    refl))
+    let why = subst (λ items. IsFaultOf (g.F.Files.known c.args.files.now) g.row.A.Denot requested.case_insensitive (map text_of items) c.in-Err-read_ignore.fault) c.as_slice-values.ensures.value c.in-Err-read_ignore.ensures in (
+      Err c.in-Err-read_ignore.fault,
+      (
+        ⊎_elim
+            (λ memory. inl (ap Err memory, (refl, refl)))
+            (λ of. inr (inr (written_of P o requested.globs set.set.patterns.items made.1, are_written P o requested.globs set.set.patterns.items made.1, inl (of.0, of.1, (ap Err of.2, (refl, refl))))))
+            why,
+        refl,
+      ),
+    )
 
 pub returns-clause-run : goal.returns-clause-run
 returns-clause-run g c =
