@@ -10,9 +10,12 @@
 //! absolute path. How a path is read is in `path_rules`.
 //!
 //! Paths are bytes here too, in no encoding, and may have a NUL, at which a system would end them:
-//! only [`Base`], [`join_checked`] and [`join_checked_keeping_sep`] reject it. They resolve `..`, and so do
-//! [`normalize`], [`clean`], [`relative_from`], also after `\\?\`, and a join to a path that begins
-//! with `\\?\`. Each call but [`Base::new`] and the two of a common base allocates, with an allocator
+//! only [`Base`], [`join_checked`] and [`join_checked_keeping_sep`] reject it. They resolve `..`,
+//! and so do [`normalize`], [`clean`], on Windows [`absolute`], and a join to a path that begins with
+//! `\\?\`. [`relative_from`] keeps each `..` of the path. It resolves only a path that begins with
+//! `\\?\` and is returned whole, relative to an absolute base.
+//!
+//! Each call but [`Base::new`] and the two of a common base allocates, with an allocator
 //! that it is given or that the vector has. Each returns a `Result`; at `Err` a vector is unchanged.
 //! Only an extension ([`path_rules::is_extension_text`]) and the base of [`common_base_with`] have
 //! a precondition.

@@ -23,18 +23,20 @@ use std::alloc::{AllocError, Allocator};
 /// joined with the result leads to the same file as the path.
 ///
 /// The components that both begin with are left out. Each other component of the base becomes a
-/// `..`, except a `.` at its start. The remaining components of the path follow, and the result is
-/// written with the main separator.
+/// `..`, except a `.` at its start. The remaining components of the path follow, with each `..`
+/// among them, and the result is written with the main separator.
 ///
-/// A path with another prefix or another root than the base's is returned whole, written with the
-/// main separator. If it begins with `\\?\`, its `.` and `..` are resolved, as they are where it is
-/// joined. A first name with a colon gets `.\` before it.
+/// An absolute path is returned unchanged if the base isn't absolute. Any other path with another
+/// prefix or another root than the base's is returned whole, written with the main separator. If it
+/// begins with `\\?\`, its `.` and `..` are then resolved, as they are where it is joined. A first
+/// name with a colon gets `.\` before it.
 ///
 /// Returns `None` if the base is absolute and the path isn't, or if the base goes up by a `..`
 /// where the path doesn't. It returns `None`, too, if both are absolute or neither is, and Windows
-/// doesn't read the beginning of one by components, as that of `\\server` ([`crate::normalize`]). It also returns `None` if the base joined with the result would lead to
-/// another file, as `..\..\a` for `a` relative to `C:b`. Two paths lead to the same file if their
-/// clean forms are alike, without symbolic links and also after `\\?\`.
+/// doesn't read the beginning of one by components, as that of `\\server` ([`crate::normalize`]).
+/// It also returns `None` if the base joined with the result would lead to another file, as
+/// `..\..\a` for `a` relative to `C:b`. Two paths lead to the same file if their clean forms are
+/// alike, without symbolic links and also after `\\?\`.
 ///
 /// # Errors
 ///
