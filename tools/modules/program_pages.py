@@ -177,7 +177,8 @@ def spelled(option: Option) -> str:
 
 def of_commands(option: Option) -> str:
     """Returns which commands take an option, as the words before its text."""
-    return f"For {' and '.join(f'`{it}`' for it in option.commands)}. " if option.commands else ""
+    names = [f"`{it}`" for it in option.commands]
+    return f"For {', '.join(names[:-2] + [' and '.join(names[-2:])])}. " if names else ""
 
 
 def synopsis(of: Program) -> str:
@@ -207,7 +208,7 @@ def man_page(of: Program) -> str:
         "COMMANDS": tagged([(in_bold(it.name, *it.operands), in_roff(it.text)) for it in of.commands]),
         "OPTIONS": tagged([(spelled(it), in_roff(of_commands(it) + it.text)) for it in of.options]),
         **{title: in_roff(text) for title, text in of.sections.items()},
-        "EXIT STATUS": tagged([(rf"\fB{number}\fR", as_roff(text)) for number, text in STATUSES.items()]),
+        "EXIT STATUS": tagged([(rf"\fB{number}\fR", in_roff(text)) for number, text in STATUSES.items()]),
         "EXAMPLES": "\n".join(example_in_roff(it) for it in of.examples),
         "SEE ALSO": ",\n".join(f".BR {it} (1)" for it in PROGRAMS if it != of.name),
     })

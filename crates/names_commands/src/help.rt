@@ -31,7 +31,7 @@ Options may stand anywhere; -- ends them.
   --ignore FILE    list, filter: leave out what the .gitignore file FILE ignores (unix, wasm)
                    with DIR=FILE, as that of the folder DIR does
                    why: the names that a line of it decides, after that line
-  -v, --invert     list, filter: pick the others, which --glob, --name and --ignore leave out
+  -v, --invert     list, filter: pick the others, which the GLOBs and --ignore leave out
   -i, --ignore-case
                    list, filter, why: GLOB and FILE match without regard to case
   --exit-status    list, filter, why: end with status 1, and no message, if nothing is printed
@@ -56,12 +56,13 @@ GLOB matches a whole name, ./ and folders too, component by component: * is any 
 of components; {a,b} is a or b; \\ quotes the character after it. The separator is /. On windows \\ is one as
 well, in GLOB too, where it quotes nothing. So **/*.rs matches ./src/a.rs, and *.rs doesn't; --name '*.rs' does.
 A GLOB that begins with a dash is written --glob=-x. Arguments are UTF-8: a GLOB of other bytes is given by --globs-from,
-whose lines may end with CR LF. A FILE of --globs-from without GLOBs picks no names.
+whose lines may end with CR LF. A FILE of --globs-from without GLOBs picks no names. A byte order mark is part of its
+first GLOB.
 
-FILE is read as git reads a .gitignore at the top of the tree, or in DIR. That of the deeper folder decides, and a later
-one over those before it. DIR ends at the first =, so a FILE whose name has one is written =FILE. DIR and names are paths
-from the top, with or without ./ at the start, and . is the top: /a, a//b and a/../b are rejected. A name that ends with
-/ is a directory, another isn't: out/ ignores ./out/ and ./out/a, but not ./out.
+FILE of --ignore is read as git reads a .gitignore at the top of the tree, or in DIR. That of the deeper folder decides,
+and a later one over those before it. DIR ends at the first =, so a FILE whose name has one is written =FILE. DIR and
+names are paths from the top, with or without ./ at the start, and . is the top: /a, a//b and a/../b are rejected. A name
+that ends with / is a directory, another isn't: out/ ignores ./out/ and ./out/a, but not ./out.
 
 why writes FILE:LINE:PATTERN for the line of FILE that decides a name, or else GLOB:NUMBER:PATTERN for the first GLOB that
 matches it. GLOBs are numbered from 1, as in messages: the operand, those of --glob, those of --name. A FILE with the
@@ -70,6 +71,6 @@ name GLOB is written ./GLOB. Nothing is written for the other names.
 tar reads the whole archive into memory. It writes each name of an entry that --lines and --max permit, and ends at the
 first entry that readers of archives may read in different ways. The message has the first entry that is rejected.
 
-Status: 0; 1 for an invalid name, line or entry, with its number, from 1; 2 for wrong arguments or an invalid GLOB; 3 if
-out of memory; 4 if a read or write fails, or a FILE can't be read.
+Status: 0; 1 for an invalid name, line or entry, with its number, from 1, or with --exit-status if nothing is printed; 2
+for wrong arguments or an invalid GLOB; 3 if out of memory; 4 if a read or write fails, or a FILE can't be read.
 ";

@@ -56,10 +56,10 @@ the paths, and nothing is read. PLATFORM isn't among them if the command comes b
   -V, --version    the version
 
 A path has at most 1048576 bytes; a longer one ends the run in any case. The results are those of Rust's
-std::path: empty parts and . name nothing, but for a . at the start, and .. is resolved by normalize, clean and
-join --checked alone. An extension comes after the last dot of a name, if that isn't its first byte. On windows
-/ and \\ separate, and a path may begin with a prefix: C:, \\\\server\\share, \\\\?\\C:, \\\\?\\UNC\\server\\share,
-\\\\?\\name or \\\\.\\name.
+std::path: empty parts and . name nothing, but for a . at the start, and .. is resolved by normalize, clean,
+join --checked and, on windows, absolute alone. An extension comes after the last dot of a name, if that isn't
+its first byte. On windows / and \\ separate, and a path may begin with a prefix: C:, \\\\server\\share, \\\\?\\C:,
+\\\\?\\UNC\\server\\share, \\\\?\\name or \\\\.\\name.
 
 Status: 0; 1 for a path that is rejected, with its number, from 1, or for paths without a common base; 2 for wrong
 arguments; 3 if out of memory; 4 if a read or write fails.

@@ -7,8 +7,8 @@
 //! [`Failure`](fault::Failure) keeps a run from going on whatever its input is. Platforms have
 //! names ([`os::Os`]).
 //!
-//! One of its calls has a `requires`: [`writing::write_out`] takes a writer whose mark is unset, as
-//! [`marked::Marked::new`] makes it.
+//! [`writing::write_out`], [`program::execute`] and [`program::Program::run_words`] require ends
+//! whose marks are unset, as [`marked::Marked::new`] makes them (test: [`marked::Marked::failed`]).
 #![tactic(auto)]
 
 pub mod ended;

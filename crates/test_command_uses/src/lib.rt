@@ -1,8 +1,10 @@
 //! For trying: what a user of the programs' libraries and of the allocator that fails conclude
 //! from their public contracts alone.
 //!
-//! Each function is a caller whose contract is such a conclusion. Nothing here cites a lemma
-//! or a private word of the crates below, so that a contract that states too little breaks a caller.
+//! Each function is a caller whose contract is such a conclusion. Nothing here cites a private word of
+//! the crates below, and of their lemmas only three: that a list has an end, that rejected words state
+//! no request, and that a FILE without `=` has no invalid directory. So a contract that states too
+//! little breaks a caller.
 #![tactic(auto)]
 
 mod archives;

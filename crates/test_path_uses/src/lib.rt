@@ -1,8 +1,8 @@
 //! For trying: what a user of paths and of ignore files concludes from the public contracts alone.
 //!
-//! Each function is a caller whose contract is such a conclusion. Nothing here cites a lemma or a
-//! private word of the crates below, so that a contract or a law that states too little breaks a
-//! caller.
+//! Each function is a caller whose contract is such a conclusion. Nothing here cites a private word of
+//! the crates below, and of their lemmas only those on the normal form of a path and on how a path is
+//! resolved. So a contract or a law that states too little breaks a caller.
 #![tactic(auto)]
 
 pub mod changed;
