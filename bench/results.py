@@ -6,7 +6,7 @@ import re
 import statistics
 from typing import NamedTuple
 
-TITLE = re.compile(r"### ((?:Hard )?\w+)(?:.* beside (\w+))?")
+TITLE = re.compile(r"### ((?:Hard )?\w+)")
 TIME = re.compile(r"[\d.]+$")
 OVER = re.compile(r"Ours/(.+)")
 CRATE = "os_str_bytes"
@@ -38,19 +38,19 @@ class Ratios(NamedTuple):
 
 
 def peers_of(text: str) -> dict[str, dict[str, Ratios]]:
-    """Returns the ratios over each peer, by families: the crate, std, and each other that a title or a column names."""
+    """Returns the ratios over each peer, by families: the crate, std, and each other that a column names."""
     peers: dict[str, dict[str, Ratios]] = {}
-    family, beside, head = "", CRATE, [""]
+    family, over = "", []
     for row in text.splitlines():
         if title := TITLE.match(row):
-            family, beside = title[1], title[2] or CRATE
+            family = title[1]
         cells = [cell.strip() for cell in row.split("|")[1:-1]]
         if cells[:1] == ["Call"]:
-            head = cells
-        elif len(cells) >= 7 and TIME.match(cells[2]):
-            for column, theirs in zip(head[4::2], cells[3::2]):
-                if theirs:
-                    peer = beside if column == "Ours/crate" else OVER.fullmatch(column)[1]
+            over = [OVER.fullmatch(column) for column in cells[4::2]] if cells[2] == "Ours" else []
+        elif over and TIME.match(cells[2] if len(cells) > 2 else ""):
+            for column, theirs in zip(over, cells[3::2]):
+                if column and theirs:
+                    peer = CRATE if column[1] == "crate" else column[1]
                     of_family = peers.setdefault(peer, {}).setdefault(family, Ratios([]))
                     of_family.found.append(Found(float(cells[2]) / float(theirs), f"{cells[0]}: {cells[1]}"))
     return peers

@@ -17,7 +17,7 @@ const KINDS: [(&str, &[&str]); 4] = [
 
 pub fn time(bench: &mut Bench) {
     words(bench);
-    bench.table("Flags of one word beside lexopt", "a flag");
+    bench.table_beside("Flags of one word beside lexopt", "a flag", &["lexopt"]);
     for (size, name) in SIZES {
         for (flag, kind) in [('v', "`-vvv..`"), ('ж', "Cyrillic flags")] {
             let count = (size - 1) / flag.len_utf8();
@@ -26,7 +26,7 @@ pub fn time(bench: &mut Bench) {
                 "next",
                 &format!("{kind}, {name}"),
                 count,
-                [Some(&mut || ours::flags(black_box(word.as_bytes()))), Some(&mut || lexopt(black_box(&word))), None],
+                [Some(&mut || ours::flags(black_box(word.as_bytes()))), Some(&mut || lexopt(black_box(&word)))],
             );
         }
     }
@@ -34,7 +34,7 @@ pub fn time(bench: &mut Bench) {
 
 /// The words of command lines, of 10 and of 1,000 words.
 fn words(bench: &mut Bench) {
-    bench.table("Options beside lexopt", "a word");
+    bench.table_beside("Options beside lexopt", "a word", &["lexopt"]);
     for (kind, pieces) in KINDS {
         for count in [10, 1000] {
             let words: Vec<&str> = (0..count).map(|index| pieces[index % pieces.len()]).collect();
@@ -47,7 +47,6 @@ fn words(bench: &mut Bench) {
                 [
                     Some(&mut || repeated(len, || ours::options(black_box(&all), &lens))),
                     Some(&mut || repeated(len, || lexopt_options(black_box(&words)))),
-                    None,
                 ],
             );
         }

@@ -17,7 +17,7 @@ pub fn time(bench: &mut Bench) {
 }
 
 fn check(bench: &mut Bench, strings: &[Long]) {
-    bench.table_beside("Check on Windows", "a byte", &theirs::SIMDUTF8);
+    bench.table_beside("Check on Windows", "a byte", &theirs::OF_CHECKS);
     for string @ Long { name, bytes } in strings {
         bench.line(
             "check",

@@ -51,7 +51,7 @@ fn long(bench: &mut Bench) {
 
 /// Of texts and bytes of which most is escaped, beside `{:?}` and `escape_ascii` into a buffer that is there.
 fn hard(bench: &mut Bench) {
-    bench.table_beside("Hard escapes, into a buffer", "a byte", &["escape_ascii"]);
+    bench.table_beside("Hard escapes, into a buffer", "a byte", &["crate", "std", "escape_ascii"]);
     let calls: [Written; 2] = [("write_escape", ours::write_escape), ("write_escape_line", ours::write_escape_line)];
     for inputs::Long { name, bytes } in inputs::mostly_escaped() {
         let mut room = vec![0; 10 * bytes.len()];

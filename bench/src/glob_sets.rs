@@ -34,7 +34,7 @@ static ASKED: [[OnceLock<GlobSet>; COUNTS.len()]; KINDS.len()] =
     [const { [const { OnceLock::new() }; COUNTS.len()] }; KINDS.len()];
 
 pub fn time(bench: &mut Bench) {
-    bench.table("Patterns in sets beside globset", "a path");
+    bench.table_beside("Patterns in sets beside globset", "a path", &["globset"]);
     for ((kind, patterns, folds, most), asked) in KINDS.into_iter().zip(&ASKED) {
         let counts = if folds { FEWER } else { COUNTS };
         for (count, asked) in counts.into_iter().zip(asked) {
@@ -46,7 +46,7 @@ pub fn time(bench: &mut Bench) {
             }
         }
     }
-    bench.table("Patterns into sets beside globset", "a pattern");
+    bench.table_beside("Patterns into sets beside globset", "a pattern", &["globset"]);
     for (kind, patterns, folds, _) in KINDS {
         let counts = if kind.starts_with("a mix") { FEWER } else { COUNTS };
         for count in counts {
@@ -66,7 +66,7 @@ const TOTAL: usize = 1 << 16;
 
 /// Patterns that grow, paths that grow, and both, at once, twice and four times the length.
 fn grown(bench: &mut Bench) {
-    bench.table("Hard patterns beside globset", "a byte");
+    bench.table_beside("Hard patterns beside globset", "a byte", &["globset"]);
     for times in [1, 2, 4] {
         let len = LONGEST / 4 * times;
         let path = "a".repeat(len);
@@ -103,7 +103,7 @@ fn grown(bench: &mut Bench) {
 /// Sets of few patterns that stand for many, of many patterns that share their names, and of patterns that
 /// all match: at once, twice and four times the size.
 fn hostile(bench: &mut Bench) {
-    bench.table("Hard sets beside globset, made", "a set");
+    bench.table_beside("Hard sets beside globset, made", "a set", &["globset"]);
     for times in [1, 2, 4] {
         let classes = "[aceg\u{10FFFF}]".repeat(10 * times);
         let pattern = format!("{}{classes}", "{a,b}".repeat(10));
@@ -117,7 +117,7 @@ fn hostile(bench: &mut Bench) {
         let names = "[:".repeat(20_000 * times);
         new(bench, &format!("`[[:^{}x]`", 20_000 * times), &format!("[{names}x]"));
     }
-    bench.table("Hard sets beside globset", "a path");
+    bench.table_beside("Hard sets beside globset", "a path", &["globset"]);
     for count in [6, 7, 8] {
         let pattern = format!("**/x/**/{}?/**", "{a,b}".repeat(count));
         let input = format!("`**/x/**/{{a,b}}^{count}?/**` on (x/)^");
@@ -165,7 +165,6 @@ fn one(bench: &mut Bench, input: &str, pattern: &str, path: &str) {
         [
             Some(&mut || ours(black_box(pattern), true, &all, &lens) as u64),
             Some(&mut || lens.iter().filter(|_| theirs.is_match(black_box(path))).count() as u64),
-            None,
         ],
     );
 }
@@ -188,7 +187,6 @@ fn set(bench: &mut Bench, input: &str, (patterns, folds): (&[String], bool), the
                     sum + found.len() as u64
                 })
             }),
-            None,
         ],
     );
     let ours = black_box(ours::set_is_match as fn(Ours, &str, &[usize], usize) -> usize);
@@ -201,7 +199,6 @@ fn set(bench: &mut Bench, input: &str, (patterns, folds): (&[String], bool), the
             Some(&mut || {
                 (0..times).flat_map(|_| cut(ended, path_lens)).filter(|path| theirs.is_match(path)).count() as u64
             }),
-            None,
         ],
     );
 }
@@ -216,7 +213,6 @@ fn new(bench: &mut Bench, input: &str, pattern: &str) {
         [
             Some(&mut || u64::from(ours(black_box(Ours { text: pattern, lens: &[pattern.len()], folds: false })))),
             Some(&mut || u64::from(!black_box(compiled(&[black_box(pattern).to_owned()], false)).is_empty())),
-            None,
         ],
     );
 }
@@ -245,7 +241,6 @@ fn matched(bench: &mut Bench, input: &str, patterns: &[String], path: &str) {
                     sum + found.len() as u64
                 })
             }),
-            None,
         ],
     );
 }
@@ -262,7 +257,6 @@ fn made(bench: &mut Bench, input: &str, patterns: &[String], folds: bool) {
         [
             Some(&mut || u64::from(ours(black_box(asked)))),
             Some(&mut || u64::from(!black_box(compiled(black_box(patterns), folds)).is_empty())),
-            None,
         ],
     );
 }

@@ -51,14 +51,14 @@ type Matcher = Box<dyn Fn(&str) -> bool>;
 pub fn time(bench: &mut Bench) {
     let crates: [(&str, Compile); 3] = [("glob", glob), ("globset", globset), ("wildmatch", wildmatch)];
     for (name, compile) in crates {
-        bench.table(&format!("Patterns beside {name}"), "a path");
+        bench.table_beside(&format!("Patterns beside {name}"), "a path", &[name]);
         for pattern in PLAIN {
             line(bench, pattern, false, &ALL, compile);
         }
     }
     let others: [(&str, Compile); 3] = [("globset", globset), ("glob", glob), ("fnmatch", fnmatch)];
     for (name, compile) in others {
-        bench.table(&format!("Patterns with separators beside {name}"), "a path");
+        bench.table_beside(&format!("Patterns with separators beside {name}"), "a path", &[name]);
         for pattern in OF_PATHS {
             line(bench, pattern, true, &PATHS, compile);
         }
@@ -82,7 +82,6 @@ fn line(bench: &mut Bench, pattern: &str, slash: bool, paths: &LazyLock<Paths>, 
         [
             Some(&mut || ours(black_box(pattern), slash, all, lens) as u64),
             Some(&mut || cut(ended, lens).filter(|path| theirs(path)).count() as u64),
-            None,
         ],
     );
 }

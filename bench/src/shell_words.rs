@@ -19,14 +19,14 @@ const PIECES: [(&str, &str); 5] = [
 const SIZES: [(usize, &str); 3] = [(80, "80 bytes"), (1 << 10, "1 KiB"), (64 << 10, "64 KiB")];
 
 pub fn time(bench: &mut Bench) {
-    bench.table("Words of a shell beside shlex, written", "a call");
+    bench.table_beside("Words of a shell beside shlex, written", "a call", &["shlex"]);
     let names = [inputs::arguments(), inputs::paths()].into_iter().chain(inputs::long_names());
     for names in names {
         for (kind, put) in KINDS {
             written(bench, kind, &names.changed(|name| with(name, put)));
         }
     }
-    bench.table("Words of a shell beside shlex, read", "a byte");
+    bench.table_beside("Words of a shell beside shlex, read", "a byte", &["shlex"]);
     for (size, name) in SIZES {
         for (kind, piece) in PIECES {
             let line = piece.repeat(size.div_ceil(piece.len()));
@@ -37,7 +37,6 @@ pub fn time(bench: &mut Bench) {
                 [
                     Some(&mut || repeated(line.len(), || ours::words(black_box(line.as_bytes())))),
                     Some(&mut || repeated(line.len(), || read(black_box(&line)))),
-                    None,
                 ],
             );
         }
@@ -60,7 +59,7 @@ fn written(bench: &mut Bench, kind: &str, names: &Short) {
             let word = black_box(word);
             names.strings().filter(|name| word(name) >= name.len()).count() as u64
         };
-        bench.line(call, &input, count, [Some(&mut || all(ours)), Some(&mut || all(new_word)), None]);
+        bench.line(call, &input, count, [Some(&mut || all(ours)), Some(&mut || all(new_word))]);
     }
     let mut room = vec![0; 1 << 17];
     let mut buffer = String::with_capacity(1 << 17);
@@ -81,7 +80,6 @@ fn written(bench: &mut Bench, kind: &str, names: &Short) {
                     })
                     .count() as u64
             }),
-            None,
         ],
     );
 }

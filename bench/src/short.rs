@@ -17,9 +17,9 @@ pub fn time(bench: &mut Bench) {
     of_windows.push(inputs::paths_with_a_surrogate());
     of_unix.push(inputs::paths_with_a_fault());
 
-    bench.table_beside("Check of short strings on Windows", "a call", &theirs::SIMDUTF8);
+    bench.table_beside("Check of short strings on Windows", "a call", &theirs::OF_CHECKS);
     of_windows.iter().for_each(|strings| check(bench, strings));
-    bench.table_beside("Check of short strings as texts", "a call", &theirs::SIMDUTF8);
+    bench.table_beside("Check of short strings as texts", "a call", &theirs::OF_CHECKS);
     of_unix.iter().for_each(|strings| texts(bench, strings));
     bench.table("Units of short strings on Windows", "a call");
     of_windows.iter().for_each(|strings| units(bench, strings));

@@ -13,7 +13,7 @@ const ROUNDS: usize = 10;
 /// A line of which a run takes longer has its turns in the first round and in the last one alone.
 const LONG: Duration = Duration::from_millis(500);
 
-/// The contestants of a line: this repository, the crate, the standard library, and maybe others.
+/// The contestants of a line: this repository and the peers of its table, of which some may lack the call.
 pub type Contestant<'a> = Option<&'a mut dyn FnMut() -> u64>;
 
 pub struct Bench {
@@ -48,20 +48,18 @@ impl Bench {
         self.round <= ROUNDS
     }
 
-    /// Begins a table, whose times are in nanoseconds for `unit`.
+    /// Begins a table beside the crate and the standard library, whose times are in nanoseconds for `unit`.
     pub fn table(&mut self, title: &str, unit: &str) {
-        self.table_beside(title, unit, &[]);
+        self.table_beside(title, unit, &["crate", "std"]);
     }
 
-    /// Begins a table that has others too, next to the crate and the standard library.
-    pub fn table_beside(&mut self, title: &str, unit: &str, others: &[&str]) {
+    /// Begins a table beside these, whose times are in nanoseconds for `unit`.
+    pub fn table_beside(&mut self, title: &str, unit: &str, peers: &[&str]) {
         self.title = title.to_owned();
-        let heads = others.iter().map(|other| format!(" {other} | Ours/{other} |")).collect::<String>();
+        let heads = peers.iter().map(|peer| format!(" {peer} | Ours/{peer} |")).collect::<String>();
+        let rule = "---|---|".repeat(peers.len());
         self.head = Some(format!(
-            "\n### {title}, nanoseconds for {unit}\n\n\
-             | Call | Input | Ours | Crate | Ours/crate | Std | Ours/std |{heads}\n\
-             |---|---|---|---|---|---|---|{}",
-            "---|---|".repeat(others.len())
+            "\n### {title}, nanoseconds for {unit}\n\n| Call | Input | Ours |{heads}\n|---|---|---|{rule}"
         ));
     }
 

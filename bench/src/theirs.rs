@@ -23,8 +23,8 @@ pub fn boundary_from(bytes: &[u8], from: usize) -> usize {
     (from..bytes.len()).find(|&at| bytes[at] & 0xC0 != 0x80).unwrap_or(bytes.len())
 }
 
-/// simdutf8 with vectors of 16 bytes, and with those of 32.
-pub const SIMDUTF8: [&str; 2] = ["simdutf8", "simdutf8 of AVX2"];
+/// The peers of checks: the last two are simdutf8 with vectors of 16 bytes, and with those of 32.
+pub const OF_CHECKS: [&str; 4] = ["crate", "std", "simdutf8", "simdutf8 of AVX2"];
 
 /// Whether the bytes are UTF-8, by simdutf8 with the vectors of SSE4.2 (which x86-64-v2 has).
 pub fn is_utf8_sse42(bytes: &[u8]) -> bool {
