@@ -150,6 +150,7 @@ DOCUMENTS = {
     "c/examples/names.c": "share/doc/osbytes/names.c",
     "c/examples/below.c": "share/doc/osbytes/below.c",
     "c/examples/matching.c": "share/doc/osbytes/matching.c",
+    "c/examples/walk.c": "share/doc/osbytes/walk.c",
     "c/examples/outside.c": "share/doc/osbytes/outside.c",
     "c/examples/outside.cc": "share/doc/osbytes/outside.cc",
     "c/examples/outside.go": "share/doc/osbytes/outside.go",
